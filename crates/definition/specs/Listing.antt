@@ -1,0 +1,81 @@
+-- The lines of the listing, each with its newline.
+use mathlib.Core.List.{List, [], _∷_, _++_}
+use mathlib.Core.Bool.{Bool, true, false, cond, not, _&&_}
+use Prim.Native.Nat.{ℕ, _+_, _/_, _%_}
+use lib.Dec.{eqb, leb, ltb}
+use lib.ListN.{length}
+use Rattle.definition.specs.Code.{number}
+use Rattle.definition.specs.Out.{Out, refused, done}
+use Rattle.definition.specs.Tree.{Name, Definition, format, constant, byte-order, macro}
+use Rattle.definition.specs.Names.{digits, decimal}
+use Rattle.definition.specs.Contents.{readBook}
+use Rattle.definition.specs.Macros.{expandBook}
+use Rattle.definition.specs.Lift.{liftBook}
+use Rattle.definition.specs.Answer.{Result, all, elaborated}
+
+unfoldable pub hex : ℕ → ℕ
+hex d = cond (ltb d 10) (48 + d) (55 + d)
+
+-- "Bytes outside 33..126 and '%' print as % and two upper-case hex digits"
+unfoldable pub shownByte : ℕ → List ℕ
+shownByte b = cond (leb 33 b && leb b 126 && not (eqb b 37)) (b ∷ []) (37 ∷ hex (b / 16) ∷ hex (b % 16) ∷ [])
+
+unfoldable pub shownBytes : List ℕ → List ℕ
+shownBytes [] = []
+shownBytes (b ∷ s) = shownByte b ++ shownBytes s
+
+abbrev dash : Bool → ℕ → List ℕ
+dash true b = 37 ∷ 50 ∷ 68 ∷ []
+dash false b = shownByte b
+
+-- "the empty name prints `-`, the name "-" prints `%2D`"
+unfoldable pub shown : Name → List ℕ
+shown [] = 45 ∷ []
+shown (b ∷ []) = dash (eqb b 45) b
+shown (b ∷ c ∷ s) = shownBytes (b ∷ c ∷ s)
+
+-- a space and a number
+unfoldable pub count : ℕ → List ℕ
+count n = 32 ∷ decimal n
+
+-- the words ok, refused, format, lifted, const, order
+abbrev wOk : List ℕ
+wOk = 111 ∷ 107 ∷ []
+
+abbrev wRefused : List ℕ
+wRefused = 114 ∷ 101 ∷ 102 ∷ 117 ∷ 115 ∷ 101 ∷ 100 ∷ []
+
+abbrev pub wFormat : List ℕ
+wFormat = 102 ∷ 111 ∷ 114 ∷ 109 ∷ 97 ∷ 116 ∷ []
+
+abbrev pub wLifted : List ℕ
+wLifted = 108 ∷ 105 ∷ 102 ∷ 116 ∷ 101 ∷ 100 ∷ []
+
+abbrev wConst : List ℕ
+wConst = 99 ∷ 111 ∷ 110 ∷ 115 ∷ 116 ∷ []
+
+abbrev wOrder : List ℕ
+wOrder = 111 ∷ 114 ∷ 100 ∷ 101 ∷ 114 ∷ []
+
+abbrev newline : List ℕ
+newline = 10 ∷ []
+
+-- "`format` or `lifted`, name, parameter count; `const` and name; `order` alone"
+unfoldable pub line : List ℕ → Definition → List ℕ
+line word (format n ps c) = word ++ (32 ∷ []) ++ shown n ++ count (length ps) ++ newline
+line word (constant n x) = wConst ++ (32 ∷ []) ++ shown n ++ newline
+line word (byte-order x) = wOrder ++ newline
+line word (macro n ps c) = []
+
+unfoldable pub lines : List ℕ → List Definition → List ℕ
+lines word [] = []
+lines word (d ∷ ds) = line word d ++ lines word ds
+
+-- "It prints `refused N`, or `ok D L` (definitions, lifted) and a line per definition"
+unfoldable pub listed : Out Result → List ℕ
+listed (refused k) = wRefused ++ count (number k) ++ newline
+listed (done r) = wOk ++ count (length (all r)) ++ count (length (r .lifted)) ++ newline ++ lines wFormat (r .kept) ++ lines wLifted (r .lifted)
+
+unfoldable pub listing : List ℕ → List ℕ
+unfolding hex shownByte shownBytes shown number count line lines listed digits decimal elaborated readBook expandBook liftBook
+listing book = listed (elaborated book)
