@@ -45,99 +45,110 @@ take n s = record { taken = n ∷ s .taken; made = s .made; bytes = s .bytes; de
 unfoldable pub grow : Definition → Combinator → Combinator → State → State
 grow d there moved s = record { taken = s .taken; made = s .made; bytes = (s .bytes + 6 + sizeOf d + size there) - size moved; defns = s .defns + 1 }
 
--- "10: result over 16,384 bytes or 512 definitions"
-unfoldable pub measured : State → Res State Unit
-measured s = require (leb (s .bytes) 16384 && leb (s .defns) 512) result-long s
-
 -- "and its definition is appended after theirs"
 unfoldable pub append : Definition → State → State
 append d s = record { taken = s .taken; made = s .made ++ (d ∷ []); bytes = s .bytes; defns = s .defns }
-
--- the walk of a node under its name, with the binders in force
-abbrev pub Walk : Type 0
-Walk = Name → List Param → State → Res State Combinator
-
--- "An anonymous child is lifted whole, chain included, and replaced by a call without a chain"; "9, 7, 8, 10"
-unfoldable pub lift : Combinator → Walk → Walk
-lift c inside base binders s =
-    let n = fresh base (s .taken) in
-    let ns = sorted (free c) in
-    let there = plain (invocation n ns) in do
-      (u, s) ← require (leb (length n) 255) name-long s
-      (u, s) ← require (not (leftover c)) leftover-macro s
-      (ps, s) ← typed binders ns s
-      (u, s) ← measured (grow (format n ps c) there c s)
-      (d, s) ← inside n binders (take n s)
-      ok there (append (format n ps d) s)
-
--- "any other child is walked"
-unfoldable pub childBy : Bool → Combinator → Walk → Walk
-childBy true c inside base binders s = lift c inside base binders s
-childBy false c inside base binders s = inside base binders s
 
 -- "A Dependent field binds its label for the fields after it", "types as they stand after lifting, without chain"
 unfoldable pub bind : FieldKind → Name → Combinator → List Param → List Param
 bind ordinary l d binders = binders
 bind dependent l d binders = binders ++ (record { name = l; type = innerOf d } ∷ [])
 
--- "The root of a body is never lifted itself. At a node: the chain first, then the children in order."
-unfoldable mutual
-  pub walk : Combinator → Name → List Param → State → Res State Combinator
-  walk (plain i) name binders s = do
-    (j, s) ← walkI i name binders s
-    ok (plain j) s
-  walk (chained i c) name binders s = do
-    (d, s) ← childBy (anonymous c) c (λ n b s. walk c n b s) name binders s
-    (j, s) ← walkI i name binders s
-    ok (chained j d) s
+-- the walk of a node under its name, with the binders in force
+abbrev pub Walk : Type 0
+Walk = Name → List Param → State → Res State Combinator
 
-  pub walkI : Inner → Name → List Param → State → Res State Inner
-  walkI (leaf k x) name binders s = ok (leaf k x) s
-  walkI (struct f) name binders s = do
-    (g, s) ← walkF f name binders s
-    ok (struct g) s
-  walkI (choice x k f) name binders s = do
-    (g, s) ← walkC f k 0 name binders s
-    ok (choice x k g) s
-  walkI (shell x c) name binders s = do
-    (d, s) ← childBy (anonymous c) c (λ n b s. walk c n b s) (child name (shellSegment x)) binders s
-    ok (shell x d) s
-  walkI (bytes l) name binders s = ok (bytes l) s
-  walkI (invocation n a) name binders s = ok (invocation n a) s
-  walkI (macro-invocation n a) name binders s = ok (macro-invocation n a) s
+-- what a walk lifts, by the child and the count of definitions so far, and what it holds to be within the limits, by bytes and definitions.
+-- Document 01's walk is `full`; a law about code 10 looks at walks that stop earlier
+pub record Course : Type 0 where
+  pub lifts : Combinator → ℕ → Bool
+  pub within : ℕ → ℕ → Bool
 
-  pub walkF : Fields → Name → List Param → State → Res State Fields
-  walkF no-field name binders s = ok no-field s
-  walkF (field k l c f) name binders s = do
-    (d, s) ← childBy (anonymous c) c (λ n b s. walk c n b s) (child name (segment l)) binders s
-    (g, s) ← walkF f name (bind k l d binders) s
-    ok (field k l d g) s
-  walkF (const l x f) name binders s = do
-    (g, s) ← walkF f name binders s
-    ok (const l x g) s
+-- "An anonymous child is lifted"; "10: result over 16,384 bytes or 512 definitions"
+abbrev pub full : Course
+full = record { lifts = λ c n. anonymous c; within = λ b n. leb b 16384 && leb n 512 }
 
-  pub walkC : Cases → CaseKind → ℕ → Name → List Param → State → Res State Cases
-  walkC no-case k i name binders s = ok no-case s
-  walkC (case l c f) k i name binders s = do
-    (d, s) ← childBy (anonymous c) c (λ n b s. walk c n b s) (child name (caseSegment k l i)) binders s
-    (g, s) ← walkC f k (suc i) name binders s
-    ok (case l d g) s
+module _ (course : Course) where
+  -- "9, 7, 8, 10": the measure of 10 is taken with this lift made
+  unfoldable pub measured : State → Res State Unit
+  measured s = require (course .within (s .bytes) (s .defns)) result-long s
 
-unfoldable pub walkAll : List Definition → State → Res State (List Definition)
-walkAll [] s = ok [] s
-walkAll (format n ps c ∷ ds) s = do
-  (d, s) ← walk c n ps s
-  (es, s) ← walkAll ds s
-  ok (format n ps d ∷ es) s
-walkAll (constant n x ∷ ds) s = do
-  (es, s) ← walkAll ds s
-  ok (constant n x ∷ es) s
-walkAll (byte-order x ∷ ds) s = do
-  (es, s) ← walkAll ds s
-  ok (byte-order x ∷ es) s
-walkAll (macro n ps c ∷ ds) s = do
-  (es, s) ← walkAll ds s
-  ok (macro n ps c ∷ es) s
+  -- "An anonymous child is lifted whole, chain included, and replaced by a call without a chain"; "9, 7, 8, 10"
+  unfoldable pub lift : Combinator → Walk → Walk
+  lift c inside base binders s =
+      let n = fresh base (s .taken) in
+      let ns = sorted (free c) in
+      let there = plain (invocation n ns) in do
+        (u, s) ← require (leb (length n) 255) name-long s
+        (u, s) ← require (not (leftover c)) leftover-macro s
+        (ps, s) ← typed binders ns s
+        (u, s) ← measured (grow (format n ps c) there c s)
+        (d, s) ← inside n binders (take n s)
+        ok there (append (format n ps d) s)
+
+  -- "any other child is walked"
+  unfoldable pub childBy : Bool → Combinator → Walk → Walk
+  childBy true c inside base binders s = lift c inside base binders s
+  childBy false c inside base binders s = inside base binders s
+
+  -- "The root of a body is never lifted itself. At a node: the chain first, then the children in order."
+  unfoldable mutual
+    pub walk : Combinator → Name → List Param → State → Res State Combinator
+    walk (plain i) name binders s = do
+      (j, s) ← walkI i name binders s
+      ok (plain j) s
+    walk (chained i c) name binders s = do
+      (d, s) ← childBy (course .lifts c (s .defns)) c (λ n b s. walk c n b s) name binders s
+      (j, s) ← walkI i name binders s
+      ok (chained j d) s
+
+    pub walkI : Inner → Name → List Param → State → Res State Inner
+    walkI (leaf k x) name binders s = ok (leaf k x) s
+    walkI (struct f) name binders s = do
+      (g, s) ← walkF f name binders s
+      ok (struct g) s
+    walkI (choice x k f) name binders s = do
+      (g, s) ← walkC f k 0 name binders s
+      ok (choice x k g) s
+    walkI (shell x c) name binders s = do
+      (d, s) ← childBy (course .lifts c (s .defns)) c (λ n b s. walk c n b s) (child name (shellSegment x)) binders s
+      ok (shell x d) s
+    walkI (bytes l) name binders s = ok (bytes l) s
+    walkI (invocation n a) name binders s = ok (invocation n a) s
+    walkI (macro-invocation n a) name binders s = ok (macro-invocation n a) s
+
+    pub walkF : Fields → Name → List Param → State → Res State Fields
+    walkF no-field name binders s = ok no-field s
+    walkF (field k l c f) name binders s = do
+      (d, s) ← childBy (course .lifts c (s .defns)) c (λ n b s. walk c n b s) (child name (segment l)) binders s
+      (g, s) ← walkF f name (bind k l d binders) s
+      ok (field k l d g) s
+    walkF (const l x f) name binders s = do
+      (g, s) ← walkF f name binders s
+      ok (const l x g) s
+
+    pub walkC : Cases → CaseKind → ℕ → Name → List Param → State → Res State Cases
+    walkC no-case k i name binders s = ok no-case s
+    walkC (case l c f) k i name binders s = do
+      (d, s) ← childBy (course .lifts c (s .defns)) c (λ n b s. walk c n b s) (child name (caseSegment k l i)) binders s
+      (g, s) ← walkC f k (suc i) name binders s
+      ok (case l d g) s
+
+  unfoldable pub walkAll : List Definition → State → Res State (List Definition)
+  walkAll [] s = ok [] s
+  walkAll (format n ps c ∷ ds) s = do
+    (d, s) ← walk c n ps s
+    (es, s) ← walkAll ds s
+    ok (format n ps d ∷ es) s
+  walkAll (constant n x ∷ ds) s = do
+    (es, s) ← walkAll ds s
+    ok (constant n x ∷ es) s
+  walkAll (byte-order x ∷ ds) s = do
+    (es, s) ← walkAll ds s
+    ok (byte-order x ∷ es) s
+  walkAll (macro n ps c ∷ ds) s = do
+    (es, s) ← walkAll ds s
+    ok (macro n ps c ∷ es) s
 
 -- "Taken at the start: all kind 1 and 2 names."
 unfoldable pub names : List Definition → List Name
@@ -153,4 +164,4 @@ start ds = record { taken = names ds; made = []; bytes = sizeBook ds; defns = le
 -- the definitions with what was lifted out of them replaced by calls; the lifted ones are in the state
 unfoldable pub liftBook : List Definition → Res State (List Definition)
 unfolding eqName elem remove before insert sorted root letter letters segment digits decimal child caseSegment shellSegment numbered firstFree fresh sizeOf size sizeBook wBook innerOf anonymousLeaf anonymous isTail bytesOrTail selectorUses shellUses unbound free leftover binder bound typed take grow measured append lift childBy bind walk walkAll names start
-liftBook ds = walkAll ds (start ds)
+liftBook ds = walkAll full ds (start ds)
