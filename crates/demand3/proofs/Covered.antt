@@ -1,0 +1,177 @@
+-- A combinator whose chains stand only on Bytes and Tail is covered exactly by the names that are collected, so that the sorted list of these is the shortest.
+use mathlib.Core.Path.{_≡_, refl, ap, sym, _∙_}
+use mathlib.Core.Logic.{_⊎_, inl, inr, ⊎-elim}
+use mathlib.Core.List.{List, [], _∷_, _++_, map}
+use mathlib.Core.Bool.{Bool, true, false, _&&_, cond}
+use Prim.Native.Nat.{ℕ, _<_}
+use native.Mathlib.Omega.{arith}
+use lib.Dec.{eqb, ltb}
+use borrow.Author.Tests.{eqb-true, eq-eqb, ne-eqb, ltb-true, lt-ltb}
+use Rattle.definition.specs.Tree.{Name, Text, Leaf, constraint-int, constraint-enum, bits, enum, tail, nothing, never, Len, Shell, wrap, vec, option, array, Selector, none, by, CaseKind, enums, ints, arrays, FieldKind, ordinary, dependent, Combinator, plain, chained, Inner, leaf, struct, choice, shell, bytes, invocation, macro-invocation, Fields, no-field, field, const, Cases, no-case, case, Inners, no-inner, inner, Param, Definition, format, constant, byte-order, macro}
+use Rattle.definition.specs.Names.{eqName, elem, remove, before, insert, sorted, root}
+use Rattle.definition.specs.Collect.{bytesOrTail, only, selectorUses, shellUses, unbound, free, freeI, freeF, freeC}
+use Rattle.definition.specs.Bodies.{chainsOk, chainsOkI, chainsOkF, chainsOkC}
+use Rattle.demand3.specs.Shortest.{Once, each, binds, covered, coveredI, coveredF, coveredC, Shortest}
+use Rattle.laws.proofs.Order.{Ascending, sorted-ascends}
+use Rattle.laws.proofs.FreshName.{eqName-true, eqName-refl, yes-no}
+use Rattle.laws.proofs.Elem.{not-both, elem-here, elem-there, elem-tail}
+use Rattle.demand3.proofs.Back.{both-true}
+
+and-assoc : (a b c : Bool) → (a && b) && c ≡ a && (b && c)
+and-assoc true b c = refl
+and-assoc false b c = refl
+
+each-append : (a b ns : List Name) → each (a ++ b) ns ≡ each a ns && each b ns
+unfolding each
+each-append [] b ns = refl
+each-append (u ∷ a) b ns = rw (each-append a b ns) (sym (and-assoc (elem u ns) (each a ns) (each b ns)))
+
+-- names without l, all in ns: all of them are l or in ns
+each-remove : (l : Name) (us ns : List Name) → each (remove l us) ns ≡ each us (l ∷ ns)
+unfolding each remove elem
+each-remove l [] ns = refl
+each-remove l (u ∷ us) ns = ⊎-elim
+    (λ (q : eqName l u ≡ true). let e = eqName-true l u q in rw (q, ← e, eqName-refl l) (each-remove l us ns))
+    (λ (q : eqName l u ≡ false). rw (q, Rattle.laws.proofs.Elem.eqName-swap l u q, each-remove l us ns))
+    (yes-no (eqName l u))
+
+each-unbound : (k : FieldKind) (l : Name) (us ns : List Name) → each (unbound k l us) ns ≡ each us (binds k l ns)
+unfolding unbound binds
+each-unbound ordinary l us ns = refl
+each-unbound dependent l us ns = each-remove l us ns
+
+mutual
+  unfolding covered free chainsOk each
+
+  pub cover : (c : Combinator) → chainsOk c ≡ true → (ns : List Name) → covered c ns ≡ each (free c) ns
+  cover (plain i) h ns = coverI i h ns
+  cover (chained i c) h ns =
+      let p = both-true (bytesOrTail i) (chainsOkI i && chainsOk c) h in
+      let q = both-true (chainsOkI i) (chainsOk c) (p .1) in
+      rw (p .0, each-append (freeI i) (free c) ns, coverI i (q .0) ns, cover c (q .1) ns)
+
+  coverI : (i : Inner) → chainsOkI i ≡ true → (ns : List Name) → coveredI i ns ≡ each (freeI i) ns
+  coverI (leaf k x) h ns = refl
+  coverI (struct f) h ns = coverF f h ns
+  coverI (choice s k f) h ns = rw (each-append (selectorUses s) (freeC f) ns, coverC f h ns)
+  coverI (shell x c) h ns = rw (each-append (shellUses x) (free c) ns, cover c h ns)
+  coverI (bytes l) h ns = refl
+  coverI (invocation n a) h ns = refl
+  coverI (macro-invocation n a) h ns = refl
+
+  coverF : (f : Fields) → chainsOkF f ≡ true → (ns : List Name) → coveredF f ns ≡ each (freeF f) ns
+  coverF no-field h ns = refl
+  coverF (field k l c f) h ns =
+      let p = both-true (chainsOk c) (chainsOkF f) h in
+      rw (each-append (free c) (unbound k l (freeF f)) ns, each-unbound k l (freeF f) ns, cover c (p .0) ns, coverF f (p .1) (binds k l ns))
+  coverF (const l x f) h ns = coverF f h ns
+
+  coverC : (f : Cases) → chainsOkC f ≡ true → (ns : List Name) → coveredC f ns ≡ each (freeC f) ns
+  coverC no-case h ns = refl
+  coverC (case l c f) h ns =
+      let p = both-true (chainsOk c) (chainsOkC f) h in
+      rw (each-append (free c) (freeC f) ns, cover c (p .0) ns, coverC f (p .1) ns)
+
+-- sorting keeps the names
+elem-swap : (p m n : Name) (l : List Name) → elem p (m ∷ n ∷ l) ≡ elem p (n ∷ m ∷ l)
+unfolding elem
+elem-swap p m n l = by-tests (eqName p m) (eqName p n) (elem p l)
+  where
+    by-tests : (a b c : Bool) → cond a true (cond b true c) ≡ cond b true (cond a true c)
+    by-tests true true c = refl
+    by-tests true false c = refl
+    by-tests false true c = refl
+    by-tests false false c = refl
+
+elem-put : (p n : Name) (l : List Name) → elem p (insert n l) ≡ elem p (n ∷ l)
+unfolding insert elem
+elem-put p n [] = refl
+elem-put p n (m ∷ l) = ⊎-elim
+    (λ (q : eqName n m ≡ true). let e = eqName-true n m q in rw (q, e) (twice (eqName p m) (elem p l)))
+    (λ (q : eqName n m ≡ false). ⊎-elim
+    (λ (r : before n m ≡ true). rw (q, r))
+    (λ (r : before n m ≡ false). rw (q, r, elem-put p n l) (elem-swap p m n l))
+    (yes-no (before n m)))
+    (yes-no (eqName n m))
+  where
+    twice : (a c : Bool) → cond a true c ≡ cond a true (cond a true c)
+    twice true c = refl
+    twice false c = refl
+
+pub elem-sorted : (p : Name) (l : List Name) → elem p (sorted l) ≡ elem p l
+unfolding sorted elem
+elem-sorted p [] = refl
+elem-sorted p (n ∷ l) = rw (elem-put p n (sorted l), elem-sorted p l)
+
+elem-remove : (p : Name) (l : List Name) → elem p (remove p l) ≡ false
+unfolding remove elem
+elem-remove p [] = refl
+elem-remove p (m ∷ l) = ⊎-elim
+    (λ (q : eqName p m ≡ true). rw q (elem-remove p l))
+    (λ (q : eqName p m ≡ false). rw (q, q) (elem-remove p l))
+    (yes-no (eqName p m))
+
+each-true : (us ns : List Name) → ((p : Name) → elem p us ≡ true → elem p ns ≡ true) → each us ns ≡ true
+unfolding each
+each-true [] ns h = refl
+each-true (u ∷ us) ns h = rw (h u (elem-here u us), each-true us ns (λ p q. h p (elem-there p u us q)))
+
+each-false : (p : Name) (us ns : List Name) → elem p us ≡ true → elem p ns ≡ false → each us ns ≡ false
+unfolding each elem
+each-false p [] ns h f = not-both false h refl
+each-false p (u ∷ us) ns h f = ⊎-elim
+    (λ (q : eqName p u ≡ true). let e = eqName-true p u q in rw (← e, f))
+    (λ (q : eqName p u ≡ false). rw (each-false p us ns (rw q at h) f) (and-false (elem u ns)))
+    (yes-no (eqName p u))
+  where
+    and-false : (a : Bool) → a && false ≡ false
+    and-false true = refl
+    and-false false = refl
+
+-- the sorted list names each once
+irreflexive : (a : Name) → before a a ≡ false
+unfolding before
+irreflexive [] = refl
+irreflexive (x ∷ a) = rw (eq-eqb x x refl) (irreflexive a)
+
+passes : (a b c : Name) → before a b ≡ true → before b c ≡ true → before a c ≡ true
+unfolding before
+passes [] [] c p q = not-both false p refl
+passes [] (y ∷ b) [] p q = q
+passes [] (y ∷ b) (z ∷ c) p q = refl
+passes (x ∷ a) [] c p q = not-both false p refl
+passes (x ∷ a) (y ∷ b) [] p q = q
+passes (x ∷ a) (y ∷ b) (z ∷ c) p q = ⊎-elim
+    (λ (e : eqb x y ≡ true). let f = eqb-true x y e in
+    ⊎-elim
+    (λ (g : eqb y z ≡ true). let h = eqb-true y z g in rw (eq-eqb x z (f ∙ h)) (passes a b c (rw e at p) (rw g at q)))
+    (λ (g : eqb y z ≡ false). rw (f, g) (rw g at q))
+    (yes-no (eqb y z)))
+    (λ (e : eqb x y ≡ false).
+    let f = ltb-true x y (rw e at p) in
+    ⊎-elim
+    (λ (g : eqb y z ≡ true). let h = eqb-true y z g in rw (← h, e) (rw e at p))
+    (λ (g : eqb y z ≡ false). let h = ltb-true y z (rw g at q) in rw (ne-eqb x z (λ w. absurd (omega arith))) (lt-ltb x z (omega arith)))
+    (yes-no (eqb y z)))
+    (yes-no (eqb x y))
+
+unlike : (a b : Name) → before a b ≡ true → eqName a b ≡ false
+unlike a b p = ⊎-elim (λ (e : eqName a b ≡ true). let f = eqName-true a b e in not-both (before b b) (rw f at p) (irreflexive b)) (λ (e : eqName a b ≡ false). e) (yes-no (eqName a b))
+
+behind : (n : Name) (l : List Name) → Ascending (n ∷ l) → elem n l ≡ false
+unfolding elem
+behind n [] h = refl
+behind n (m ∷ []) h = rw (unlike n m (h .0))
+behind n (m ∷ x ∷ l) h = rw (unlike n m (h .0)) (behind n (x ∷ l) (passes n m x (h .0) (h .1 .0), h .1 .1))
+
+once : (l : List Name) → Ascending l → Once l
+once [] h = tt
+once (n ∷ []) h = (behind n [] h, tt)
+once (n ∷ m ∷ l) h = (behind n (m ∷ l) h, once (m ∷ l) (h .1))
+
+pub shortest : (c : Combinator) → chainsOk c ≡ true → Shortest (sorted (free c)) c
+shortest c h = record {
+  once = once (sorted (free c)) (sorted-ascends (free c));
+  enough = cover c h (sorted (free c)) ∙ each-true (free c) (sorted (free c)) (λ p q. elem-sorted p (free c) ∙ q);
+  needed = λ p q. cover c h (remove p (sorted (free c))) ∙ each-false p (free c) (remove p (sorted (free c))) (sym (elem-sorted p (free c)) ∙ q) (elem-remove p (sorted (free c)));
+}
