@@ -1,21 +1,21 @@
 -- A combinator whose chains stand only on Bytes and Tail is covered exactly by the names that are collected, so that the sorted list of these is the shortest.
-use mathlib.Core.Path.{_≡_, refl, ap, sym, _∙_}
-use mathlib.Core.Logic.{_⊎_, inl, inr, ⊎-elim}
-use mathlib.Core.List.{List, [], _∷_, _++_, map}
+use mathlib.Core.Path.{_≡_, refl, sym, _∙_}
+use mathlib.Core.Logic.{⊎-elim}
+use mathlib.Core.List.{List, [], _∷_, _++_}
 use mathlib.Core.Bool.{Bool, true, false, _&&_, cond}
-use Prim.Native.Nat.{ℕ, _<_}
 use native.Mathlib.Omega.{arith}
-use lib.Dec.{eqb, ltb}
+use lib.Dec.{eqb}
 use borrow.Author.Tests.{eqb-true, eq-eqb, ne-eqb, ltb-true, lt-ltb}
-use Rattle.definition.specs.Tree.{Name, Text, Leaf, constraint-int, constraint-enum, bits, enum, tail, nothing, never, Len, Shell, wrap, vec, option, array, Selector, none, by, CaseKind, enums, ints, arrays, FieldKind, ordinary, dependent, Combinator, plain, chained, Inner, leaf, struct, choice, shell, bytes, invocation, macro-invocation, Fields, no-field, field, const, Cases, no-case, case, Inners, no-inner, inner, Param, Definition, format, constant, byte-order, macro}
-use Rattle.definition.specs.Names.{eqName, elem, remove, before, insert, sorted, root}
-use Rattle.definition.specs.Collect.{bytesOrTail, only, selectorUses, shellUses, unbound, free, freeI, freeF, freeC}
+use Rattle.definition.specs.Tree.{Name, FieldKind, ordinary, dependent, Combinator, plain, chained, Inner, leaf, struct, choice, shell, bytes, invocation, macro-invocation, Fields, no-field, field, const, Cases, no-case, case}
+use Rattle.definition.specs.Names.{eqName, elem, remove, before, insert, sorted}
+use Rattle.definition.specs.Collect.{bytesOrTail, selectorUses, shellUses, unbound, free, freeI, freeF, freeC}
 use Rattle.definition.specs.Bodies.{chainsOk, chainsOkI, chainsOkF, chainsOkC}
-use Rattle.demand3.specs.Shortest.{Once, each, binds, covered, coveredI, coveredF, coveredC, Shortest}
+use Rattle.demand3.specs.Shortest.{each, binds, covered, coveredI, coveredF, coveredC, Shortest}
+use Rattle.laws.specs.Lists.{Distinct}
 use Rattle.laws.proofs.Order.{Ascending, sorted-ascends}
-use Rattle.laws.proofs.FreshName.{eqName-true, eqName-refl, yes-no}
-use Rattle.laws.proofs.Elem.{not-both, elem-here, elem-there, elem-tail}
-use Rattle.demand3.proofs.Back.{both-true}
+use Rattle.laws.proofs.FreshName.{eqName-true, eqName-refl}
+use Rattle.laws.proofs.Elem.{elem-here, elem-there}
+use Rattle.laws.proofs.Tests.{yes-no, not-both, both-true}
 
 and-assoc : (a b c : Bool) → (a && b) && c ≡ a && (b && c)
 and-assoc true b c = refl
@@ -164,7 +164,7 @@ behind n [] h = refl
 behind n (m ∷ []) h = rw (unlike n m (h .0))
 behind n (m ∷ x ∷ l) h = rw (unlike n m (h .0)) (behind n (x ∷ l) (passes n m x (h .0) (h .1 .0), h .1 .1))
 
-once : (l : List Name) → Ascending l → Once l
+once : (l : List Name) → Ascending l → Distinct l
 once [] h = tt
 once (n ∷ []) h = (behind n [] h, tt)
 once (n ∷ m ∷ l) h = (behind n (m ∷ l) h, once (m ∷ l) (h .1))

@@ -1,24 +1,23 @@
 -- Every accepted result meets demand 3.
-use mathlib.Core.Path.{_≡_, refl, ap, sym, _∙_}
+use mathlib.Core.Path.{_≡_, refl}
 use mathlib.Core.List.{List, [], _∷_, _++_}
-use mathlib.Core.Bool.{Bool, true, false, not, _&&_}
-use Prim.Native.Nat.{ℕ, _+_, _≤_}
+use mathlib.Core.Bool.{true, false, not}
+use Prim.Native.Nat.{ℕ}
 use native.Mathlib.Omega.{arith}
 use lib.ListN.{length}
-use Rattle.definition.specs.Res.{Maybe, absent, just, Res, bad, ok}
-use Rattle.definition.specs.Out.{Out, refused, done, _>>=_}
-use Rattle.definition.specs.Tree.{Name, Text, Leaf, Len, Shell, Selector, CaseKind, FieldKind, Combinator, plain, chained, Inner, leaf, struct, choice, shell, bytes, invocation, macro-invocation, Fields, no-field, field, const, Cases, no-case, case, Inners, Param, Definition, format, constant, byte-order, macro}
+use Rattle.definition.specs.Res.{absent, just, Res, bad, ok}
+use Rattle.definition.specs.Out.{done}
+use Rattle.definition.specs.Tree.{Name, Definition, format, constant, byte-order, macro}
 use Rattle.definition.specs.Names.{elem}
-use Rattle.definition.specs.Lift.{State, names, start, liftBook, walkAll}
-use Rattle.definition.specs.Answer.{Result, all, outcome, expanded, elaborated}
+use Rattle.definition.specs.Lift.{full, State, names, start, liftBook, walkAll}
+use Rattle.definition.specs.Answer.{Result, outcome, expanded, elaborated}
 use Rattle.demand3.specs.Flat.{FlatAll}
-use Rattle.definition.specs.Bodies.{everyInvocation, everyInvocationI, everyInvocationF, everyInvocationC, everyBody, chainsOk}
 use Rattle.definition.specs.Premise.{callsKnown, chainsPlain}
-use Rattle.definition.specs.PutBack.{bodyOf, noneLeft, backAll, putBack}
-use Rattle.demand3.specs.Demand3.{Distinct, Tight, Demand3}
+use Rattle.definition.specs.PutBack.{bodyOf, backAll, putBack}
+use Rattle.demand3.specs.Demand3.{Tight, Demand3}
 use Rattle.laws.proofs.Elem.{bodyOf-none}
 use Rattle.demand3.proofs.Walked.{Known, Grew, walkedAll}
-use Rattle.demand3.proofs.Back.{both-true, Holds, back-all}
+use Rattle.demand3.proofs.Back.{Holds, back-all}
 use Rattle.demand3.proofs.Ease.{ease-all}
 use Rattle.demand3.proofs.Tight.{tight-all}
 
@@ -29,7 +28,7 @@ flat-append (constant n x ∷ a) b f g = flat-append a b f g
 flat-append (byte-order x ∷ a) b f g = flat-append a b f g
 flat-append (macro n ps c ∷ a) b f g = flat-append a b f g
 
-module _ (ds es : List Definition) (t : State) (e : walkAll ds (start ds) ≡ ok es t) where
+module _ (ds es : List Definition) (t : State) (e : walkAll full ds (start ds) ≡ ok es t) where
   grew : Grew (start ds) t
   grew = walkedAll ds (start ds) es t e .0
 
@@ -70,11 +69,11 @@ module _ (ds es : List Definition) (t : State) (e : walkAll ds (start ds) ≡ ok
     shortest = tight;
   }
 
-outcome-met : (ds : List Definition) (r : Result) (m : Res State (List Definition)) → walkAll ds (start ds) ≡ m → outcome m ≡ done r → Demand3 ds r
+outcome-met : (ds : List Definition) (r : Result) (m : Res State (List Definition)) → walkAll full ds (start ds) ≡ m → outcome m ≡ done r → Demand3 ds r
 unfolding outcome
 outcome-met ds r (bad k s) w e = let z : _≡_ {A = ℕ} 0 1 = cc in absurd (omega arith)
 outcome-met ds r (ok es t) w e = let p : record { kept = es; lifted = t .made } ≡ r = cc in rw p at (met ds es t w)
 
 pub demand3 : (book : List ℕ) (ds : List Definition) (r : Result) → expanded book ≡ done ds → elaborated book ≡ done r → Demand3 ds r
 unfolding elaborated liftBook
-demand3 book ds r x e = outcome-met ds r (walkAll ds (start ds)) refl (rw x at e)
+demand3 book ds r x e = outcome-met ds r (walkAll full ds (start ds)) refl (rw x at e)

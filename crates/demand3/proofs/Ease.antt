@@ -1,10 +1,10 @@
 -- Tests on calls.
 use mathlib.Core.Path.{_≡_, refl}
 use mathlib.Core.List.{List, [], _∷_}
-use mathlib.Core.Bool.{Bool, true, false, _&&_}
-use Rattle.definition.specs.Tree.{Name, Text, Leaf, Len, Shell, Selector, CaseKind, FieldKind, Combinator, plain, chained, Inner, leaf, struct, choice, shell, bytes, invocation, macro-invocation, Fields, no-field, field, const, Cases, no-case, case, Inners, Param, Definition, format, constant, byte-order, macro}
+use mathlib.Core.Bool.{Bool, true}
+use Rattle.definition.specs.Tree.{Name, Combinator, plain, chained, Inner, leaf, struct, choice, shell, bytes, invocation, macro-invocation, Fields, no-field, field, const, Cases, no-case, case, Definition, format, constant, byte-order, macro}
 use Rattle.definition.specs.Bodies.{everyInvocation, everyInvocationI, everyInvocationF, everyInvocationC, everyBody}
-use Rattle.demand3.proofs.Back.{both-true}
+use Rattle.laws.proofs.Tests.{both-true}
 
 -- a test that says less holds too
 module _ (test easier : Name → Bool) (h : (n : Name) → test n ≡ true → easier n ≡ true) where

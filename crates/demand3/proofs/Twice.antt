@@ -1,36 +1,35 @@
 -- A result is a book within the limits that reads as what was written, and elaborated again it stays the same.
-use mathlib.Core.Path.{_≡_, refl, ap, sym, _∙_}
+use mathlib.Core.Path.{_≡_, refl, sym, _∙_}
 use mathlib.Core.List.{List, [], _∷_, _++_, append-nil}
-use mathlib.Core.Bool.{Bool, true, false, _&&_}
-use Prim.Native.Nat.{ℕ, zero, suc, _+_, _≤_}
+use mathlib.Core.Bool.{true, false}
+use Prim.Native.Nat.{ℕ, suc, _≤_}
 use native.Mathlib.Omega.{arith}
 use lib.Dec.{leb}
 use lib.ListN.{length}
-use borrow.Author.Tests.{leb-true, le-leb}
-use Rattle.definition.specs.Code.{Code, book-long, output-short, work-short, number, macro-growth}
-use Rattle.definition.specs.Res.{Res, bad, ok, _>>=_}
-use Rattle.definition.specs.Out.{Out, refused, done, given}
-use Rattle.definition.specs.Tree.{Name, Text, Leaf, constraint-int, constraint-enum, bits, enum, tail, nothing, never, Len, Shell, Selector, CaseKind, FieldKind, Combinator, plain, chained, Inner, leaf, struct, choice, shell, bytes, invocation, macro-invocation, Fields, no-field, field, const, Cases, no-case, case, Inners, no-inner, inner, Param, Definition, format, constant, byte-order, macro}
+use borrow.Author.Tests.{le-leb}
+use Rattle.definition.specs.Code.{book-long}
+use Rattle.definition.specs.Res.{Res, bad, ok}
+use Rattle.definition.specs.Out.{done, given}
+use Rattle.definition.specs.Tree.{Name, Leaf, constraint-int, constraint-enum, bits, enum, tail, nothing, never, CaseKind, Combinator, plain, chained, Inner, leaf, struct, choice, shell, bytes, invocation, macro-invocation, Fields, no-field, field, const, Cases, no-case, case, Param, Definition, format, constant, byte-order, macro}
 use Rattle.definition.specs.Names.{child, segment, caseSegment, shellSegment}
 use Rattle.definition.specs.Collect.{anonymousLeaf, anonymous, anonymousI}
-use Rattle.definition.specs.Book.{book, readBook}
+use Rattle.definition.specs.Contents.{book, readBook}
 use Rattle.definition.specs.Write.{wBook}
 use Rattle.definition.specs.Size.{sizeBook, levelsBook}
 use Rattle.definition.specs.Macros.{Macro, macros, expandMacro, expand, expandI, expandF, expandC, expandAll, expandList, expandBook}
 use Rattle.demand3.specs.Flat.{CalmLeaf, Calm, CalmI, CalmF, CalmC, Flat, FlatI, FlatAll}
-use Rattle.definition.specs.Lift.{State, Walk, childBy, bind, walk, walkI, walkF, walkC, walkAll, start, liftBook}
-use Rattle.definition.specs.Answer.{Result, all, out, outcome, source, expanded, elaborated, Answer, answered, finished, attempt, answer}
-use Rattle.demand3.specs.Demand3.{NoMacro, Demand3}
-use Rattle.laws.proofs.Steps.{no-ok, did}
+use Rattle.definition.specs.Lift.{full, State, Walk, childBy, bind, walk, walkI, walkF, walkC, walkAll, start, liftBook}
+use Rattle.definition.specs.Answer.{Result, all, out, outcome, source, expanded, elaborated, answered, attempt, answer}
+use Rattle.laws.specs.Lists.{NoMacro}
+use Rattle.laws.proofs.Steps.{did, no-done, did-out, did-given}
 use Rattle.laws.proofs.Inverse.{Bytes}
-use Rattle.laws.proofs.BookInverse.{Written, i-book}
+use Rattle.laws.proofs.BookInverse.{i-book}
 use Rattle.laws.proofs.BookRoundTrip.{r-book}
-use Rattle.demand3.proofs.Walked.{Grew, walkedAll}
+use Rattle.demand3.proofs.Walked.{walkedAll}
 use Rattle.laws.proofs.Measure.{within-limits}
-use Rattle.demand3.proofs.Accepted.{no-done, did-out, did-given}
 use Rattle.laws.proofs.Sound.{FineAll, result-fine}
 use Rattle.laws.proofs.ReadGood.{g-book}
-use Rattle.laws.proofs.ExpandGood.{Expanded, expand-good}
+use Rattle.laws.proofs.ExpandGood.{expand-good}
 
 -- a list that an elaboration can end with
 pub record Ends (ds : List Definition) : Type 0 where
@@ -40,17 +39,17 @@ pub record Ends (ds : List Definition) : Type 0 where
   pub flat : FlatAll ds
   pub formats : NoMacro ds
 
-pure-all : (ds : List Definition) (s : State) (es : List Definition) (t : State) → walkAll ds s ≡ ok es t → NoMacro ds → NoMacro es
+pure-all : (ds : List Definition) (s : State) (es : List Definition) (t : State) → walkAll full ds s ≡ ok es t → NoMacro ds → NoMacro es
 unfolding walkAll
 pure-all [] s es t e h = let p : [] ≡ es = cc in rw (← p) tt
-pure-all (format n ps c ∷ ds) s es t e h = did (walk c n ps s) _ es t e λ x u w e₂.
-    did (walkAll ds u) _ es t e₂ λ y v w₂ e₃.
+pure-all (format n ps c ∷ ds) s es t e h = did (walk full c n ps s) _ es t e λ x u w e₂.
+    did (walkAll full ds u) _ es t e₂ λ y v w₂ e₃.
     let p : format n ps x ∷ y ≡ es = cc in
     rw (← p) (pure-all ds u y v w₂ h)
-pure-all (constant n x ∷ ds) s es t e h = did (walkAll ds s) _ es t e λ y v w₂ e₃.
+pure-all (constant n x ∷ ds) s es t e h = did (walkAll full ds s) _ es t e λ y v w₂ e₃.
     let p : constant n x ∷ y ≡ es = cc in
     rw (← p) (pure-all ds s y v w₂ h)
-pure-all (byte-order x ∷ ds) s es t e h = did (walkAll ds s) _ es t e λ y v w₂ e₃.
+pure-all (byte-order x ∷ ds) s es t e h = did (walkAll full ds s) _ es t e λ y v w₂ e₃.
     let p : byte-order x ∷ y ≡ es = cc in
     rw (← p) (pure-all ds s y v w₂ h)
 pure-all (macro n ps c ∷ ds) s es t e h = absurd h
@@ -69,7 +68,7 @@ flat-append (constant n x ∷ a) b f g = flat-append a b f g
 flat-append (byte-order x ∷ a) b f g = flat-append a b f g
 flat-append (macro n ps c ∷ a) b f g = flat-append a b f g
 
-lifted-ends : (ds es : List Definition) (t : State) → walkAll ds (start ds) ≡ ok es t → sizeBook ds ≤ 16384 → length ds ≤ 512 → FineAll ds → NoMacro ds → Ends (es ++ t .made)
+lifted-ends : (ds es : List Definition) (t : State) → walkAll full ds (start ds) ≡ ok es t → sizeBook ds ≤ 16384 → length ds ≤ 512 → FineAll ds → NoMacro ds → Ends (es ++ t .made)
 unfolding start
 lifted-ends ds es t e p q f m =
     let w = within-limits ds es t e p q in
@@ -82,7 +81,7 @@ lifted-ends ds es t e p q f m =
       formats = formats-append es (t .made) (pure-all ds (start ds) es t e m) (z .0 .formats tt);
     }
 
-outcome-ends : (ds : List Definition) (r : Result) (m : Res State (List Definition)) → walkAll ds (start ds) ≡ m → outcome m ≡ done r → sizeBook ds ≤ 16384 → length ds ≤ 512 → FineAll ds → NoMacro ds → Ends (all r)
+outcome-ends : (ds : List Definition) (r : Result) (m : Res State (List Definition)) → walkAll full ds (start ds) ≡ m → outcome m ≡ done r → sizeBook ds ≤ 16384 → length ds ≤ 512 → FineAll ds → NoMacro ds → Ends (all r)
 unfolding outcome
 outcome-ends ds r (bad k s) w e p q f m = no-done e
 outcome-ends ds r (ok es t) w e p q f m = let x : record { kept = es; lifted = t .made } ≡ r = cc in rw (← x) (lifted-ends ds es t w p q f m)
@@ -92,7 +91,7 @@ unfolding out
 out-ok (bad k s) x e go = no-done e
 out-ok (ok a s) x e go = let p : a ≡ x = cc in go s (rw p)
 
-read-is : (s : List ℕ) → readBook s ≡ book s
+read-is : (s : List ℕ) → readBook s ≡ book 6 s
 unfolding readBook
 read-is s = refl
 
@@ -104,13 +103,13 @@ ends s h r e = did-out (expanded s) _ r e λ ds e₁ e₂.
     did-out (given (leb (length s) 16384) book-long s) _ src e₃ λ b e₅ e₆.
     let p : s ≡ b = did-given (leb (length s) 16384) book-long s b e₅ .1 in
     out-ok (readBook b) src e₆ λ z e₇.
-    let f : book s ≡ ok src z = rw p (sym (read-is b) ∙ e₇) in
+    let f : book 6 s ≡ ok src z = rw p (sym (read-is b) ∙ e₇) in
     let w = i-book s h src z f in
-    let x = expand-good src ds (g-book s src z f .good) e₄ in
-    outcome-ends ds r (walkAll ds (start ds)) refl e₂ (x .short) (omega (arith, x .fewer, w .few)) (x .fine) (x .none)
+    let x = expand-good src ds (g-book 6 s src z f .good) e₄ in
+    outcome-ends ds r (walkAll full ds (start ds)) refl e₂ (x .short) (omega (arith, x .fewer, w .few)) (x .fine) (x .none)
 
 -- it reads as what was written
-pub reads-back : (ds : List Definition) → Ends ds → book (wBook ds) ≡ ok ds []
+pub reads-back : (ds : List Definition) → Ends ds → book 6 (wBook ds) ≡ ok ds []
 reads-back ds e = r-book ds (e .few) (e .fine .good) (e .fine .deep)
 
 -- nothing is expanded in it
@@ -207,36 +206,36 @@ calm-flat (plain i) h = calm-flatI i h
 calm-flat (chained i c) h = (calm-flatI i (h .0), h .1)
 
 -- a child that is not lifted and stays
-kid-still : (c : Combinator) (inside : Walk) → Calm c → ((n : Name) (b : List Param) (s : State) → inside n b s ≡ ok c s) → (n : Name) (b : List Param) (s : State) → childBy (anonymous c) c inside n b s ≡ ok c s
+kid-still : (c : Combinator) (inside : Walk) → Calm c → ((n : Name) (b : List Param) (s : State) → inside n b s ≡ ok c s) → (n : Name) (b : List Param) (s : State) → childBy full (anonymous c) c inside n b s ≡ ok c s
 unfolding childBy
 kid-still c inside h ih n b s = rw (calm-named c h) (ih n b s)
 
 mutual
   unfolding walk
 
-  still : (c : Combinator) → Flat c → (n : Name) (b : List Param) (s : State) → walk c n b s ≡ ok c s
+  still : (c : Combinator) → Flat c → (n : Name) (b : List Param) (s : State) → walk full c n b s ≡ ok c s
   still (plain i) f n b s = rw (stillI i f n b s)
-  still (chained i c) f n b s = rw (kid-still c (λ n b s. walk c n b s) (f .1) (λ n b s. still c (calm-flat c (f .1)) n b s) n b s, stillI i (f .0) n b s)
+  still (chained i c) f n b s = rw (kid-still c (λ n b s. walk full c n b s) (f .1) (λ n b s. still c (calm-flat c (f .1)) n b s) n b s, stillI i (f .0) n b s)
 
-  stillI : (i : Inner) → FlatI i → (n : Name) (b : List Param) (s : State) → walkI i n b s ≡ ok i s
+  stillI : (i : Inner) → FlatI i → (n : Name) (b : List Param) (s : State) → walkI full i n b s ≡ ok i s
   stillI (leaf k x) f n b s = refl
   stillI (struct g) f n b s = rw (stillF g f n b s)
   stillI (choice x k g) f n b s = rw (stillC g f k 0 n b s)
-  stillI (shell x c) f n b s = rw (kid-still c (λ n b s. walk c n b s) f (λ n b s. still c (calm-flat c f) n b s) (child n (shellSegment x)) b s)
+  stillI (shell x c) f n b s = rw (kid-still c (λ n b s. walk full c n b s) f (λ n b s. still c (calm-flat c f) n b s) (child n (shellSegment x)) b s)
   stillI (bytes l) f n b s = refl
   stillI (invocation m a) f n b s = refl
   stillI (macro-invocation m a) f n b s = refl
 
-  stillF : (g : Fields) → CalmF g → (n : Name) (b : List Param) (s : State) → walkF g n b s ≡ ok g s
+  stillF : (g : Fields) → CalmF g → (n : Name) (b : List Param) (s : State) → walkF full g n b s ≡ ok g s
   stillF no-field f n b s = refl
-  stillF (field k l c g) f n b s = rw (kid-still c (λ n b s. walk c n b s) (f .0) (λ n b s. still c (calm-flat c (f .0)) n b s) (child n (segment l)) b s, stillF g (f .1) n (bind k l c b) s)
+  stillF (field k l c g) f n b s = rw (kid-still c (λ n b s. walk full c n b s) (f .0) (λ n b s. still c (calm-flat c (f .0)) n b s) (child n (segment l)) b s, stillF g (f .1) n (bind k l c b) s)
   stillF (const l x g) f n b s = rw (stillF g f n b s)
 
-  stillC : (g : Cases) → CalmC g → (k : CaseKind) (i : ℕ) (n : Name) (b : List Param) (s : State) → walkC g k i n b s ≡ ok g s
+  stillC : (g : Cases) → CalmC g → (k : CaseKind) (i : ℕ) (n : Name) (b : List Param) (s : State) → walkC full g k i n b s ≡ ok g s
   stillC no-case f k i n b s = refl
-  stillC (case l c g) f k i n b s = rw (kid-still c (λ n b s. walk c n b s) (f .0) (λ n b s. still c (calm-flat c (f .0)) n b s) (child n (caseSegment k l i)) b s, stillC g (f .1) k (suc i) n b s)
+  stillC (case l c g) f k i n b s = rw (kid-still c (λ n b s. walk full c n b s) (f .0) (λ n b s. still c (calm-flat c (f .0)) n b s) (child n (caseSegment k l i)) b s, stillC g (f .1) k (suc i) n b s)
 
-still-all : (ds : List Definition) → FlatAll ds → (s : State) → walkAll ds s ≡ ok ds s
+still-all : (ds : List Definition) → FlatAll ds → (s : State) → walkAll full ds s ≡ ok ds s
 unfolding walkAll
 still-all [] f s = refl
 still-all (format n ps c ∷ ds) f s = rw (still c (f .0) n ps s, still-all ds (f .1) s)
@@ -244,7 +243,7 @@ still-all (constant n x ∷ ds) f s = rw (still-all ds f s)
 still-all (byte-order x ∷ ds) f s = rw (still-all ds f s)
 still-all (macro n ps c ∷ ds) f s = rw (still-all ds f s)
 
-lift-says : (ds : List Definition) → liftBook ds ≡ walkAll ds (start ds)
+lift-says : (ds : List Definition) → liftBook ds ≡ walkAll full ds (start ds)
 unfolding liftBook
 lift-says ds = refl
 
@@ -264,13 +263,13 @@ unfolding elaborated outcome start
 twice ds e = rw (expanded-again ds e, lift-says ds, still-all ds (e .flat) (start ds))
 
 -- the same for the call: code 0, the same bytes, nothing lifted
-attempt-again : (ds : List Definition) → Ends ds → (o w : ℕ) → 65536 ≤ w → length (wBook ds) ≤ o → attempt (wBook ds) o w ≡ done (record { code = 0; size = length (wBook ds); defns = length ds; lifts = 0; result = wBook ds })
-unfolding attempt finished
+attempt-again : (ds : List Definition) → Ends ds → (o w : ℕ) → 65536 ≤ w → length (wBook ds) ≤ o → attempt (wBook ds) o w ≡ done (record { kept = ds; lifted = [] })
+unfolding attempt
 attempt-again ds e o w p q =
     let a : leb 65536 w ≡ true = le-leb 65536 w p in
     let b : leb (length (wBook ds)) o ≡ true = le-leb (length (wBook ds)) o q in
     rw (a, twice ds e, append-nil ds, b)
 
-pub answer-again : (ds : List Definition) → Ends ds → (o w : ℕ) → 65536 ≤ w → length (wBook ds) ≤ o → answer (wBook ds) o w ≡ record { code = 0; size = length (wBook ds); defns = length ds; lifts = 0; result = wBook ds }
+pub answer-again : (ds : List Definition) → Ends ds → (o w : ℕ) → 65536 ≤ w → length (wBook ds) ≤ o → answer (wBook ds) o w ≡ record { code = 0; size = length (wBook ds); definitions = length ds; lifts = 0 }
 unfolding answer answered
-answer-again ds e o w p q = ap answered (attempt-again ds e o w p q)
+answer-again ds e o w p q = rw (attempt-again ds e o w p q, append-nil ds)

@@ -1,21 +1,22 @@
 -- What the walk keeps: flatness, fresh names, and the definitions made before.
-use mathlib.Core.Path.{_≡_, refl, ap, sym, _∙_}
+use mathlib.Core.Path.{_≡_, refl, ap}
 use mathlib.Core.List.{List, [], _∷_, _++_}
 use mathlib.Core.Bool.{Bool, true, false}
-use Prim.Native.Nat.{ℕ, suc, _+_, _≤_}
+use Prim.Native.Nat.{ℕ, suc, _≤_}
 use native.Mathlib.Omega.{arith}
 use lib.ListN.{length, length-append}
-use Rattle.definition.specs.Res.{Maybe, just, Res, bad, ok, _>>=_}
-use Rattle.definition.specs.Tree.{Name, Text, Leaf, constraint-int, constraint-enum, bits, enum, tail, nothing, never, Len, Shell, wrap, vec, option, array, Selector, none, by, CaseKind, enums, ints, arrays, FieldKind, ordinary, dependent, Combinator, plain, chained, Inner, leaf, struct, choice, shell, bytes, invocation, macro-invocation, Fields, no-field, field, const, Cases, no-case, case, Inners, no-inner, inner, Param, Definition, format, constant, byte-order, macro}
-use Rattle.definition.specs.Names.{eqName, elem, sorted, child, segment, caseSegment, shellSegment}
-use Rattle.definition.specs.Collect.{anonymousLeaf, anonymous, anonymousI, free}
-use Rattle.definition.specs.Lift.{State, Walk, lift, childBy, bind, walk, walkI, walkF, walkC, walkAll, names}
+use Rattle.definition.specs.Res.{just, ok}
+use Rattle.definition.specs.Tree.{Name, Leaf, constraint-int, constraint-enum, bits, enum, tail, nothing, never, CaseKind, Combinator, plain, chained, Inner, leaf, struct, choice, shell, bytes, invocation, macro-invocation, Fields, no-field, field, const, Cases, no-case, case, Param, Definition, format, constant, byte-order, macro}
+use Rattle.definition.specs.Names.{elem, child, segment, caseSegment, shellSegment}
+use Rattle.definition.specs.Collect.{anonymousLeaf, anonymous, anonymousI}
+use Rattle.definition.specs.Lift.{full, State, Walk, childBy, bind, walk, walkI, walkF, walkC, walkAll, names}
 use Rattle.demand3.specs.Flat.{CalmLeaf, Calm, CalmI, CalmF, CalmC, Flat, FlatI, FlatAll}
 use Rattle.definition.specs.PutBack.{bodyOf}
-use Rattle.demand3.specs.Demand3.{Distinct, NoMacro}
-use Rattle.laws.proofs.Steps.{no-ok, did}
-use Rattle.laws.proofs.Elem.{not-both, eqName-swap, apart, elem-here, elem-there, elem-tail, elem-snoc, distinct-snoc, names-snoc, bodyOf-lasts, bodyOf-new}
+use Rattle.laws.specs.Lists.{Distinct, NoMacro}
+use Rattle.laws.proofs.Steps.{did}
+use Rattle.laws.proofs.Tests.{not-both}
+use Rattle.laws.proofs.Elem.{eqName-swap, apart, elem-here, elem-there, elem-tail, elem-snoc, distinct-snoc, names-snoc, bodyOf-lasts}
 use Rattle.laws.proofs.Lifted.{Lifted, lifted}
 
 -- the name of every definition made is taken
 unfoldable pub Known : State → Type 0
@@ -62,7 +63,7 @@ formats-snoc (byte-order x ∷ ds) n ps c h = formats-snoc ds n ps c h
 formats-snoc (macro m qs d ∷ ds) n ps c h = absurd h
 
 -- a lift, from what its inside did
-module _ (c : Combinator) (inside : Walk) (base : Name) (binders : List Param) (s : State) (d : Combinator) (t : State) (l : Lifted c inside base binders s d t) (g : Grew (l .first) (l .last)) where
+module _ (c : Combinator) (inside : Walk) (base : Name) (binders : List Param) (s : State) (d : Combinator) (t : State) (l : Lifted full c inside base binders s d t) (g : Grew (l .first) (l .last)) where
   pub known-first : Known s → Known (l .first)
   unfolding Known
   known-first k m p = rw (l .first-made) (k m (elem-tail m (l .name) (s .taken) (rw (l .first-taken) at p) .1))
@@ -109,15 +110,15 @@ pub record Kid (s : State) (d : Combinator) (t : State) : Type 0 where
   pub calm : Calm d
 
 module _ (c : Combinator) (inside : Walk) (ih : (n : Name) (b : List Param) (s : State) (d : Combinator) (t : State) → inside n b s ≡ ok d t → Walked c s d t) where
-  kidBy : (a : Bool) → anonymous c ≡ a → (base : Name) (binders : List Param) (s : State) (d : Combinator) (t : State) → childBy a c inside base binders s ≡ ok d t → Kid s d t
+  kidBy : (a : Bool) → anonymous c ≡ a → (base : Name) (binders : List Param) (s : State) (d : Combinator) (t : State) → childBy full a c inside base binders s ≡ ok d t → Kid s d t
   unfolding childBy
   kidBy true q base binders s d t e =
-      let l = lifted c inside base binders s d t e in
+      let l = lifted full c inside base binders s d t e in
       let w = ih (l .name) binders (l .first) (l .body) (l .last) (l .went) in
       record { grew = lift-grew c inside base binders s d t l (w .grew) (w .flat); calm = rw (l .there) tt }
   kidBy false q base binders s d t e = let w = ih base binders s d t e in record { grew = w .grew; calm = w .calm q }
 
-  pub kid : (base : Name) (binders : List Param) (s : State) (d : Combinator) (t : State) → childBy (anonymous c) c inside base binders s ≡ ok d t → Kid s d t
+  pub kid : (base : Name) (binders : List Param) (s : State) (d : Combinator) (t : State) → childBy full (anonymous c) c inside base binders s ≡ ok d t → Kid s d t
   kid base binders s d t e = kidBy (anonymous c) refl base binders s d t e
 
 calm-leaf : (k : Leaf) → anonymousLeaf k ≡ false → CalmLeaf k
@@ -133,36 +134,36 @@ calm-leaf never e = tt
 mutual
   unfolding walk anonymous
 
-  pub walked : (c : Combinator) (n : Name) (b : List Param) (s : State) (d : Combinator) (t : State) → walk c n b s ≡ ok d t → Walked c s d t
-  walked (plain i) n b s d t e = did (walkI i n b s) _ d t e λ j u h g.
+  pub walked : (c : Combinator) (n : Name) (b : List Param) (s : State) (d : Combinator) (t : State) → walk full c n b s ≡ ok d t → Walked c s d t
+  walked (plain i) n b s d t e = did (walkI full i n b s) _ d t e λ j u h g.
       let w = walkedI i n b s j u h in
       let p : plain j ≡ d = cc in
       let q : u ≡ t = cc in
       record { grew = rw (← q) (w .grew); flat = rw (← p) (w .flat); calm = λ a. rw (← p) (w .calm a) }
-  walked (chained i c) n b s d t e = did (childBy (anonymous c) c (λ n b s. walk c n b s) n b s) _ d t e λ x u h g.
-      did (walkI i n b u) _ d t g λ j v h₂ g₂.
-      let k = kid c (λ n b s. walk c n b s) (λ n b s d t e. walked c n b s d t e) n b s x u h in
+  walked (chained i c) n b s d t e = did (childBy full (anonymous c) c (λ n b s. walk full c n b s) n b s) _ d t e λ x u h g.
+      did (walkI full i n b u) _ d t g λ j v h₂ g₂.
+      let k = kid c (λ n b s. walk full c n b s) (λ n b s d t e. walked c n b s d t e) n b s x u h in
       let w = walkedI i n b u j v h₂ in
       let p : chained j x ≡ d = cc in
       let q : v ≡ t = cc in
       record { grew = rw (← q) (then s u v (k .grew) (w .grew)); flat = rw (← p) (w .flat, k .calm); calm = λ a. rw (← p) (w .calm a, k .calm) }
 
-  pub walkedI : (i : Inner) (n : Name) (b : List Param) (s : State) (j : Inner) (t : State) → walkI i n b s ≡ ok j t → WalkedI i s j t
+  pub walkedI : (i : Inner) (n : Name) (b : List Param) (s : State) (j : Inner) (t : State) → walkI full i n b s ≡ ok j t → WalkedI i s j t
   walkedI (leaf k x) n b s j t e =
       let p : leaf k x ≡ j = cc in
       record { grew = stay s t (cc); flat = rw (← p) tt; calm = λ a. rw (← p) (calm-leaf k a) }
-  walkedI (struct f) n b s j t e = did (walkF f n b s) _ j t e λ x u h g.
+  walkedI (struct f) n b s j t e = did (walkF full f n b s) _ j t e λ x u h g.
       let w = walkedF f n b s x u h in
       let p : struct x ≡ j = cc in
       let q : u ≡ t = cc in
       record { grew = rw (← q) (w .0); flat = rw (← p) (w .1); calm = λ a. not-both true refl a }
-  walkedI (choice y k f) n b s j t e = did (walkC f k 0 n b s) _ j t e λ x u h g.
+  walkedI (choice y k f) n b s j t e = did (walkC full f k 0 n b s) _ j t e λ x u h g.
       let w = walkedC f k 0 n b s x u h in
       let p : choice y k x ≡ j = cc in
       let q : u ≡ t = cc in
       record { grew = rw (← q) (w .0); flat = rw (← p) (w .1); calm = λ a. not-both true refl a }
-  walkedI (shell y c) n b s j t e = did (childBy (anonymous c) c (λ n b s. walk c n b s) (child n (shellSegment y)) b s) _ j t e λ x u h g.
-      let k = kid c (λ n b s. walk c n b s) (λ n b s d t e. walked c n b s d t e) (child n (shellSegment y)) b s x u h in
+  walkedI (shell y c) n b s j t e = did (childBy full (anonymous c) c (λ n b s. walk full c n b s) (child n (shellSegment y)) b s) _ j t e λ x u h g.
+      let k = kid c (λ n b s. walk full c n b s) (λ n b s d t e. walked c n b s d t e) (child n (shellSegment y)) b s x u h in
       let p : shell y x ≡ j = cc in
       let q : u ≡ t = cc in
       record { grew = rw (← q) (k .grew); flat = rw (← p) (k .calm); calm = λ a. rw (← p) (k .calm) }
@@ -176,53 +177,53 @@ mutual
       let p : macro-invocation m a ≡ j = cc in
       record { grew = stay s t (cc); flat = rw (← p) tt; calm = λ a. rw (← p) tt }
 
-  pub walkedF : (f : Fields) (n : Name) (b : List Param) (s : State) (g : Fields) (t : State) → walkF f n b s ≡ ok g t → Grew s t × CalmF g
+  pub walkedF : (f : Fields) (n : Name) (b : List Param) (s : State) (g : Fields) (t : State) → walkF full f n b s ≡ ok g t → Grew s t × CalmF g
   walkedF no-field n b s g t e = let p : no-field ≡ g = cc in (stay s t (cc), rw (← p) tt)
-  walkedF (field k l c f) n b s g t e = did (childBy (anonymous c) c (λ n b s. walk c n b s) (child n (segment l)) b s) _ g t e λ x u h e₂.
-      did (walkF f n (bind k l x b) u) _ g t e₂ λ y v h₂ e₃.
-      let z = kid c (λ n b s. walk c n b s) (λ n b s d t e. walked c n b s d t e) (child n (segment l)) b s x u h in
+  walkedF (field k l c f) n b s g t e = did (childBy full (anonymous c) c (λ n b s. walk full c n b s) (child n (segment l)) b s) _ g t e λ x u h e₂.
+      did (walkF full f n (bind k l x b) u) _ g t e₂ λ y v h₂ e₃.
+      let z = kid c (λ n b s. walk full c n b s) (λ n b s d t e. walked c n b s d t e) (child n (segment l)) b s x u h in
       let w = walkedF f n (bind k l x b) u y v h₂ in
       let p : field k l x y ≡ g = cc in
       let q : v ≡ t = cc in
       (rw (← q) (then s u v (z .grew) (w .0)), rw (← p) (z .calm, w .1))
-  walkedF (const l x f) n b s g t e = did (walkF f n b s) _ g t e λ y v h₂ e₃.
+  walkedF (const l x f) n b s g t e = did (walkF full f n b s) _ g t e λ y v h₂ e₃.
       let w = walkedF f n b s y v h₂ in
       let p : const l x y ≡ g = cc in
       let q : v ≡ t = cc in
       (rw (← q) (w .0), rw (← p) (w .1))
 
-  pub walkedC : (f : Cases) (k : CaseKind) (i : ℕ) (n : Name) (b : List Param) (s : State) (g : Cases) (t : State) → walkC f k i n b s ≡ ok g t → Grew s t × CalmC g
+  pub walkedC : (f : Cases) (k : CaseKind) (i : ℕ) (n : Name) (b : List Param) (s : State) (g : Cases) (t : State) → walkC full f k i n b s ≡ ok g t → Grew s t × CalmC g
   walkedC no-case k i n b s g t e = let p : no-case ≡ g = cc in (stay s t (cc), rw (← p) tt)
-  walkedC (case l c f) k i n b s g t e = did (childBy (anonymous c) c (λ n b s. walk c n b s) (child n (caseSegment k l i)) b s) _ g t e λ x u h e₂.
-      did (walkC f k (suc i) n b u) _ g t e₂ λ y v h₂ e₃.
-      let z = kid c (λ n b s. walk c n b s) (λ n b s d t e. walked c n b s d t e) (child n (caseSegment k l i)) b s x u h in
+  walkedC (case l c f) k i n b s g t e = did (childBy full (anonymous c) c (λ n b s. walk full c n b s) (child n (caseSegment k l i)) b s) _ g t e λ x u h e₂.
+      did (walkC full f k (suc i) n b u) _ g t e₂ λ y v h₂ e₃.
+      let z = kid c (λ n b s. walk full c n b s) (λ n b s d t e. walked c n b s d t e) (child n (caseSegment k l i)) b s x u h in
       let w = walkedC f k (suc i) n b u y v h₂ in
       let p : case l x y ≡ g = cc in
       let q : v ≡ t = cc in
       (rw (← q) (then s u v (z .grew) (w .0)), rw (← p) (z .calm, w .1))
 
 -- the whole list
-pub walkedAll : (ds : List Definition) (s : State) (es : List Definition) (t : State) → walkAll ds s ≡ ok es t → Grew s t × FlatAll es
+pub walkedAll : (ds : List Definition) (s : State) (es : List Definition) (t : State) → walkAll full ds s ≡ ok es t → Grew s t × FlatAll es
 unfolding walkAll
 walkedAll [] s es t e = let p : [] ≡ es = cc in (stay s t (cc), rw (← p) tt)
-walkedAll (format n ps c ∷ ds) s es t e = did (walk c n ps s) _ es t e λ x u h e₂.
-    did (walkAll ds u) _ es t e₂ λ y v h₂ e₃.
+walkedAll (format n ps c ∷ ds) s es t e = did (walk full c n ps s) _ es t e λ x u h e₂.
+    did (walkAll full ds u) _ es t e₂ λ y v h₂ e₃.
     let w = walked c n ps s x u h in
     let z = walkedAll ds u y v h₂ in
     let p : format n ps x ∷ y ≡ es = cc in
     let q : v ≡ t = cc in
     (rw (← q) (then s u v (w .grew) (z .0)), rw (← p) (w .flat, z .1))
-walkedAll (constant n x ∷ ds) s es t e = did (walkAll ds s) _ es t e λ y v h₂ e₃.
+walkedAll (constant n x ∷ ds) s es t e = did (walkAll full ds s) _ es t e λ y v h₂ e₃.
     let z = walkedAll ds s y v h₂ in
     let p : constant n x ∷ y ≡ es = cc in
     let q : v ≡ t = cc in
     (rw (← q) (z .0), rw (← p) (z .1))
-walkedAll (byte-order x ∷ ds) s es t e = did (walkAll ds s) _ es t e λ y v h₂ e₃.
+walkedAll (byte-order x ∷ ds) s es t e = did (walkAll full ds s) _ es t e λ y v h₂ e₃.
     let z = walkedAll ds s y v h₂ in
     let p : byte-order x ∷ y ≡ es = cc in
     let q : v ≡ t = cc in
     (rw (← q) (z .0), rw (← p) (z .1))
-walkedAll (macro n ps c ∷ ds) s es t e = did (walkAll ds s) _ es t e λ y v h₂ e₃.
+walkedAll (macro n ps c ∷ ds) s es t e = did (walkAll full ds s) _ es t e λ y v h₂ e₃.
     let z = walkedAll ds s y v h₂ in
     let p : macro n ps c ∷ y ≡ es = cc in
     let q : v ≡ t = cc in

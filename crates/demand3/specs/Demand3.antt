@@ -1,24 +1,20 @@
 -- Demand 3, for the expanded list `ds` and the result `r` that comes of it.
 use mathlib.Core.Path.{_≡_}
 use mathlib.Core.List.{List, [], _∷_}
-use mathlib.Core.Bool.{Bool, true, false, not}
+use mathlib.Core.Bool.{true, false, not}
 use Prim.Native.Nat.{ℕ}
 use lib.ListN.{length}
-use Rattle.definition.specs.Res.{Maybe, just}
+use Rattle.definition.specs.Res.{just}
 use Rattle.definition.specs.Tree.{Name, Combinator, Definition, format, constant, byte-order, macro}
 use Rattle.definition.specs.Names.{elem}
 use Rattle.definition.specs.Lift.{names}
 use Rattle.definition.specs.Answer.{Result, all}
 use Rattle.definition.specs.Bodies.{everyInvocation}
 use Rattle.demand3.specs.Flat.{FlatAll}
 use Rattle.definition.specs.Premise.{callsKnown, chainsPlain}
 use Rattle.definition.specs.PutBack.{back, putBack}
-use Rattle.demand3.specs.Shortest.{paramNames, Shortest}
-
--- each name once
-abbrev pub Distinct : List Name → Type 0
-Distinct [] = Unit {0}
-Distinct (n ∷ ns) = (elem n ns ≡ false) × Distinct ns
+use Rattle.laws.specs.Lists.{paramNames, Distinct}
+use Rattle.demand3.specs.Shortest.{Shortest}
 
 -- no call of a lifted name is left in a body
 abbrev pub NoneLeft : List Definition → Combinator → Type 0
@@ -31,14 +27,6 @@ Tight lifted k (format n ps c ∷ ds) = NoneLeft lifted (back lifted k c) × (Sh
 Tight lifted k (constant n x ∷ ds) = Tight lifted k ds
 Tight lifted k (byte-order x ∷ ds) = Tight lifted k ds
 Tight lifted k (macro n ps c ∷ ds) = Tight lifted k ds
-
--- no macro definition is left
-abbrev pub NoMacro : List Definition → Type 0
-NoMacro [] = Unit {0}
-NoMacro (format n ps c ∷ ds) = NoMacro ds
-NoMacro (constant n x ∷ ds) = NoMacro ds
-NoMacro (byte-order x ∷ ds) = NoMacro ds
-NoMacro (macro n ps c ∷ ds) = ⊥
 
 pub record Demand3 (ds : List Definition) (r : Result) : Type 0 where
   -- "no struct, choice, enum or bits stands below the root of a definition's body, macro arguments aside"

@@ -1,6 +1,6 @@
 -- Demand 3: "no struct, choice, enum or bits stands below the root of a definition's body, macro arguments aside".
 use mathlib.Core.List.{List, [], _∷_}
-use Rattle.definition.specs.Tree.{Name, Text, Leaf, constraint-int, constraint-enum, bits, enum, tail, nothing, never, Len, Shell, wrap, vec, option, array, Selector, none, by, CaseKind, enums, ints, arrays, FieldKind, ordinary, dependent, Combinator, plain, chained, Inner, leaf, struct, choice, shell, bytes, invocation, macro-invocation, Fields, no-field, field, const, Cases, no-case, case, Inners, no-inner, inner, Param, Definition, format, constant, byte-order, macro}
+use Rattle.definition.specs.Tree.{Leaf, constraint-int, constraint-enum, bits, enum, tail, nothing, never, Combinator, plain, chained, Inner, leaf, struct, choice, shell, bytes, invocation, macro-invocation, Fields, no-field, field, const, Cases, no-case, case, Definition, format, constant, byte-order, macro}
 
 -- enum and bits, by name
 abbrev pub CalmLeaf : Leaf → Type 0

@@ -2,13 +2,10 @@
 use mathlib.Core.Path.{_≡_}
 use mathlib.Core.List.{List, [], _∷_, map}
 use mathlib.Core.Bool.{Bool, true, false, _&&_}
-use Rattle.definition.specs.Tree.{Name, Text, Leaf, constraint-int, constraint-enum, bits, enum, tail, nothing, never, Len, Shell, wrap, vec, option, array, Selector, none, by, CaseKind, enums, ints, arrays, FieldKind, ordinary, dependent, Combinator, plain, chained, Inner, leaf, struct, choice, shell, bytes, invocation, macro-invocation, Fields, no-field, field, const, Cases, no-case, case, Inners, no-inner, inner, Param, Definition, format, constant, byte-order, macro}
+use Rattle.definition.specs.Tree.{Name, FieldKind, ordinary, dependent, Combinator, plain, chained, Inner, leaf, struct, choice, shell, bytes, invocation, macro-invocation, Fields, no-field, field, const, Cases, no-case, case}
+use Rattle.laws.specs.Lists.{Distinct}
 use Rattle.definition.specs.Names.{elem, remove, root}
 use Rattle.definition.specs.Collect.{selectorUses, shellUses}
-
-abbrev pub paramNames : List Param → List Name
-paramNames [] = []
-paramNames (p ∷ ps) = p .name ∷ paramNames ps
 
 unfoldable pub each : List Name → List Name → Bool
 each [] ns = true
@@ -43,12 +40,7 @@ unfoldable mutual
   coveredC no-case ns = true
   coveredC (case l c f) ns = covered c ns && coveredC f ns
 
--- each name once
-abbrev pub Once : List Name → Type 0
-Once [] = Unit {0}
-Once (n ∷ ns) = (elem n ns ≡ false) × Once ns
-
 pub record Shortest (ns : List Name) (c : Combinator) : Type 0 where
-  pub once : Once ns
+  pub once : Distinct ns
   pub enough : covered c ns ≡ true
   pub needed : (p : Name) → elem p ns ≡ true → covered c (remove p ns) ≡ false

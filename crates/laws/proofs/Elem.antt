@@ -1,20 +1,18 @@
 -- Laws of name lists and of the bodies of lifted names.
-use mathlib.Core.Path.{_≡_, refl, ap, sym, _∙_}
-use mathlib.Core.Logic.{_⊎_, inl, inr, ⊎-elim}
+use mathlib.Core.Path.{_≡_, refl}
+use mathlib.Core.Logic.{⊎-elim}
 use mathlib.Core.List.{List, [], _∷_, _++_}
-use mathlib.Core.Bool.{Bool, true, false, cond}
+use mathlib.Core.Bool.{true, false}
 use Prim.Native.Nat.{ℕ}
 use native.Mathlib.Omega.{arith}
-use Rattle.definition.specs.Res.{Maybe, absent, just}
+use Rattle.definition.specs.Res.{absent, just}
 use Rattle.definition.specs.Tree.{Name, Combinator, Param, Definition, format, constant, byte-order, macro}
 use Rattle.definition.specs.Names.{eqName, elem}
 use Rattle.definition.specs.Lift.{names}
 use Rattle.definition.specs.PutBack.{bodyOf}
-use Rattle.demand3.specs.Demand3.{Distinct}
-use Rattle.laws.proofs.FreshName.{eqName-true, eqName-refl, yes-no}
-
-pub not-both : {X : Type 0} (b : Bool) → b ≡ true → b ≡ false → X
-not-both b p q = let e : true ≡ false = cc in let z : _≡_ {A = ℕ} 0 1 = cc in absurd (omega arith)
+use Rattle.laws.specs.Lists.{Distinct}
+use Rattle.laws.proofs.FreshName.{eqName-true, eqName-refl}
+use Rattle.laws.proofs.Tests.{yes-no, not-both}
 
 pub eqName-swap : (a b : Name) → eqName a b ≡ false → eqName b a ≡ false
 eqName-swap a b e = ⊎-elim

@@ -1,22 +1,22 @@
 -- Expansion keeps names plain, leaves no macro definition, and does not add definitions.
-use mathlib.Core.Path.{_≡_, refl, ap, sym, _∙_}
-use mathlib.Core.List.{List, [], _∷_, _++_}
+use mathlib.Core.Path.{_≡_}
+use mathlib.Core.List.{List, [], _∷_}
 use mathlib.Core.Bool.{Bool, true, false, _&&_}
-use Prim.Native.Nat.{ℕ, zero, suc, _+_, _≤_}
+use Prim.Native.Nat.{_≤_}
 use native.Mathlib.Omega.{arith}
 use lib.Dec.{leb}
 use lib.ListN.{length}
 use borrow.Author.Tests.{leb-true}
 use Rattle.definition.specs.Code.{macro-growth}
-use Rattle.definition.specs.Out.{Out, refused, done, _>>=_, given}
-use Rattle.definition.specs.Tree.{Name, Text, Leaf, Len, Shell, Selector, CaseKind, FieldKind, Combinator, plain, chained, Inner, leaf, struct, choice, shell, bytes, invocation, macro-invocation, Fields, no-field, field, const, Cases, no-case, case, Inners, no-inner, inner, Param, Definition, format, constant, byte-order, macro}
+use Rattle.definition.specs.Out.{Out, done, given}
+use Rattle.definition.specs.Tree.{Name, CaseKind, Combinator, plain, chained, Inner, leaf, struct, choice, shell, bytes, invocation, macro-invocation, Fields, no-field, field, const, Cases, no-case, case, Inners, no-inner, inner, Definition, format, constant, byte-order, macro}
 use Rattle.definition.specs.Names.{eqName}
 use Rattle.definition.specs.Size.{size, sizeBook, levels, levelsBook}
-use Rattle.laws.specs.Good.{Good, GoodI, GoodF, GoodC, GoodA, GoodD, GoodAll}
+use Rattle.laws.specs.Good.{Good, GoodI, GoodF, GoodC, GoodA, GoodAll}
 use Rattle.definition.specs.Macros.{subst, substI, substF, substC, limited, instance, innerOf, Macro, macros, expandBy, expandMacro, expand, expandI, expandF, expandC, expandAll, expandBook}
-use Rattle.demand3.specs.Demand3.{NoMacro}
-use Rattle.demand3.proofs.Back.{both-true}
-use Rattle.demand3.proofs.Accepted.{did-out, did-given}
+use Rattle.laws.specs.Lists.{NoMacro}
+use Rattle.laws.proofs.Tests.{both-true}
+use Rattle.laws.proofs.Steps.{did-out, did-given}
 use Rattle.laws.proofs.Sound.{FineAll}
 
 mutual

@@ -1,17 +1,17 @@
 -- What the reader reads, the writer writes: bytes that read as a tree are that tree's bytes, and the rest.
-use mathlib.Core.Path.{_≡_, refl, ap, _∙_, sym}
+use mathlib.Core.Path.{_≡_, refl, ap, _∙_}
 use mathlib.Core.List.{List, [], _∷_, _++_}
 use mathlib.Core.Bool.{Bool, true, false, cond}
 use native.Mathlib.Nat.{add-zero, zero-add, add-suc, suc-add}
-use Prim.Native.Nat.{ℕ, zero, suc, _+_, _*_, _/_, _%_, _≤_, _<_}
+use Prim.Native.Nat.{ℕ, zero, suc, _+_, _*_, _/_, _%_, _<_}
 use native.Mathlib.Omega.{arith}
 use lib.Dec.{eqb, T, eqb→eq}
 use lib.ListN.{length, getD}
 use Rattle.definition.specs.Code.{bad-name}
-use Rattle.definition.specs.Res.{Maybe, absent, just, Res, bad, ok, _>>=_, require, from}
-use Rattle.definition.specs.Tree.{Name, Text, Leaf, constraint-int, constraint-enum, bits, enum, tail, nothing, never, Len, Shell, wrap, vec, option, array, Selector, none, by, CaseKind, enums, ints, arrays, FieldKind, ordinary, dependent, Combinator, plain, chained, Inner, leaf, struct, choice, shell, bytes, invocation, macro-invocation, Fields, no-field, field, const, Cases, no-case, case, Inners, no-inner, inner, Param, Definition, format, constant, byte-order, macro}
+use Rattle.definition.specs.Res.{Maybe, absent, just, ok}
+use Rattle.definition.specs.Tree.{Name, Leaf, constraint-int, constraint-enum, bits, enum, tail, nothing, never, Len, wrap, vec, option, array, Selector, none, by, CaseKind, enums, ints, arrays, ordinary, dependent, Combinator, plain, chained, Inner, leaf, struct, choice, shell, bytes, invocation, macro-invocation, Fields, no-field, field, const, Cases, no-case, case, Inners, no-inner, inner}
 use Rattle.definition.specs.Read.{Reader, u16, part, text, dotted, undotted, byte, nameBy, namesBy, name, known, oneOf, flags, caseKinds, FieldStart, holds, isConst, fieldKinds, len, selectorBy, selector, label, fieldBy, fields, cases, inners, Tag, isLeaf, isStruct, isWrap, isChoice, isVec, isArray, isBytes, isOption, isInvocation, isMacroInvocation, tags, items, level, tooDeep, chainBy, chain, combinator, arg}
 use Rattle.definition.specs.Write.{wU16, wName, wText, wAll, wList, wLen, wSelector, caseByte, wLabel, leafTag, fieldByte, wOpen, wShut, countF, countC, countA, wCombinator, wInner, wFields, wCases, wInners}
 use Rattle.laws.proofs.Steps.{no-ok, did, did-from, did-require}
 
 -- numbers below 256

@@ -1,16 +1,15 @@
 -- "Parameters: free root names, each once, in byte order": the sorted list ascends strictly.
-use mathlib.Core.Path.{_≡_, refl, ap, sym, _∙_}
-use mathlib.Core.Logic.{_⊎_, inl, inr, ⊎-elim}
+use mathlib.Core.Path.{_≡_, refl, sym}
+use mathlib.Core.Logic.{⊎-elim}
 use mathlib.Core.List.{List, [], _∷_}
-use mathlib.Core.Bool.{Bool, true, false, cond}
+use mathlib.Core.Bool.{true, false}
 use Prim.Native.Nat.{ℕ, _<_, _≤_}
 use native.Mathlib.Omega.{arith}
 use lib.Dec.{eqb, ltb}
 use borrow.Author.Tests.{eqb-true, eqb-false, eq-eqb, ne-eqb, ltb-false, lt-ltb}
 use Rattle.definition.specs.Tree.{Name}
 use Rattle.definition.specs.Names.{eqName, before, insert, sorted}
-use Rattle.laws.proofs.FreshName.{yes-no}
-use Rattle.laws.proofs.Elem.{not-both}
+use Rattle.laws.proofs.Tests.{yes-no, not-both}
 
 abbrev pub Ascending : List Name → Type 0
 Ascending [] = Unit {0}

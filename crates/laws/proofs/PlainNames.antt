@@ -1,20 +1,19 @@
 -- The names that are made are plain: UTF-8 and without '.'.
-use mathlib.Core.Path.{_≡_, refl, ap, sym, _∙_}
-use mathlib.Core.Logic.{_⊎_, inl, inr, ⊎-elim}
+use mathlib.Core.Path.{_≡_, refl}
+use mathlib.Core.Logic.{⊎-elim}
 use mathlib.Core.List.{List, [], _∷_, _++_}
-use mathlib.Core.Bool.{Bool, true, false, _&&_, _||_, cond}
+use mathlib.Core.Bool.{true, false, _&&_, _||_}
 use Prim.Native.Nat.{ℕ, zero, suc, _+_, _/_, _%_, _≤_, _<_}
 use native.Mathlib.Omega.{arith}
 use native.Mathlib.Nat.{le-refl}
 use lib.Dec.{eqb, leb, ltb}
 use lib.ListN.{length}
 use borrow.Author.Tests.{leb-true, ltb-true, ltb-false, lt-ltb, ne-eqb}
 use Rattle.definition.specs.Tree.{Name, Shell, wrap, vec, option, array, CaseKind, enums, ints, arrays}
-use Rattle.definition.specs.Read.{Range, inside, after, characters, noDot, dotted, undotted}
+use Rattle.definition.specs.Utf8.{Range, inside, behind, characters, wellFormed}
+use Rattle.definition.specs.Read.{noDot, dotted, undotted}
 use Rattle.definition.specs.Names.{elem, letter, letters, segment, digits, decimal, child, caseSegment, shellSegment, numbered, firstFree, fresh}
-use Rattle.laws.proofs.FreshName.{yes-no}
-use Rattle.laws.proofs.Elem.{not-both}
-use Rattle.demand3.proofs.Back.{both-true}
+use Rattle.laws.proofs.Tests.{yes-no, not-both, both-true, either}
 
 -- bytes of one-byte characters, '.' not among them
 abbrev pub Ascii : List ℕ → Type 0
@@ -29,7 +28,7 @@ ascii-append [] b p q = q
 ascii-append (x ∷ a) b p q = (p .0, p .1, ascii-append a b (p .2) q)
 
 ascii-chars : (x : List ℕ) → Ascii x → characters [] x ≡ true
-unfolding characters after
+unfolding characters behind
 ascii-chars [] h = refl
 ascii-chars (b ∷ x) h = rw (h .0) (ascii-chars x (h .2))
 
@@ -42,7 +41,7 @@ chars-append : (rs : List Range) (a x : List ℕ) → characters rs a ≡ true �
 unfolding characters
 chars-append [] [] x p q = q
 chars-append (r ∷ rs) [] x p q = not-both false p refl
-chars-append [] (b ∷ a) x p q = chars-append (after b) a x p q
+chars-append [] (b ∷ a) x p q = chars-append (behind b) a x p q
 chars-append (r ∷ rs) (b ∷ a) x p q = let w = both-true (inside r b) (characters rs a) p in rw (w .0) (chars-append rs a x (w .1) q)
 
 dots-append : (a x : List ℕ) → noDot a ≡ true → noDot x ≡ true → noDot (a ++ x) ≡ true
@@ -54,14 +53,10 @@ dots-append (b ∷ a) x p q = ⊎-elim
     (yes-no (eqb b 46))
 
 pub joined : (n x : List ℕ) → undotted n ≡ true → Ascii x → undotted (n ++ x) ≡ true
-unfolding undotted dotted
+unfolding undotted dotted wellFormed
 joined n x p h =
     let w = both-true (characters [] n) (noDot n) p in
     rw (chars-append [] n x (w .0) (ascii-chars x h), dots-append n x (w .1) (ascii-dots x h))
-
-either : (a b : Bool) → a || b ≡ true → (a ≡ true) ⊎ (b ≡ true)
-either true b e = inl refl
-either false b e = inr e
 
 ascii-letter : (b : ℕ) → Ascii (letter b)
 unfolding letter

@@ -1,17 +1,16 @@
 -- What is read is a list that a book can hold: names pass their tests, and levels are few.
-use mathlib.Core.Path.{_≡_, refl, ap, sym, _∙_}
-use mathlib.Core.List.{List, [], _∷_, _++_}
+use mathlib.Core.Path.{_≡_}
+use mathlib.Core.List.{List, [], _∷_}
 use mathlib.Core.Bool.{Bool, true, false}
-use Prim.Native.Nat.{ℕ, zero, suc, _+_, _*_, _≤_, max}
+use Prim.Native.Nat.{ℕ, zero, suc, _≤_}
 use native.Mathlib.Omega.{arith}
-use lib.ListN.{length}
 use Rattle.definition.specs.Code.{bad-name}
-use Rattle.definition.specs.Res.{Res, bad, ok, _>>=_, require, from}
-use Rattle.definition.specs.Tree.{Name, Text, Leaf, constraint-int, constraint-enum, bits, enum, tail, nothing, never, Len, Shell, wrap, vec, option, array, Selector, none, by, CaseKind, enums, ints, arrays, FieldKind, ordinary, dependent, Combinator, plain, chained, Inner, leaf, struct, choice, shell, bytes, invocation, macro-invocation, Fields, no-field, field, const, Cases, no-case, case, Inners, no-inner, inner, Param, Definition, format, constant, byte-order, macro}
-use Rattle.definition.specs.Read.{Reader, u16, part, text, dotted, undotted, byte, nameBy, namesBy, name, oneOf, flags, caseKinds, FieldStart, holds, isConst, fieldKinds, len, selectorBy, selector, label, fieldBy, fields, cases, inners, Tag, isLeaf, isStruct, isWrap, isChoice, isVec, isArray, isBytes, isOption, isInvocation, isMacroInvocation, tags, items, level, tooDeep, chainBy, chain, combinator, arg, params, Kind, isFormat, isConstant, isByteOrder, isMacro, definition}
-use Rattle.definition.specs.Book.{Entry, entries, Body, cut, atEnd, whole, within, bodies, count, book}
+use Rattle.definition.specs.Res.{ok}
+use Rattle.definition.specs.Tree.{Kind, isFormat, isConstant, isByteOrder, isMacro, Name, Len, wrap, vec, option, array, Selector, none, by, CaseKind, enums, ints, arrays, Combinator, plain, chained, Inner, leaf, struct, choice, shell, bytes, invocation, macro-invocation, Fields, no-field, field, const, Cases, no-case, case, Inners, no-inner, inner, Param, Definition, format, constant, byte-order, macro}
+use Rattle.definition.specs.Read.{Reader, u16, part, text, dotted, undotted, byte, nameBy, namesBy, name, oneOf, flags, caseKinds, FieldStart, holds, isConst, fieldKinds, len, selectorBy, selector, label, fieldBy, fields, cases, inners, Tag, isLeaf, isStruct, isWrap, isChoice, isVec, isArray, isBytes, isOption, isInvocation, isMacroInvocation, tags, items, level, tooDeep, chainBy, chain, combinator, arg, params, definition}
+use Rattle.definition.specs.Contents.{contents, Body, cut, whole, within, bodies, book}
 use Rattle.definition.specs.Size.{levels, levelsI, levelsF, levelsC, levelsA, levelsP, levelsBook}
-use Rattle.laws.specs.Good.{Pass, GoodS, GoodL, GoodShell, Good, GoodI, GoodF, GoodC, GoodA, GoodP, GoodD, GoodAll}
+use Rattle.laws.specs.Good.{Pass, GoodS, GoodL, Good, GoodI, GoodF, GoodC, GoodA}
 use Rattle.laws.proofs.Steps.{no-ok, did, did-from, did-require}
 use Rattle.laws.proofs.BookInverse.{i-whole, i-within}
 use Rattle.laws.proofs.Sound.{Fine, FineAll}
@@ -231,9 +230,8 @@ g-bodies (b ∷ bs) ds r e = did (within (b .later) (whole (definition (b .kind)
     let p : d ∷ es ≡ ds = cc in
     rw (← p) (fine-one d es w (g-bodies bs es t h₂))
 
-pub g-book : (s : List ℕ) (ds : List Definition) (r : List ℕ) → book s ≡ ok ds r → FineAll ds
+pub g-book : (width : ℕ) (s : List ℕ) (ds : List Definition) (r : List ℕ) → book width s ≡ ok ds r → FineAll ds
 unfolding book
-g-book s ds r e = did (count s) _ ds r e λ n t d g.
-    did (entries (length s) n (2 + 6 * n) t) _ ds r g λ es v d₂ g₂.
+g-book width s ds r e = did (contents width s) _ ds r e λ es v d₂ g₂.
     did (whole (cut es v)) _ ds r g₂ λ bs u d₃ g₃.
     g-bodies bs ds r g₃

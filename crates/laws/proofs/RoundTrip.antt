@@ -1,17 +1,17 @@
 -- What the writer writes, the reader reads.
 use mathlib.Core.Path.{_≡_, refl, ap}
 use mathlib.Core.List.{List, [], _∷_, _++_}
-use mathlib.Core.Bool.{Bool, true, false}
-use Prim.Native.Nat.{ℕ, zero, suc, _+_, _*_, _/_, _%_, _≤_, max}
+use mathlib.Core.Bool.{Bool, true}
+use Prim.Native.Nat.{ℕ, zero, suc, _≤_}
 use native.Mathlib.Omega.{arith}
 use native.Mathlib.Nat.{not-suc-le-zero}
 use lib.ListN.{length}
-use Rattle.definition.specs.Res.{Res, bad, ok}
-use Rattle.definition.specs.Tree.{Name, Text, Leaf, constraint-int, constraint-enum, bits, enum, tail, nothing, never, Len, Shell, wrap, vec, option, array, Selector, none, by, CaseKind, enums, ints, arrays, FieldKind, ordinary, dependent, Combinator, plain, chained, Inner, leaf, struct, choice, shell, bytes, invocation, macro-invocation, Fields, no-field, field, const, Cases, no-case, case, Inners, no-inner, inner, Param, Definition, format, constant, byte-order, macro}
-use Rattle.definition.specs.Read.{u16, part, text, dotted, undotted, byte, nameBy, namesBy, name, known, oneOf, caseKinds, len, selectorBy, selector, label, fieldBy, fields, cases, inners, Tag, isLeaf, tags, items, level, chainBy, chain, combinator, arg}
+use Rattle.definition.specs.Res.{ok}
+use Rattle.definition.specs.Tree.{Name, Leaf, constraint-int, constraint-enum, bits, enum, tail, nothing, never, Len, wrap, vec, option, array, Selector, none, by, CaseKind, enums, ints, arrays, ordinary, dependent, Combinator, plain, chained, Inner, leaf, struct, choice, shell, bytes, invocation, macro-invocation, Fields, no-field, field, const, Cases, no-case, case, Inners, no-inner, inner}
+use Rattle.definition.specs.Read.{u16, part, text, dotted, undotted, byte, nameBy, namesBy, name, known, oneOf, caseKinds, len, selectorBy, selector, label, fieldBy, fields, cases, inners, isLeaf, tags, items, level, chainBy, chain, combinator, arg}
 use Rattle.definition.specs.Write.{wU16, wName, wText, wAll, wList, wLen, wSelector, caseByte, wLabel, leafTag, fieldByte, wOpen, wShut, countF, countC, countA, wCombinator, wInner, wFields, wCases, wInners}
 use Rattle.definition.specs.Size.{levels, levelsI, levelsF, levelsC, levelsA}
-use Rattle.laws.specs.Good.{Pass, GoodS, GoodL, GoodShell, Good, GoodI, GoodF, GoodC, GoodA}
+use Rattle.laws.specs.Good.{Pass, GoodS, GoodL, Good, GoodI, GoodF, GoodC, GoodA}
 
 pub r-u16 : (n : ℕ) (r : List ℕ) → u16 (wU16 n r) ≡ ok n r
 unfolding u16 wU16

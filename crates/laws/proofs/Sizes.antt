@@ -1,12 +1,12 @@
 -- Sizes add up: what is written in front of a list is as long whatever follows.
-use mathlib.Core.Path.{_≡_, refl, ap, sym, _∙_}
-use mathlib.Core.List.{List, [], _∷_, _++_}
-use Prim.Native.Nat.{ℕ, zero, suc, _+_, _*_, _/_, _%_}
+use mathlib.Core.Path.{_≡_}
+use mathlib.Core.List.{List, [], _∷_, _++_, map}
+use Prim.Native.Nat.{ℕ, _+_, _*_}
 use native.Mathlib.Omega.{arith}
 use lib.ListN.{length, length-append}
-use Rattle.definition.specs.Tree.{Name, Text, Leaf, constraint-int, constraint-enum, bits, enum, tail, nothing, never, Len, Shell, wrap, vec, option, array, Selector, none, by, CaseKind, enums, ints, arrays, FieldKind, ordinary, dependent, Combinator, plain, chained, Inner, leaf, struct, choice, shell, bytes, invocation, macro-invocation, Fields, no-field, field, const, Cases, no-case, case, Inners, no-inner, inner, Param, Definition, format, constant, byte-order, macro}
-use Rattle.definition.specs.Write.{wU16, wName, wText, wAll, wList, wLen, wSelector, caseByte, wLabel, leafTag, fieldByte, wOpen, wShut, countF, countC, countA, wCombinator, wInner, wFields, wCases, wInners, wParam, wDefinition, kindByte, sizeOf, wEntries, wBook}
+use Rattle.definition.specs.Tree.{Name, Text, Len, Shell, wrap, vec, option, array, Selector, none, by, CaseKind, enums, ints, arrays, FieldKind, Combinator, plain, chained, Inner, leaf, struct, choice, shell, bytes, invocation, macro-invocation, Fields, no-field, field, const, Cases, no-case, case, Inners, no-inner, inner, Param, Definition, format, constant, byte-order, macro}
+use Rattle.definition.specs.Write.{wU16, wName, wText, wAll, wList, wLen, wSelector, caseByte, wLabel, wOpen, wShut, countF, countC, countA, wCombinator, wInner, wFields, wCases, wInners, wParam, wDefinition, sizeOf, wEntries, wParts, entryOf, wBook}
 use Rattle.definition.specs.Size.{size, sizeBook}
 
 -- as long as alone, and what follows
 abbrev pub Adds : (List ℕ → List ℕ) → Type 0
@@ -172,8 +172,8 @@ unfolding room
 room-append [] b = omega arith
 room-append (d ∷ a) b = omega (arith, room-append a b)
 
-a-entries : (at : ℕ) (ds : List Definition) (r : List ℕ) → length (wEntries at ds r) ≡ 6 * length ds + length r
-unfolding wEntries wU16
+a-entries : (at : ℕ) (ds : List Definition) (r : List ℕ) → length (wEntries at (map entryOf ds) r) ≡ 6 * length ds + length r
+unfolding wEntries wU16 entryOf
 a-entries at [] r = omega arith
 a-entries at (d ∷ ds) r = omega (arith, a-entries (at + sizeOf d) ds r)
 
@@ -183,5 +183,5 @@ a-bodies [] = omega arith
 a-bodies (d ∷ ds) = omega (arith, a-defn d (wAll wDefinition ds []), a-bodies ds)
 
 pub size-book : (ds : List Definition) → sizeBook ds ≡ 2 + room ds
-unfolding sizeBook wBook wU16
-size-book ds = omega (arith, a-entries (2 + 6 * length ds) ds (wAll wDefinition ds []), a-bodies ds)
+unfolding sizeBook wBook wParts wU16
+size-book ds = omega (arith, a-entries (2 + 6 * length (map entryOf ds)) ds (wAll wDefinition ds []), a-bodies ds)

@@ -1,10 +1,10 @@
 -- What is written in front of a list is the same whatever follows.
-use mathlib.Core.Path.{_≡_, refl, ap, sym, _∙_}
+use mathlib.Core.Path.{_≡_, refl, ap, _∙_}
 use mathlib.Core.List.{List, [], _∷_, _++_, append-assoc}
 use Prim.Native.Nat.{ℕ}
 use lib.ListN.{length}
-use Rattle.definition.specs.Tree.{Name, Text, Leaf, constraint-int, constraint-enum, bits, enum, tail, nothing, never, Len, Shell, wrap, vec, option, array, Selector, none, by, CaseKind, enums, ints, arrays, FieldKind, ordinary, dependent, Combinator, plain, chained, Inner, leaf, struct, choice, shell, bytes, invocation, macro-invocation, Fields, no-field, field, const, Cases, no-case, case, Inners, no-inner, inner, Param, Definition, format, constant, byte-order, macro}
+use Rattle.definition.specs.Tree.{Name, Text, Len, Shell, wrap, vec, option, array, Selector, none, by, CaseKind, enums, ints, arrays, Combinator, plain, chained, Inner, leaf, struct, choice, shell, bytes, invocation, macro-invocation, Fields, no-field, field, const, Cases, no-case, case, Inners, no-inner, inner, Param, Definition, format, constant, byte-order, macro}
 use Rattle.definition.specs.Write.{wU16, wName, wText, wAll, wList, wLen, wSelector, wLabel, wOpen, wShut, wCombinator, wInner, wFields, wCases, wInners, wParam, wDefinition}
 
 abbrev pub Splits : (List ℕ → List ℕ) → Type 0
 Splits w = (a b : List ℕ) → w (a ++ b) ≡ w a ++ b

@@ -1,23 +1,16 @@
 -- The table of well-formed byte sequences says the same as the encodings of scalar values.
-use mathlib.Core.Path.{_≡_, refl, ap, sym, _∙_}
+use mathlib.Core.Path.{_≡_, refl, ap, _∙_}
 use mathlib.Core.Logic.{_⊎_, inl, inr, ⊎-elim}
 use mathlib.Core.List.{List, [], _∷_, _++_}
-use mathlib.Core.Bool.{Bool, true, false, cond, _&&_, _||_}
+use mathlib.Core.Bool.{true, false, _&&_}
 use Prim.Native.Nat.{ℕ, zero, suc, _+_, _*_, _-_, _/_, _%_, _≤_, _<_}
 use native.Mathlib.Omega.{arith}
 use native.Mathlib.Nat.{not-suc-le-zero}
 use lib.Dec.{eqb, leb, ltb}
 use lib.ListN.{length}
-use borrow.Author.Tests.{ltb-true, ltb-false, leb-true, leb-false, eqb-true, eqb-false, lt-ltb, le-ltb, le-leb, lt-leb, eq-eqb, ne-eqb}
-use Rattle.definition.specs.Utf8.{scalar, encode, Utf8, none, more, Range, inside, behind, characters, wellFormed}
-
-yes-no : (b : Bool) → (b ≡ true) ⊎ (b ≡ false)
-yes-no true = inl refl
-yes-no false = inr refl
-
-both : (a b : Bool) → a && b ≡ true → (a ≡ true) × (b ≡ true)
-both true b h = (refl, h)
-both false b h = let z : _≡_ {A = ℕ} 0 1 = cc in absurd (omega arith)
+use borrow.Author.Tests.{ltb-true, ltb-false, leb-true, eqb-true, eqb-false, lt-ltb, le-ltb, le-leb, ne-eqb}
+use Rattle.laws.proofs.Tests.{yes-no, both-true}
+use Rattle.definition.specs.Utf8.{scalar, encode, Utf8, none, more, Range, behind, characters, wellFormed}
 
 -- a scalar value is no surrogate and at most 0x10FFFF
 module _ (c : ℕ) where
@@ -35,7 +28,7 @@ module _ (c : ℕ) where
       (λ (p : ltb c 55296 ≡ true). inl (ltb-true c 55296 p))
       (λ (p : ltb c 55296 ≡ false).
       let q : leb 57344 c && leb c 1114111 ≡ true = rw p at e in
-      let w = both (leb 57344 c) (leb c 1114111) q in
+      let w = both-true (leb 57344 c) (leb c 1114111) q in
       inr (leb-true 57344 c (w .0), leb-true c 1114111 (w .1)))
       (yes-no (ltb c 55296))
 
@@ -183,8 +176,8 @@ eat : {X : Type 0} (l h : ℕ) (rs : List Range) (s : List ℕ) → characters (
 unfolding characters
 eat l h rs [] e go = let z : _≡_ {A = ℕ} 0 1 = cc in absurd (omega arith)
 eat l h rs (b ∷ t) e go =
-    let w = both (leb l b && leb b h) (characters rs t) e in
-    let v = both (leb l b) (leb b h) (w .0) in
+    let w = both-true (leb l b && leb b h) (characters rs t) e in
+    let v = both-true (leb l b) (leb b h) (w .0) in
     go b t refl (leb-true l b (v .0)) (leb-true b h (v .1)) (w .1)
 
 -- bytes in their ranges are the encoding of a scalar value
