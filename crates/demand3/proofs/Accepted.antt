@@ -2,38 +2,18 @@
 use mathlib.Core.Path.{_≡_, refl}
 use mathlib.Core.List.{List}
 use Prim.Native.Nat.{ℕ, _≤_}
-use native.Mathlib.Omega.{arith}
 use lib.Dec.{leb}
 use lib.ListN.{length}
 use borrow.Author.Tests.{leb-true}
-use Rattle.definition.specs.Code.{Code, number, work-short, book-long, not-a-book, bad-name, too-deep, macro-growth, leftover-macro, no-binder, name-long, result-long, output-short}
-use Rattle.definition.specs.Out.{Out, refused, done, given}
+use Rattle.definition.specs.Code.{work-short, output-short}
+use Rattle.definition.specs.Out.{done, given}
 use Rattle.definition.specs.Tree.{Definition}
 use Rattle.definition.specs.Write.{wBook}
 use Rattle.definition.specs.Answer.{Result, all, expanded, elaborated, Answer, answered, attempt, answer}
+use Rattle.laws.proofs.Laws.{code-done}
 use Rattle.laws.proofs.Steps.{did-out, did-given}
 use Rattle.demand3.specs.Demand3.{Demand3}
 use Rattle.demand3.proofs.Demand3.{demand3}
-
--- no code of the table is 0
-positive : {X : Type 0} (k : Code) → number k ≡ 0 → X
-unfolding number
-positive work-short e = absurd (omega arith)
-positive book-long e = absurd (omega arith)
-positive not-a-book e = absurd (omega arith)
-positive bad-name e = absurd (omega arith)
-positive too-deep e = absurd (omega arith)
-positive macro-growth e = absurd (omega arith)
-positive leftover-macro e = absurd (omega arith)
-positive no-binder e = absurd (omega arith)
-positive name-long e = absurd (omega arith)
-positive result-long e = absurd (omega arith)
-positive output-short e = absurd (omega arith)
-
-code-done : {X : Type 0} (m : Out Result) → answered m .code ≡ 0 → ((a : Result) → m ≡ done a → X) → X
-unfolding answered
-code-done (refused k) e go = positive k e
-code-done (done a) e go = go a refl
 
 -- an answer of code 0: the list it comes from, the result, and demand 3
 pub record Accepted (book : List ℕ) (outLength : ℕ) (a : Answer) : Type 0 where

@@ -2,17 +2,13 @@
 use mathlib.Core.Path.{_≡_, refl, sym, _∙_}
 use mathlib.Core.Logic.{⊎-elim}
 use mathlib.Core.List.{List, [], _∷_, _++_}
-use mathlib.Core.Bool.{Bool, true, false, _&&_, cond}
-use native.Mathlib.Omega.{arith}
-use lib.Dec.{eqb}
-use borrow.Author.Tests.{eqb-true, eq-eqb, ne-eqb, ltb-true, lt-ltb}
+use mathlib.Core.Bool.{Bool, true, false, _&&_}
 use Rattle.definition.specs.Tree.{Name, FieldKind, ordinary, dependent, Combinator, plain, chained, Inner, leaf, struct, choice, shell, bytes, invocation, macro-invocation, Fields, no-field, field, const, Cases, no-case, case}
-use Rattle.definition.specs.Names.{eqName, elem, remove, before, insert, sorted}
+use Rattle.definition.specs.Names.{eqName, elem, remove, sorted}
 use Rattle.definition.specs.Collect.{bytesOrTail, selectorUses, shellUses, unbound, free, freeI, freeF, freeC}
 use Rattle.definition.specs.Bodies.{chainsOk, chainsOkI, chainsOkF, chainsOkC}
 use Rattle.demand3.specs.Shortest.{each, binds, covered, coveredI, coveredF, coveredC, Shortest}
-use Rattle.laws.specs.Lists.{Distinct}
-use Rattle.laws.proofs.Order.{Ascending, sorted-ascends}
+use Rattle.laws.proofs.Order.{elem-sorted, sorted-distinct}
 use Rattle.laws.proofs.FreshName.{eqName-true, eqName-refl}
 use Rattle.laws.proofs.Elem.{elem-here, elem-there}
 use Rattle.laws.proofs.Tests.{yes-no, not-both, both-true}
@@ -72,37 +68,6 @@ mutual
       let p = both-true (chainsOk c) (chainsOkC f) h in
       rw (each-append (free c) (freeC f) ns, cover c (p .0) ns, coverC f (p .1) ns)
 
--- sorting keeps the names
-elem-swap : (p m n : Name) (l : List Name) → elem p (m ∷ n ∷ l) ≡ elem p (n ∷ m ∷ l)
-unfolding elem
-elem-swap p m n l = by-tests (eqName p m) (eqName p n) (elem p l)
-  where
-    by-tests : (a b c : Bool) → cond a true (cond b true c) ≡ cond b true (cond a true c)
-    by-tests true true c = refl
-    by-tests true false c = refl
-    by-tests false true c = refl
-    by-tests false false c = refl
-
-elem-put : (p n : Name) (l : List Name) → elem p (insert n l) ≡ elem p (n ∷ l)
-unfolding insert elem
-elem-put p n [] = refl
-elem-put p n (m ∷ l) = ⊎-elim
-    (λ (q : eqName n m ≡ true). let e = eqName-true n m q in rw (q, e) (twice (eqName p m) (elem p l)))
-    (λ (q : eqName n m ≡ false). ⊎-elim
-    (λ (r : before n m ≡ true). rw (q, r))
-    (λ (r : before n m ≡ false). rw (q, r, elem-put p n l) (elem-swap p m n l))
-    (yes-no (before n m)))
-    (yes-no (eqName n m))
-  where
-    twice : (a c : Bool) → cond a true c ≡ cond a true (cond a true c)
-    twice true c = refl
-    twice false c = refl
-
-pub elem-sorted : (p : Name) (l : List Name) → elem p (sorted l) ≡ elem p l
-unfolding sorted elem
-elem-sorted p [] = refl
-elem-sorted p (n ∷ l) = rw (elem-put p n (sorted l), elem-sorted p l)
-
 elem-remove : (p : Name) (l : List Name) → elem p (remove p l) ≡ false
 unfolding remove elem
 elem-remove p [] = refl
@@ -128,50 +93,9 @@ each-false p (u ∷ us) ns h f = ⊎-elim
     and-false true = refl
     and-false false = refl
 
--- the sorted list names each once
-irreflexive : (a : Name) → before a a ≡ false
-unfolding before
-irreflexive [] = refl
-irreflexive (x ∷ a) = rw (eq-eqb x x refl) (irreflexive a)
-
-passes : (a b c : Name) → before a b ≡ true → before b c ≡ true → before a c ≡ true
-unfolding before
-passes [] [] c p q = not-both false p refl
-passes [] (y ∷ b) [] p q = q
-passes [] (y ∷ b) (z ∷ c) p q = refl
-passes (x ∷ a) [] c p q = not-both false p refl
-passes (x ∷ a) (y ∷ b) [] p q = q
-passes (x ∷ a) (y ∷ b) (z ∷ c) p q = ⊎-elim
-    (λ (e : eqb x y ≡ true). let f = eqb-true x y e in
-    ⊎-elim
-    (λ (g : eqb y z ≡ true). let h = eqb-true y z g in rw (eq-eqb x z (f ∙ h)) (passes a b c (rw e at p) (rw g at q)))
-    (λ (g : eqb y z ≡ false). rw (f, g) (rw g at q))
-    (yes-no (eqb y z)))
-    (λ (e : eqb x y ≡ false).
-    let f = ltb-true x y (rw e at p) in
-    ⊎-elim
-    (λ (g : eqb y z ≡ true). let h = eqb-true y z g in rw (← h, e) (rw e at p))
-    (λ (g : eqb y z ≡ false). let h = ltb-true y z (rw g at q) in rw (ne-eqb x z (λ w. absurd (omega arith))) (lt-ltb x z (omega arith)))
-    (yes-no (eqb y z)))
-    (yes-no (eqb x y))
-
-unlike : (a b : Name) → before a b ≡ true → eqName a b ≡ false
-unlike a b p = ⊎-elim (λ (e : eqName a b ≡ true). let f = eqName-true a b e in not-both (before b b) (rw f at p) (irreflexive b)) (λ (e : eqName a b ≡ false). e) (yes-no (eqName a b))
-
-behind : (n : Name) (l : List Name) → Ascending (n ∷ l) → elem n l ≡ false
-unfolding elem
-behind n [] h = refl
-behind n (m ∷ []) h = rw (unlike n m (h .0))
-behind n (m ∷ x ∷ l) h = rw (unlike n m (h .0)) (behind n (x ∷ l) (passes n m x (h .0) (h .1 .0), h .1 .1))
-
-once : (l : List Name) → Ascending l → Distinct l
-once [] h = tt
-once (n ∷ []) h = (behind n [] h, tt)
-once (n ∷ m ∷ l) h = (behind n (m ∷ l) h, once (m ∷ l) (h .1))
-
 pub shortest : (c : Combinator) → chainsOk c ≡ true → Shortest (sorted (free c)) c
 shortest c h = record {
-  once = once (sorted (free c)) (sorted-ascends (free c));
+  once = sorted-distinct (free c);
   enough = cover c h (sorted (free c)) ∙ each-true (free c) (sorted (free c)) (λ p q. elem-sorted p (free c) ∙ q);
   needed = λ p q. cover c h (remove p (sorted (free c))) ∙ each-false p (free c) (remove p (sorted (free c))) (sym (elem-sorted p (free c)) ∙ q) (elem-remove p (sorted (free c)));
 }

@@ -1,19 +1,17 @@
 -- A result is a book within the limits that reads as what was written, and elaborated again it stays the same.
-use mathlib.Core.Path.{_≡_, refl, sym, _∙_}
+use mathlib.Core.Path.{_≡_, refl, _∙_}
 use mathlib.Core.List.{List, [], _∷_, _++_, append-nil}
 use mathlib.Core.Bool.{true, false}
 use Prim.Native.Nat.{ℕ, suc, _≤_}
-use native.Mathlib.Omega.{arith}
 use lib.Dec.{leb}
 use lib.ListN.{length}
 use borrow.Author.Tests.{le-leb}
-use Rattle.definition.specs.Code.{book-long}
 use Rattle.definition.specs.Res.{Res, bad, ok}
-use Rattle.definition.specs.Out.{done, given}
+use Rattle.definition.specs.Out.{done}
 use Rattle.definition.specs.Tree.{Name, Leaf, constraint-int, constraint-enum, bits, enum, tail, nothing, never, CaseKind, Combinator, plain, chained, Inner, leaf, struct, choice, shell, bytes, invocation, macro-invocation, Fields, no-field, field, const, Cases, no-case, case, Param, Definition, format, constant, byte-order, macro}
 use Rattle.definition.specs.Names.{child, segment, caseSegment, shellSegment}
 use Rattle.definition.specs.Collect.{anonymousLeaf, anonymous, anonymousI}
-use Rattle.definition.specs.Contents.{book, readBook}
+use Rattle.definition.specs.Contents.{book}
 use Rattle.definition.specs.Write.{wBook}
 use Rattle.definition.specs.Size.{sizeBook, levelsBook}
 use Rattle.definition.specs.Macros.{Macro, macros, expandMacro, expand, expandI, expandF, expandC, expandAll, expandList, expandBook}
@@ -21,21 +19,14 @@ use Rattle.demand3.specs.Flat.{CalmLeaf, Calm, CalmI, CalmF, CalmC, Flat
 use Rattle.definition.specs.Lift.{full, State, Walk, childBy, bind, walk, walkI, walkF, walkC, walkAll, start, liftBook}
 use Rattle.definition.specs.Answer.{Result, all, out, outcome, source, expanded, elaborated, answered, attempt, answer}
 use Rattle.laws.specs.Lists.{NoMacro}
-use Rattle.laws.proofs.Steps.{did, no-done, did-out, did-given}
-use Rattle.laws.proofs.Inverse.{Bytes}
-use Rattle.laws.proofs.BookInverse.{i-book}
-use Rattle.laws.proofs.BookRoundTrip.{r-book}
+use Rattle.laws.specs.Book.{Bytes, IsBook}
+use Rattle.laws.proofs.Laws.{written-is-read, expanded-book, elaborated-book}
+use Rattle.laws.proofs.Steps.{yielded, did, no-done, did-out}
 use Rattle.demand3.proofs.Walked.{walkedAll}
-use Rattle.laws.proofs.Measure.{within-limits}
-use Rattle.laws.proofs.Sound.{FineAll, result-fine}
-use Rattle.laws.proofs.ReadGood.{g-book}
-use Rattle.laws.proofs.ExpandGood.{expand-good}
 
 -- a list that an elaboration can end with
 pub record Ends (ds : List Definition) : Type 0 where
-  pub short : sizeBook ds ≤ 16384
-  pub few : length ds ≤ 512
-  pub fine : FineAll ds
+  pub book : IsBook ds
   pub flat : FlatAll ds
   pub formats : NoMacro ds
 
@@ -68,49 +59,24 @@ flat-append (constant n x ∷ a) b f g = flat-append a b f g
 flat-append (byte-order x ∷ a) b f g = flat-append a b f g
 flat-append (macro n ps c ∷ a) b f g = flat-append a b f g
 
-lifted-ends : (ds es : List Definition) (t : State) → walkAll full ds (start ds) ≡ ok es t → sizeBook ds ≤ 16384 → length ds ≤ 512 → FineAll ds → NoMacro ds → Ends (es ++ t .made)
-unfolding start
-lifted-ends ds es t e p q f m =
-    let w = within-limits ds es t e p q in
-    let z = walkedAll ds (start ds) es t e in
-    record {
-      short = w .0;
-      few = w .1;
-      fine = result-fine ds es t e f;
-      flat = flat-append es (t .made) (z .1) (z .0 .flat tt);
-      formats = formats-append es (t .made) (pure-all ds (start ds) es t e m) (z .0 .formats tt);
-    }
-
-outcome-ends : (ds : List Definition) (r : Result) (m : Res State (List Definition)) → walkAll full ds (start ds) ≡ m → outcome m ≡ done r → sizeBook ds ≤ 16384 → length ds ≤ 512 → FineAll ds → NoMacro ds → Ends (all r)
-unfolding outcome
-outcome-ends ds r (bad k s) w e p q f m = no-done e
-outcome-ends ds r (ok es t) w e p q f m = let x : record { kept = es; lifted = t .made } ≡ r = cc in rw (← x) (lifted-ends ds es t w p q f m)
-
-out-ok : {S A X : Type 0} (m : Res S A) (x : A) → out m ≡ done x → ((s : S) → m ≡ ok x s → X) → X
-unfolding out
-out-ok (bad k s) x e go = no-done e
-out-ok (ok a s) x e go = let p : a ≡ x = cc in go s (rw p)
-
-read-is : (s : List ℕ) → readBook s ≡ book 6 s
-unfolding readBook
-read-is s = refl
-
 -- every result that comes of bytes
-pub ends : (s : List ℕ) → Bytes s → (r : Result) → elaborated s ≡ done r → Ends (all r)
-unfolding elaborated expanded source liftBook
-ends s h r e = did-out (expanded s) _ r e λ ds e₁ e₂.
-    did-out (source s) _ ds e₁ λ src e₃ e₄.
-    did-out (given (leb (length s) 16384) book-long s) _ src e₃ λ b e₅ e₆.
-    let p : s ≡ b = did-given (leb (length s) 16384) book-long s b e₅ .1 in
-    out-ok (readBook b) src e₆ λ z e₇.
-    let f : book 6 s ≡ ok src z = rw p (sym (read-is b) ∙ e₇) in
-    let w = i-book s h src z f in
-    let x = expand-good src ds (g-book 6 s src z f .good) e₄ in
-    outcome-ends ds r (walkAll full ds (start ds)) refl e₂ (x .short) (omega (arith, x .fewer, w .few)) (x .fine) (x .none)
+record Calmed (r : Result) : Type 0 where
+  flat : FlatAll (all r)
+  formats : NoMacro (all r)
 
--- it reads as what was written
-pub reads-back : (ds : List Definition) → Ends ds → book 6 (wBook ds) ≡ ok ds []
-reads-back ds e = r-book ds (e .few) (e .fine .good) (e .fine .deep)
+calmed : (ds : List Definition) → NoMacro ds → (m : Res State (List Definition)) → walkAll full ds (start ds) ≡ m → (r : Result) → outcome m ≡ done r → Calmed r
+unfolding outcome start
+calmed ds f (bad k s) w r e = no-done e
+calmed ds f (ok es t) w r e =
+    let x : record { kept = es; lifted = t .made } ≡ r = cc in
+    let z = walkedAll ds (start ds) es t w in
+    rw (← x) (record { flat = flat-append es (t .made) (z .1) (z .0 .flat tt); formats = formats-append es (t .made) (pure-all ds (start ds) es t w f) (z .0 .formats tt) })
+
+pub ends : (s : List ℕ) → Bytes s → (r : Result) → elaborated s ≡ done r → Ends (all r)
+unfolding elaborated liftBook
+ends s h r e = did-out (expanded s) _ r e λ ds e₁ e₂.
+    let c = calmed ds (yielded (expanded-book s h) e₁ .1) (walkAll full ds (start ds)) refl r e₂ in
+    record { book = yielded (elaborated-book s h) e; flat = c .flat; formats = c .formats }
 
 -- nothing is expanded in it
 mutual
@@ -161,8 +127,8 @@ expand-says ds = refl
 expand-again : (ds : List Definition) → Ends ds → expandBook ds ≡ done ds
 unfolding expandList
 expand-again ds e =
-    let a : leb (sizeBook ds) 16384 ≡ true = le-leb (sizeBook ds) 16384 (e .short) in
-    let b : leb (levelsBook ds) 64 ≡ true = le-leb (levelsBook ds) 64 (e .fine .deep) in
+    let a : leb (sizeBook ds) 16384 ≡ true = le-leb (sizeBook ds) 16384 (e .book .short) in
+    let b : leb (levelsBook ds) 64 ≡ true = le-leb (levelsBook ds) 64 (e .book .deep) in
     expand-says ds ∙ rw (no-macros ds [] (e .formats), same-all ds (e .formats), a, b)
 
 -- nothing is lifted out of it
@@ -251,8 +217,8 @@ lift-says ds = refl
 source-again : (ds : List Definition) → Ends ds → source (wBook ds) ≡ done ds
 unfolding source out sizeBook
 source-again ds e =
-    let a : leb (length (wBook ds)) 16384 ≡ true = le-leb (length (wBook ds)) 16384 (e .short) in
-    rw (a, read-is (wBook ds), reads-back ds e)
+    let a : leb (length (wBook ds)) 16384 ≡ true = le-leb (length (wBook ds)) 16384 (e .book .short) in
+    rw (a, written-is-read ds (e .book) .1)
 
 expanded-again : (ds : List Definition) → Ends ds → expanded (wBook ds) ≡ done ds
 unfolding expanded

@@ -1,4 +1,4 @@
--- A book that is read is written back byte for byte.
+-- A book that was read is what is written, and holds what a book can hold.
 use mathlib.Core.Path.{_≡_, refl, ap, sym, _∙_}
 use mathlib.Core.List.{List, [], _∷_, _++_, map}
 use mathlib.Core.Bool.{_&&_}
@@ -7,165 +7,89 @@ use native.Mathlib.Omega.{arith}
 use lib.Dec.{eqb, leb}
 use lib.ListN.{length, length-map}
 use borrow.Author.Tests.{eqb-true, leb-true}
-use Rattle.definition.specs.Code.{not-a-book}
-use Rattle.definition.specs.Res.{Res, bad, ok}
-use Rattle.definition.specs.Tree.{Kind, isFormat, isConstant, isByteOrder, isMacro, Entry, Param, Definition, format, constant, byte-order, macro}
-use Rattle.definition.specs.Read.{u16, part, text, undotted, byte, nameBy, namesBy, name, oneOf, combinator, arg, params, kinds, definition}
+use Rattle.definition.specs.Res.{Res}
+use Rattle.definition.specs.Tree.{Entry, Definition}
+use Rattle.definition.specs.Read.{kinds}
 use Rattle.definition.specs.Contents.{entry, entries, contents, Body, cut, atEnd, whole, within, bodies, count, book}
-use Rattle.definition.specs.Write.{wU16, wName, wAll, wList, wInner, wParam, wDefinition, kindOf, kindByte, sizeOf, wEntries, wParts, entryOf, wBook}
-use Rattle.laws.proofs.Steps.{no-ok, did, did-from, did-require}
-use Rattle.laws.proofs.Inverse.{Bytes, Is, i-u16, i-part, i-text, i-byte, i-name, i-names, i-oneOf, Inverts, i-both}
+use Rattle.definition.specs.Write.{wU16, wAll, wDefinition, kindOf, kindByte, sizeOf, wEntries, wParts, entryOf, wBook}
+use Rattle.definition.specs.Size.{levelsBook}
+use Rattle.laws.specs.Book.{Bytes, GoodAll}
 use Rattle.laws.proofs.Tests.{both-true}
+use Rattle.laws.proofs.Steps.{Gives, refusal, value, then, so, ask, inside}
+use Rattle.laws.proofs.Inverse.{Reads, i-u16, i-part, i-byte, i-oneOf, i-definition}
 use Rattle.laws.proofs.Splits.{s-definition}
+use Rattle.laws.proofs.Levels.{levels-append}
 
-i-params : (n : ℕ) (s : List ℕ) → Bytes s → (x : List Param) (r : List ℕ) → params n s ≡ ok x r → Is s (wAll wParam x r) r × (length x ≡ n)
-unfolding params wAll wParam Inverts name
-i-params zero s h x r e = let p : [] ≡ x = cc in let q : s ≡ r = cc in (record { same = rw (← p) q; small = rw q at h }, rw (← p))
-i-params (suc n) s h x r e = did (nameBy undotted s) _ x r e λ l t d g.
-    let u = i-name undotted s h l t d in
-    did (arg 64 t) _ x r g λ i v d₂ g₂.
-    let w = i-both 64 .args t (u .small) i v d₂ in
-    did (params n v) _ x r g₂ λ ps v₃ d₃ g₃.
-    let w₃ = i-params n v (w .small) ps v₃ d₃ in
-    let p : record { name = l; type = i } ∷ ps ≡ x = cc in
-    let q : v₃ ≡ r = cc in
-    (record { same = rw (← p, ← q) (u .same ∙ ap (wName l) (w .same) ∙ ap (λ (z : List ℕ). wName l (wInner i z)) (w₃ .0 .same)); small = rw q at (w₃ .0 .small) }, rw (← p) (ap suc (w₃ .1)))
-
-i-definition : (k : Kind) (s : List ℕ) → Bytes s → (d : Definition) (r : List ℕ) → definition k s ≡ ok d r → Is s (wDefinition d r) r × (kindOf d ≡ k)
-unfolding definition wDefinition wList kindOf name Inverts
-i-definition isFormat s h x r e = did (nameBy undotted s) _ x r e λ l v d g.
-    let u = i-name undotted s h l v d in
-    did (u16 v) _ x r g λ n v₂ d₂ g₂.
-    let u₂ = i-u16 v (u .small) n v₂ d₂ in
-    did (params n v₂) _ x r g₂ λ ps v₃ d₃ g₃.
-    let w = i-params n v₂ (u₂ .small) ps v₃ d₃ in
-    did (combinator 64 v₃) _ x r g₃ λ c v₄ d₄ g₄.
-    let w₄ = i-both 64 .combs v₃ (w .0 .small) c v₄ d₄ in
-    let p : format l ps c ≡ x = cc in
-    let q : v₄ ≡ r = cc in
-    (record { same = rw (← p, ← q, u .same, u₂ .same, w .0 .same, w₄ .same, w .1); small = rw q at (w₄ .small) }, rw (← p))
-i-definition isConstant s h x r e = did (nameBy undotted s) _ x r e λ l v d g.
-    let u = i-name undotted s h l v d in
-    did (text v) _ x r g λ y v₂ d₂ g₂.
-    let w = i-text v (u .small) y v₂ d₂ in
-    let p : constant l y ≡ x = cc in
-    let q : v₂ ≡ r = cc in
-    (record { same = rw (← p, ← q, u .same, w .same); small = rw q at (w .small) }, rw (← p))
-i-definition isByteOrder s h x r e = did (text s) _ x r e λ y v d g.
-    let w = i-text s h y v d in
-    let p : byte-order y ≡ x = cc in
-    let q : v ≡ r = cc in
-    (record { same = rw (← p, ← q, w .same); small = rw q at (w .small) }, rw (← p))
-i-definition isMacro s h x r e = did (nameBy undotted s) _ x r e λ l v d g.
-    let u = i-name undotted s h l v d in
-    did (u16 v) _ x r g λ n v₂ d₂ g₂.
-    let u₂ = i-u16 v (u .small) n v₂ d₂ in
-    did (namesBy undotted n v₂) _ x r g₂ λ ps v₃ d₃ g₃.
-    let w = i-names undotted n v₂ (u₂ .small) ps v₃ d₃ in
-    did (combinator 64 v₃) _ x r g₃ λ c v₄ d₄ g₄.
-    let w₄ = i-both 64 .combs v₃ (w .0 .small) c v₄ d₄ in
-    let p : macro l ps c ≡ x = cc in
-    let q : v₄ ≡ r = cc in
-    (record { same = rw (← p, ← q, u .same, u₂ .same, w .0 .same, w₄ .same, w .1); small = rw q at (w₄ .small) }, rw (← p))
-
--- a body read to its end
-i-end : {A : Type 0} (a : A) (s : List ℕ) (x : A) (r : List ℕ) → atEnd a s ≡ ok x r → (s ≡ []) × (a ≡ x)
+i-end : {A : Type 0} (P : A → List ℕ → Type 0) (a : A) (s : List ℕ) → P a s → Gives (λ x r. P x []) (atEnd a s)
 unfolding atEnd
-i-end a [] x r e = (refl, cc)
-i-end a (b ∷ s) x r e = no-ok e
+i-end P a [] p = value p
+i-end P a (b ∷ s) p = refusal
 
-pub i-whole : {A : Type 0} (m : Res (List ℕ) A) (x : A) (r : List ℕ) → whole m ≡ ok x r → m ≡ ok x []
-unfolding whole
-i-whole m x r e = did m _ x r e λ a s d g. let w = i-end a s x r g in rw (← (w .1), ← (w .0)) d
+module _ {A : Type 0} {P : A → List ℕ → Type 0} where
+  i-whole : {m : Res (List ℕ) A} → Gives P m → Gives (λ x r. P x []) (whole m)
+  unfolding whole
+  i-whole g = then g _ λ a s p. i-end P a s p
 
-pub i-within : {A : Type 0} (z : List ℕ) (m : Res (List ℕ) A) (x : A) (r : List ℕ) → within z m ≡ ok x r → m ≡ ok x r
-unfolding within
-i-within z (bad k s) x r e = no-ok e
-i-within z (ok a s) x r e = e
-
--- "kind, a zero byte, u16 offset, u16 length", and what a larger entry has besides
-pub record Read (width at : ℕ) (x : Entry) (s r : List ℕ) : Type 0 where
-  pub is : Is s (wEntries at (x ∷ []) r) r
-  pub wide : length (x .extra) ≡ width - 6
-
-i-entry : (width all at : ℕ) (s : List ℕ) → Bytes s → (x : Entry) (r : List ℕ) → entry width all at s ≡ ok x r → Read width at x s r
-unfolding entry wEntries
-i-entry width all at s h x r e = did (oneOf kinds s) _ x r (did-from s _ x r e) λ k v d g.
-    let u = i-oneOf kindByte kinds (unfold kindByte in tt) s h k v d in
-    did (byte v) _ x r g λ z v₂ d₂ g₂.
-    let u₂ = i-byte v (u .small) z v₂ d₂ in
-    did (u16 v₂) _ x r g₂ λ o v₃ d₃ g₃.
-    let u₃ = i-u16 v₂ (u₂ .small) o v₃ d₃ in
-    did (u16 v₃) _ x r g₃ λ n v₄ d₄ g₄.
-    let u₄ = i-u16 v₃ (u₃ .small) n v₄ d₄ in
-    did (part (width - 6) v₄) _ x r g₄ λ y v₅ d₅ g₅.
-    let u₅ = i-part (width - 6) v₄ (u₄ .small) y v₅ d₅ in
-    let w = did-require (eqb z 0 && eqb o at && leb (at + n) all) not-a-book v₅ _ x r g₅ in
-    let t₁ = both-true (eqb z 0 && eqb o at) (leb (at + n) all) (w .0) in
-    let t₂ = both-true (eqb z 0) (eqb o at) (t₁ .0) in
-    let z₀ : z ≡ 0 = eqb-true z 0 (t₂ .0) in
-    let o₀ : o ≡ at = eqb-true o at (t₂ .1) in
-    let g₆ = w .1 in
-    let p : record { kind = k; size = n; extra = y } ≡ x = cc in
-    let q : v₅ ≡ r = cc in
-    record { is = record { same = rw (← p, ← q, u .same, u₂ .same, u₃ .same, u₄ .same, u₅ .0 .same, z₀, o₀); small = rw q at (u₅ .0 .small) }; wide = rw (← p) (u₅ .1) }
+  i-within : (later : List ℕ) {m : Res (List ℕ) A} → Gives P m → Gives P (within later m)
+  unfolding within
+  i-within later refusal = refusal
+  i-within later (value p) = value p
 
 -- what stands behind the six bytes of each entry is as long as the width says
 abbrev Wide : ℕ → List Entry → Type 0
 Wide width [] = Unit {0}
 Wide width (e ∷ es) = (length (e .extra) ≡ width - 6) × Wide width es
 
-record ReadAll (width n at : ℕ) (x : List Entry) (s r : List ℕ) : Type 0 where
-  is : Is s (wEntries at x r) r
-  wide : Wide width x
-  all : length x ≡ n
+i-entry : (width all at : ℕ) → Reads (entry width all at) (λ x r. wEntries at (x ∷ []) r) (λ x. length (x .extra) ≡ width - 6)
+unfolding entry wEntries kindByte
+i-entry width all at s h = inside s (then (i-oneOf kindByte kinds tt s h) _ λ k v u. then (i-byte v (u .small)) _ λ z v₂ u₂. then (i-u16 v₂ (u₂ .small)) _ λ o v₃ u₃. then (i-u16 v₃ (u₃ .small)) _ λ n v₄ u₄.
+    then (i-part (width - 6) v₄ (u₄ .small)) _ λ x r w. ask (eqb z 0 && eqb o at && leb (at + n) all) _ r _ λ p.
+    let q = both-true (eqb z 0) (eqb o at) (both-true (eqb z 0 && eqb o at) (leb (at + n) all) p .0) in
+    let z₀ : z ≡ 0 = eqb-true z 0 (q .0) in
+    let o₀ : o ≡ at = eqb-true o at (q .1) in
+    value (record { same = rw (u .same, u₂ .same, u₃ .same, u₄ .same, w .same, z₀, o₀); small = w .small; good = w .good .0 }))
 
-i-entries : (width all n at : ℕ) (s : List ℕ) → Bytes s → (x : List Entry) (r : List ℕ) → entries width all n at s ≡ ok x r → ReadAll width n at x s r
+i-entries : (width all n at : ℕ) → Reads (entries width all n at) (wEntries at) (λ x. (length x ≡ n) × Wide width x)
 unfolding entries wEntries
-i-entries width all zero at s h x r e = let p : [] ≡ x = cc in let q : s ≡ r = cc in rw (← p) (record { is = record { same = q; small = rw q at h }; wide = tt; all = refl })
-i-entries width all (suc n) at s h x r e = did (entry width all at s) _ x r e λ y t d g.
-    let u = i-entry width all at s h y t d in
-    did (entries width all n (at + y .size) t) _ x r g λ ys v d₂ g₂.
-    let w = i-entries width all n (at + y .size) t (u .is .small) ys v d₂ in
-    let p : y ∷ ys ≡ x = cc in
-    let q : v ≡ r = cc in
-    rw (← p, ← q) (record { is = record { same = u .is .same ∙ ap (wEntries at (y ∷ [])) (w .is .same); small = w .is .small }; wide = (u .wide, w .wide); all = ap suc (w .all) })
+i-entries width all zero at s h = value (record { same = refl; small = h; good = (refl, tt) })
+i-entries width all (suc n) at s h = then (i-entry width all at s h) _ λ x v u. then (i-entries width all n (at + x .size) v (u .small)) _ λ xs r w.
+    value (record { same = u .same ∙ ap (wEntries at (x ∷ [])) (w .same); small = w .small; good = (ap suc (w .good .0), (u .good, w .good .1)) })
 
--- the bytes of a part are bytes
-part-bytes : (n : ℕ) (s : List ℕ) → Bytes s → (x r : List ℕ) → part n s ≡ ok x r → Bytes x
-unfolding part
-part-bytes zero s h x r e = let p : [] ≡ x = cc in rw (← p) tt
-part-bytes (suc n) [] h x r e = no-ok e
-part-bytes (suc n) (b ∷ s) h x r e = did (part n s) _ x r e λ y t d g.
-    let p : b ∷ y ≡ x = cc in
-    rw (← p) (h .0, part-bytes n s (h .1) y t d)
+-- the bodies stand in s as the entries say, and r follows
+abbrev Cut : List Entry → List Body → List ℕ → List ℕ → Type 0
+Cut [] [] s r = s ≡ r
+Cut [] (b ∷ bs) s r = ⊥
+Cut (e ∷ es) [] s r = ⊥
+Cut (e ∷ es) (b ∷ bs) s r = (b .kind ≡ e .kind) × (length (b .own) ≡ e .size) × Bytes (b .own) × (s ≡ b .own ++ b .later) × Cut es bs (b .later) r
+
+i-cut : (es : List Entry) (s : List ℕ) → Bytes s → Gives (λ bs r. Cut es bs s r) (cut es s)
+unfolding cut
+i-cut [] s h = value refl
+i-cut (e ∷ es) s h = then (i-part (e .size) s h) _ λ x v u. then (i-cut es v (u .small)) _ λ bs r w. value (refl, u .good .0, u .good .1, u .same, w)
 
 -- entries and definitions that belong together
 data Match : List Entry → List Definition → Type 0 where
   done : Match [] []
   more : {e : Entry} {d : Definition} {es : List Entry} {ds : List Definition} → kindOf d ≡ e .kind → sizeOf d ≡ e .size → Match es ds → Match (e ∷ es) (d ∷ ds)
 
-i-bodies : (es : List Entry) (s : List ℕ) → Bytes s → (bs : List Body) (r : List ℕ) → cut es s ≡ ok bs r → (ds : List Definition) (q : List ℕ) → bodies bs ≡ ok ds q → (s ≡ wAll wDefinition ds r) × Match es ds
-unfolding cut bodies wAll sizeOf
-i-bodies [] s h bs r e ds q e₂ =
-    let p : [] ≡ bs = cc in
-    let z : s ≡ r = cc in
-    let e₃ : ok [] [] ≡ ok ds q = rw (← p) at e₂ in
-    let y : [] ≡ ds = cc in
-    rw (← y) (z, done)
-i-bodies (x ∷ es) s h bs r e ds q e₂ = did (part (x .size) s) _ bs r e λ b t d g.
-    did (cut es t) _ bs r g λ bs₂ v d₂ g₂.
-    let p : record { kind = x .kind; own = b; later = t } ∷ bs₂ ≡ bs = cc in
-    let z : v ≡ r = cc in
-    let w = i-part (x .size) s h b t d in
-    let e₃ = rw (← p) at e₂ in
-    did (within t (whole (definition (x .kind) b))) _ ds q e₃ λ y u d₃ g₃.
-    did (bodies bs₂) _ ds q g₃ λ ys u₂ d₄ g₄.
-    let f = i-definition (x .kind) b (part-bytes (x .size) s h b t d) y [] (i-whole _ y u (i-within t _ y u d₃)) in
-    let rest = i-bodies es t (w .0 .small) bs₂ v d₂ ys u₂ d₄ in
-    let k : y ∷ ys ≡ ds = cc in
-    let m : s ≡ wDefinition y (wAll wDefinition ys v) = w .0 .same ∙ ap (λ (l : List ℕ). l ++ t) (f .0 .same) ∙ sym (s-definition y [] t) ∙ ap (wDefinition y) (rest .0) in
-    rw (← k, ← z) (m, more (f .1) (ap length (sym (f .0 .same)) ∙ w .1) (rest .1))
+record Bodies (es : List Entry) (ds : List Definition) (s r : List ℕ) : Type 0 where
+  same : s ≡ wAll wDefinition ds r
+  match : Match es ds
+  good : GoodAll ds
+  deep : levelsBook ds ≤ 64
+
+i-bodies : (es : List Entry) (bs : List Body) (s r : List ℕ) → Cut es bs s r → Gives (λ ds q. Bodies es ds s r) (bodies bs)
+unfolding bodies wAll sizeOf levelsBook
+i-bodies [] [] s r c = value {a = []} (record { same = c; match = done; good = tt; deep = omega arith })
+i-bodies [] (b ∷ bs) s r c = absurd c
+i-bodies (e ∷ es) [] s r c = absurd c
+i-bodies (e ∷ es) (b ∷ bs) s r c = then (i-within (b .later) (i-whole (i-definition (b .kind) (b .own) (c .2)))) _ λ d v u. then (i-bodies es bs (b .later) r (c .4)) _ λ ds q w.
+    value (record {
+      same = rw (c .3, u .same, ← (s-definition d [] (b .later)), w .same);
+      match = more (u .good .kind ∙ c .0) (ap length (sym (u .same)) ∙ c .1) (w .match);
+      good = (u .good .good, w .good);
+      deep = omega (arith, levels-append (d ∷ []) ds, u .good .deep, w .deep);
+    })
 
 -- entries with nothing behind their six bytes are those of the definitions
 nothing-behind : (x : List ℕ) → length x ≡ 6 - 6 → x ≡ []
@@ -179,24 +103,21 @@ match-entries (more {e = e} p q m) w = rw (p, q, ← (match-entries m (w .1)), �
 
 pub record Written (s : List ℕ) (ds : List Definition) : Type 0 where
   pub same : s ≡ wBook ds
+  pub good : GoodAll ds
+  pub deep : levelsBook ds ≤ 64
   pub few : length ds ≤ 512
 
-pub i-book : (s : List ℕ) → Bytes s → (ds : List Definition) (r : List ℕ) → book 6 s ≡ ok ds r → Written s ds
-unfolding book contents count wBook wParts
-i-book s h ds r e = did (contents 6 s) _ ds r e λ es v c g₄.
-    did (count s) _ es v c λ n t d g.
-    did (u16 s) _ n t (did-from s _ n t d) λ m t₂ d₂ g₂.
-    let u = i-u16 s h m t₂ d₂ in
-    let w = did-require (leb m 512) not-a-book t₂ _ n t g₂ in
-    let g₃ = w .1 in
-    let a : m ≡ n = cc in
-    let b : t₂ ≡ t = cc in
-    let x = i-entries 6 (length s) n (2 + 6 * n) t (rw b at (u .small)) es v g in
-    did (whole (cut es v)) _ ds r g₄ λ bs v₂ d₄ g₅.
-    let y = i-bodies es v (x .is .small) bs [] (i-whole (cut es v) bs v₂ d₄) ds r g₅ in
-    let k : es ≡ map entryOf ds = match-entries (y .1) (x .wide) in
-    let l : length ds ≡ n = sym (length-map ds entryOf) ∙ ap length (sym k) ∙ x .all in
-    record {
-      same = rw (← k, x .all) (u .same ∙ rw (a, b) (ap (wU16 n) (x .is .same ∙ ap (wEntries (2 + 6 * n) es) (y .0))));
-      few = let z = leb-true m 512 (w .0) in omega arith;
-    }
+i-count : Reads count wU16 (λ n. n ≤ 512)
+unfolding count
+i-count s h = inside s (then (i-u16 s h) _ λ n r u. ask (leb n 512) _ r _ λ p. value (record { same = u .same; small = u .small; good = leb-true n 512 p }))
+
+i-contents : (width : ℕ) → Reads (contents width) (λ es r. wU16 (length es) (wEntries (2 + width * length es) es r)) (λ es. (length es ≤ 512) × Wide width es)
+unfolding contents
+i-contents width s h = then (i-count s h) _ λ n v u. so (i-entries width (length s) n (2 + width * n) v (u .small)) λ es r w.
+    record { same = rw (w .good .0, u .same, w .same); small = w .small; good = (omega (arith, w .good .0, u .good), w .good .1) }
+
+pub i-book : (s : List ℕ) → Bytes s → Gives (λ ds r. Written s ds) (book 6 s)
+unfolding book wBook wParts
+i-book s h = then (i-contents 6 s h) _ λ es v w. then (i-whole (i-cut es v (w .small))) _ λ bs r c. so (i-bodies es bs v [] c) λ ds q b.
+    let k : es ≡ map entryOf ds = match-entries (b .match) (w .good .1) in
+    record { same = rw (← k, w .same, b .same); good = b .good; deep = b .deep; few = omega (arith, length-map ds entryOf, ap length k, w .good .0) }

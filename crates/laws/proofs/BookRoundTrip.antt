@@ -13,9 +13,10 @@ use Rattle.definition.specs.Read.{part, undotted, byte, name, known, oneOf, com
 use Rattle.definition.specs.Contents.{entry, entries, contents, Body, cut, atEnd, whole, within, bodies, count, book}
 use Rattle.definition.specs.Write.{wU16, wAll, wList, wInner, wParam, wDefinition, kindOf, kindByte, sizeOf, wEntries, wParts, entryOf, wBook}
 use Rattle.definition.specs.Size.{sizeBook, levelsI, levelsP, levelsBook}
-use Rattle.laws.specs.Good.{GoodI, GoodP, GoodD, GoodAll}
+use Rattle.laws.specs.Book.{IsBook, GoodI, GoodP, GoodD, GoodAll}
 use Rattle.laws.proofs.RoundTrip.{r-u16, r-part, r-text, r-name, r-names, r-combinator, r-level}
-use Rattle.laws.proofs.Sizes.{room, size-book}
+use Rattle.laws.proofs.Sizes.{room, size-book, room-least}
+use Rattle.laws.proofs.Levels.{levels-append}
 use Rattle.laws.proofs.Splits.{s-definition}
 
 r-arg : (i : Inner) → GoodI i → (k : ℕ) → suc (levelsI i) ≤ k → (r : List ℕ) → arg k (wInner i r) ≡ ok i r
@@ -28,14 +29,10 @@ unfolding params wAll wParam levelsP
 r-params [] g h r = refl
 r-params (p ∷ ps) g h r = simp (r-name (p .name) (g .0), r-arg (p .type) (g .1 .0) 64 (omega arith) (wAll wParam ps r), r-params ps (g .1 .1) (omega arith) r)
 
-levelsD : Definition → ℕ
-unfolding levelsBook
-levelsD d = levelsBook (d ∷ [])
-
-r-definition : (d : Definition) → GoodD d → levelsD d ≤ 64 → (r : List ℕ) → definition (kindOf d) (wDefinition d r) ≡ ok d r
-unfolding definition kindOf wDefinition wList levelsD levelsBook
+r-definition : (d : Definition) → GoodD d → levelsBook (d ∷ []) ≤ 64 → (r : List ℕ) → definition (kindOf d) (wDefinition d r) ≡ ok d r
+unfolding definition kindOf wDefinition wList levelsBook
 r-definition (format n ps c) g h r = simp (r-name n (g .0), r-u16, r-params ps (g .1 .0) (omega arith), r-combinator c (g .1 .1) 64 (omega arith) r)
-r-definition (constant n x) g h r = simp (r-name n g, r-text)
+r-definition (constant n x) g h r = simp (r-name n (g .0), r-text)
 r-definition (byte-order x) g h r = simp r-text
 r-definition (macro n ps c) g h r = simp (r-name n (g .0), r-u16, r-names undotted ps (g .1 .0), r-combinator c (g .1 .1) 64 (omega arith) r)
 
@@ -49,11 +46,6 @@ r-kind isFormat r = refl
 r-kind isConstant r = refl
 r-kind isByteOrder r = refl
 r-kind isMacro r = refl
-
-room-least : (ds : List Definition) → 6 * length ds ≤ room ds
-unfolding room
-room-least [] = omega arith
-room-least (d ∷ ds) = omega (arith, room-least ds)
 
 r-entries : (all : ℕ) (ds : List Definition) (at : ℕ) → at + room ds ≤ all + 6 * length ds → (r : List ℕ) → entries 6 all (length (map entryOf ds)) at (wEntries at (map entryOf ds) r) ≡ ok (map entryOf ds) r
 unfolding entries entry entryOf wEntries byte part room
@@ -70,19 +62,12 @@ r-cut (d ∷ ds) =
     let p : part (length (wDefinition d [])) (wDefinition d (wAll wDefinition ds [])) ≡ ok (wDefinition d []) (wAll wDefinition ds []) = ap (part (length (wDefinition d []))) (s-definition d [] (wAll wDefinition ds [])) ∙ r-part (wDefinition d []) (wAll wDefinition ds []) in
     rw (p, r-cut ds)
 
-levels-cons : (d : Definition) (ds : List Definition) → (levelsD d ≤ levelsBook (d ∷ ds)) × (levelsBook ds ≤ levelsBook (d ∷ ds))
-unfolding levelsD levelsBook
-levels-cons (format n ps c) ds = (omega arith, omega arith)
-levels-cons (constant n x) ds = (omega arith, omega arith)
-levels-cons (byte-order x) ds = (omega arith, omega arith)
-levels-cons (macro n ps c) ds = (omega arith, omega arith)
-
 r-bodies : (ds : List Definition) → GoodAll ds → levelsBook ds ≤ 64 → bodies (bodiesOf ds) ≡ ok ds []
 unfolding bodies bodiesOf within whole atEnd
 r-bodies [] g h = refl
 r-bodies (d ∷ ds) g h =
-    let w = levels-cons d ds in
-    simp (r-definition d (g .0) (omega (arith, w .0)) [], r-bodies ds (g .1) (omega (arith, w .1)))
+    let w = levels-append (d ∷ []) ds in
+    simp (r-definition d (g .0) (omega arith) [], r-bodies ds (g .1) (omega arith))
 
 r-count : (n : ℕ) → n ≤ 512 → (r : List ℕ) → count (wU16 n r) ≡ ok n r
 unfolding count
@@ -94,11 +79,11 @@ joined : (s : List ℕ) (n : ℕ) (t : List ℕ) (es : List Entry) (u : List ℕ
 unfolding book contents whole atEnd
 joined s n t es u bs ds a b c d = rw (a, b, c, d)
 
-pub r-book : (ds : List Definition) → length ds ≤ 512 → GoodAll ds → levelsBook ds ≤ 64 → book 6 (wBook ds) ≡ ok ds []
+pub r-book : (ds : List Definition) → IsBook ds → book 6 (wBook ds) ≡ ok ds []
 unfolding wBook wParts sizeBook
-r-book ds n g h =
+r-book ds b =
     let l = length-map ds entryOf in
     joined (wBook ds) (length (map entryOf ds)) _ (map entryOf ds) (wAll wDefinition ds []) (bodiesOf ds) ds
-    (r-count (length (map entryOf ds)) (omega arith) _)
+    (r-count (length (map entryOf ds)) (omega (arith, b .few)) _)
     (r-entries (length (wBook ds)) ds (2 + 6 * length (map entryOf ds)) (omega (arith, size-book ds)) (wAll wDefinition ds []))
-    (r-cut ds) (r-bodies ds g h)
+    (r-cut ds) (r-bodies ds (b .good) (b .deep))

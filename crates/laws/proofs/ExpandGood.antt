@@ -1,5 +1,4 @@
--- Expansion keeps names plain, leaves no macro definition, and does not add definitions.
-use mathlib.Core.Path.{_≡_}
+-- What expansion leaves a book can hold, no macro is among it, and it is no longer than the list.
 use mathlib.Core.List.{List, [], _∷_}
 use mathlib.Core.Bool.{Bool, true, false, _&&_}
 use Prim.Native.Nat.{_≤_}
@@ -7,17 +6,15 @@ use native.Mathlib.Omega.{arith}
 use lib.Dec.{leb}
 use lib.ListN.{length}
 use borrow.Author.Tests.{leb-true}
-use Rattle.definition.specs.Code.{macro-growth}
-use Rattle.definition.specs.Out.{Out, done, given}
+use Rattle.definition.specs.Out.{Out}
 use Rattle.definition.specs.Tree.{Name, CaseKind, Combinator, plain, chained, Inner, leaf, struct, choice, shell, bytes, invocation, macro-invocation, Fields, no-field, field, const, Cases, no-case, case, Inners, no-inner, inner, Definition, format, constant, byte-order, macro}
 use Rattle.definition.specs.Names.{eqName}
 use Rattle.definition.specs.Size.{size, sizeBook, levels, levelsBook}
-use Rattle.laws.specs.Good.{Good, GoodI, GoodF, GoodC, GoodA, GoodAll}
-use Rattle.definition.specs.Macros.{subst, substI, substF, substC, limited, instance, innerOf, Macro, macros, expandBy, expandMacro, expand, expandI, expandF, expandC, expandAll, expandBook}
+use Rattle.definition.specs.Macros.{same, subst, substI, substF, substC, limited, instance, innerOf, Macro, macros, expandBy, expandMacro, expand, expandI, expandF, expandC, expandAll, expandList}
+use Rattle.laws.specs.Book.{Good, GoodI, GoodF, GoodC, GoodA, GoodAll, IsBook}
 use Rattle.laws.specs.Lists.{NoMacro}
 use Rattle.laws.proofs.Tests.{both-true}
-use Rattle.laws.proofs.Steps.{did-out, did-given}
-use Rattle.laws.proofs.Sound.{FineAll}
+use Rattle.laws.proofs.Steps.{Yields, stops, yields, next, where-true}
 
 mutual
   unfolding subst
@@ -34,7 +31,7 @@ mutual
   s-goodI (bytes l) g p a h = g
   s-goodI (invocation n xs) g p a h = one-of (eqName n p) g h
     where
-      one-of : (b : Bool) → GoodI (invocation n xs) → GoodI a → GoodI (Rattle.definition.specs.Macros.same a (invocation n xs) b)
+      one-of : (b : Bool) → GoodI (invocation n xs) → GoodI a → GoodI (same a (invocation n xs) b)
       one-of true g h = h
       one-of false g h = g
   s-goodI (macro-invocation n xs) g p a h = g
@@ -42,19 +39,17 @@ mutual
   s-goodF : (f : Fields) → GoodF f → (p : Name) (a : Inner) → GoodI a → GoodF (substF f p a)
   s-goodF no-field g p a h = g
   s-goodF (field k l c f) g p a h = (g .0, (s-good c (g .1 .0) p a h, s-goodF f (g .1 .1) p a h))
-  s-goodF (const l x f) g p a h = (g .0, s-goodF f (g .1) p a h)
+  s-goodF (const l x f) g p a h = (g .0, (g .1 .0, s-goodF f (g .1 .1) p a h))
 
   s-goodC : (f : Cases) (k : CaseKind) → GoodC f k → (p : Name) (a : Inner) → GoodI a → GoodC (substC f p a) k
   s-goodC no-case k g p a h = g
   s-goodC (case l c f) k g p a h = (g .0, (s-good c (g .1 .0) p a h, s-goodC f k (g .1 .1) p a h))
 
-instance-good : (ps : List Name) (xs : Inners) (c d : Combinator) → GoodA xs → Good c → instance ps xs c ≡ done d → Good d
+instance-good : (ps : List Name) (xs : Inners) (c : Combinator) → GoodA xs → Good c → Yields Good (instance ps xs c)
 unfolding instance limited
-instance-good [] xs c d g h e = let p : c ≡ d = cc in rw p at h
-instance-good (p ∷ ps) no-inner c d g h e = let q : c ≡ d = cc in rw q at h
-instance-good (p ∷ ps) (inner a xs) c d g h e = did-out (given (leb (size (subst c p a)) 16384 && leb (levels (subst c p a)) 64) macro-growth (subst c p a)) _ d e λ b w e₂.
-    let q : subst c p a ≡ b = did-given (leb (size (subst c p a)) 16384 && leb (levels (subst c p a)) 64) macro-growth (subst c p a) b w .1 in
-    instance-good ps xs b d (g .1) (rw q at (s-good c h p a (g .0))) e₂
+instance-good [] xs c g h = yields h
+instance-good (p ∷ ps) no-inner c g h = yields h
+instance-good (p ∷ ps) (inner a xs) c g h = next (where-true (leb (size (subst c p a)) 16384 && leb (levels (subst c p a)) 64) _ (subst c p a) (λ t. s-good c h p a (g .0))) _ λ d w. instance-good ps xs d (g .1) w
 
 abbrev GoodM : List Macro → Type 0
 GoodM [] = Unit {0}
@@ -73,96 +68,62 @@ unfolding innerOf
 innerOf-good (plain i) g = g
 innerOf-good (chained i c) g = g .0
 
-by-good : (b : Bool) (m : Macro) (xs : Inners) (next : Out Inner) (j : Inner) → GoodA xs → Good (m .body) → (next ≡ done j → GoodI j) → expandBy b m xs next ≡ done j → GoodI j
+by-good : (b : Bool) (m : Macro) (xs : Inners) (other : Out Inner) → GoodA xs → Good (m .body) → Yields GoodI other → Yields GoodI (expandBy b m xs other)
 unfolding expandBy
-by-good true m xs next j g h go e = did-out (instance (m .params) xs (m .body)) _ j e λ c w e₂.
-    let p : innerOf c ≡ j = cc in
-    rw p at (innerOf-good c (instance-good (m .params) xs (m .body) c g h w))
-by-good false m xs next j g h go e = go e
+by-good true m xs other g h w = next (instance-good (m .params) xs (m .body) g h) _ λ c v. yields (innerOf-good c v)
+by-good false m xs other g h w = w
 
-macro-good : (ms : List Macro) (n : Name) (xs : Inners) (j : Inner) → GoodM ms → GoodI (macro-invocation n xs) → expandMacro ms n xs ≡ done j → GoodI j
+macro-good : (ms : List Macro) (n : Name) (xs : Inners) → GoodM ms → GoodI (macro-invocation n xs) → Yields GoodI (expandMacro ms n xs)
 unfolding expandMacro
-macro-good [] n xs j h g e = let p : macro-invocation n xs ≡ j = cc in rw (← p) g
-macro-good (m ∷ ms) n xs j h g e = by-good (eqName (m .name) n) m xs (expandMacro ms n xs) j (g .1) (h .0) (λ w. macro-good ms n xs j (h .1) g w) e
+macro-good [] n xs h g = yields g
+macro-good (m ∷ ms) n xs h g = by-good (eqName (m .name) n) m xs (expandMacro ms n xs) (g .1) (h .0) (macro-good ms n xs (h .1) g)
 
 mutual
   unfolding expand
 
-  e-good : (c : Combinator) (ms : List Macro) (d : Combinator) → GoodM ms → Good c → expand c ms ≡ done d → Good d
-  e-good (plain i) ms d h g e = did-out (expandI i ms) _ d e λ j w e₂.
-      let p : plain j ≡ d = cc in
-      rw (← p) (e-goodI i ms j h g w)
-  e-good (chained i c) ms d h g e = did-out (expand c ms) _ d e λ x w e₂.
-      did-out (expandI i ms) _ d e₂ λ j w₂ e₃.
-      let p : chained j x ≡ d = cc in
-      rw (← p) (e-goodI i ms j h (g .0) w₂, e-good c ms x h (g .1) w)
+  e-good : (c : Combinator) (ms : List Macro) → GoodM ms → Good c → Yields Good (expand c ms)
+  e-good (plain i) ms h g = next (e-goodI i ms h g) _ λ j w. yields w
+  e-good (chained i c) ms h g = next (e-good c ms h (g .1)) _ λ d w. next (e-goodI i ms h (g .0)) _ λ j v. yields (v, w)
 
-  e-goodI : (i : Inner) (ms : List Macro) (j : Inner) → GoodM ms → GoodI i → expandI i ms ≡ done j → GoodI j
-  e-goodI (leaf k x) ms j h g e = let p : leaf k x ≡ j = cc in rw (← p) g
-  e-goodI (struct f) ms j h g e = did-out (expandF f ms) _ j e λ x w e₂.
-      let p : struct x ≡ j = cc in
-      rw (← p) (e-goodF f ms x h g w)
-  e-goodI (choice s k f) ms j h g e = did-out (expandC f ms) _ j e λ x w e₂.
-      let p : choice s k x ≡ j = cc in
-      rw (← p) (g .0, e-goodC f k ms x h (g .1) w)
-  e-goodI (shell s c) ms j h g e = did-out (expand c ms) _ j e λ x w e₂.
-      let p : shell s x ≡ j = cc in
-      rw (← p) (g .0, e-good c ms x h (g .1) w)
-  e-goodI (bytes l) ms j h g e = let p : bytes l ≡ j = cc in rw (← p) g
-  e-goodI (invocation n xs) ms j h g e = let p : invocation n xs ≡ j = cc in rw (← p) g
-  e-goodI (macro-invocation n xs) ms j h g e = macro-good ms n xs j h g e
+  e-goodI : (i : Inner) (ms : List Macro) → GoodM ms → GoodI i → Yields GoodI (expandI i ms)
+  e-goodI (leaf k x) ms h g = yields g
+  e-goodI (struct f) ms h g = next (e-goodF f ms h g) _ λ x w. yields w
+  e-goodI (choice s k f) ms h g = next (e-goodC f k ms h (g .1)) _ λ x w. yields (g .0, w)
+  e-goodI (shell s c) ms h g = next (e-good c ms h (g .1)) _ λ x w. yields (g .0, w)
+  e-goodI (bytes l) ms h g = yields g
+  e-goodI (invocation n xs) ms h g = yields g
+  e-goodI (macro-invocation n xs) ms h g = macro-good ms n xs h g
 
-  e-goodF : (f : Fields) (ms : List Macro) (y : Fields) → GoodM ms → GoodF f → expandF f ms ≡ done y → GoodF y
-  e-goodF no-field ms y h g e = let p : no-field ≡ y = cc in rw (← p) g
-  e-goodF (field k l c f) ms y h g e = did-out (expand c ms) _ y e λ x w e₂.
-      did-out (expandF f ms) _ y e₂ λ z w₂ e₃.
-      let p : field k l x z ≡ y = cc in
-      rw (← p) (g .0, (e-good c ms x h (g .1 .0) w, e-goodF f ms z h (g .1 .1) w₂))
-  e-goodF (const l x f) ms y h g e = did-out (expandF f ms) _ y e λ z w₂ e₃.
-      let p : const l x z ≡ y = cc in
-      rw (← p) (g .0, e-goodF f ms z h (g .1) w₂)
+  e-goodF : (f : Fields) (ms : List Macro) → GoodM ms → GoodF f → Yields GoodF (expandF f ms)
+  e-goodF no-field ms h g = yields g
+  e-goodF (field k l c f) ms h g = next (e-good c ms h (g .1 .0)) _ λ x w. next (e-goodF f ms h (g .1 .1)) _ λ y v. yields (g .0, (w, v))
+  e-goodF (const l x f) ms h g = next (e-goodF f ms h (g .1 .1)) _ λ y v. yields (g .0, (g .1 .0, v))
 
-  e-goodC : (f : Cases) (k : CaseKind) (ms : List Macro) (y : Cases) → GoodM ms → GoodC f k → expandC f ms ≡ done y → GoodC y k
-  e-goodC no-case k ms y h g e = let p : no-case ≡ y = cc in rw (← p) g
-  e-goodC (case l c f) k ms y h g e = did-out (expand c ms) _ y e λ x w e₂.
-      did-out (expandC f ms) _ y e₂ λ z w₂ e₃.
-      let p : case l x z ≡ y = cc in
-      rw (← p) (g .0, (e-good c ms x h (g .1 .0) w, e-goodC f k ms z h (g .1 .1) w₂))
+  e-goodC : (f : Cases) (k : CaseKind) (ms : List Macro) → GoodM ms → GoodC f k → Yields (λ y. GoodC y k) (expandC f ms)
+  e-goodC no-case k ms h g = yields g
+  e-goodC (case l c f) k ms h g = next (e-good c ms h (g .1 .0)) _ λ x w. next (e-goodC f k ms h (g .1 .1)) _ λ y v. yields (g .0, (w, v))
 
 record Expands (ds es : List Definition) : Type 0 where
   good : GoodAll es
   fewer : length es ≤ length ds
   none : NoMacro es
 
-all-good : (ds : List Definition) (ms : List Macro) (es : List Definition) → GoodM ms → GoodAll ds → expandAll ds ms ≡ done es → Expands ds es
+all-good : (ds : List Definition) (ms : List Macro) → GoodM ms → GoodAll ds → Yields (Expands ds) (expandAll ds ms)
 unfolding expandAll
-all-good [] ms es h g e = let p : [] ≡ es = cc in rw (← p) (record { good = tt; fewer = omega arith; none = tt })
-all-good (format n ps c ∷ ds) ms es h g e = did-out (expand c ms) _ es e λ d w e₂.
-    did-out (expandAll ds ms) _ es e₂ λ fs w₂ e₃.
-    let z = all-good ds ms fs h (g .1) w₂ in
-    let p : format n ps d ∷ fs ≡ es = cc in
-    rw (← p) (record { good = ((g .0 .0, (g .0 .1 .0, e-good c ms d h (g .0 .1 .1) w)), z .good); fewer = omega (arith, z .fewer); none = z .none })
-all-good (constant n x ∷ ds) ms es h g e = did-out (expandAll ds ms) _ es e λ fs w₂ e₃.
-    let z = all-good ds ms fs h (g .1) w₂ in
-    let p : constant n x ∷ fs ≡ es = cc in
-    rw (← p) (record { good = (g .0, z .good); fewer = omega (arith, z .fewer); none = z .none })
-all-good (byte-order x ∷ ds) ms es h g e = did-out (expandAll ds ms) _ es e λ fs w₂ e₃.
-    let z = all-good ds ms fs h (g .1) w₂ in
-    let p : byte-order x ∷ fs ≡ es = cc in
-    rw (← p) (record { good = (g .0, z .good); fewer = omega (arith, z .fewer); none = z .none })
-all-good (macro n ps c ∷ ds) ms es h g e = let z = all-good ds ms es h (g .1) e in record { good = z .good; fewer = omega (arith, z .fewer); none = z .none }
+all-good [] ms h g = yields {a = []} (record { good = tt; fewer = omega arith; none = tt })
+all-good (format n ps c ∷ ds) ms h g = next (e-good c ms h (g .0 .1 .1)) _ λ d w. next (all-good ds ms h (g .1)) _ λ es z.
+    yields (record { good = ((g .0 .0, (g .0 .1 .0, w)), z .good); fewer = omega (arith, z .fewer); none = z .none })
+all-good (constant n x ∷ ds) ms h g = next (all-good ds ms h (g .1)) _ λ es z. yields (record { good = (g .0, z .good); fewer = omega (arith, z .fewer); none = z .none })
+all-good (byte-order x ∷ ds) ms h g = next (all-good ds ms h (g .1)) _ λ es z. yields (record { good = (g .0, z .good); fewer = omega (arith, z .fewer); none = z .none })
+all-good (macro n ps c ∷ ds) ms h g = less (all-good ds ms h (g .1))
+  where
+    less : {m : Out (List Definition)} → Yields (Expands ds) m → Yields (Expands (macro n ps c ∷ ds)) m
+    less stops = stops
+    less (yields {a = es} z) = yields {a = es} (record { good = z .good; fewer = omega (arith, z .fewer); none = z .none })
 
-pub record Expanded (ds es : List Definition) : Type 0 where
-  pub fine : FineAll es
-  pub fewer : length es ≤ length ds
-  pub none : NoMacro es
-  pub short : sizeBook es ≤ 16384
-
-pub expand-good : (ds es : List Definition) → GoodAll ds → expandBook ds ≡ done es → Expanded ds es
-unfolding expandBook
-expand-good ds es g e = did-out (expandAll ds (macros ds [])) _ es e λ fs w e₂.
-    let q = did-given (leb (sizeBook fs) 16384 && leb (levelsBook fs) 64) macro-growth fs es e₂ in
-    let p : fs ≡ es = q .1 in
-    let b = both-true (leb (sizeBook fs) 16384) (leb (levelsBook fs) 64) (q .0) in
-    let z = all-good ds (macros ds []) fs (macros-good ds [] g tt) g w in
-    rw (← p) (record { fine = record { good = z .good; deep = leb-true _ 64 (b .1) }; fewer = z .fewer; none = z .none; short = leb-true _ 16384 (b .0) })
+-- the expanded list of a book
+pub expand-good : (ds : List Definition) → GoodAll ds → length ds ≤ 512 → Yields (λ es. IsBook es × NoMacro es) (expandList ds)
+unfolding expandList
+expand-good ds g n = next (all-good ds (macros ds []) (macros-good ds [] g tt) g) _ λ es z. where-true (leb (sizeBook es) 16384 && leb (levelsBook es) 64) _ es λ t.
+    let b = both-true (leb (sizeBook es) 16384) (leb (levelsBook es) 64) t in
+    (record { good = z .good; deep = leb-true (levelsBook es) 64 (b .1); few = omega (arith, z .fewer); short = leb-true (sizeBook es) 16384 (b .0) }, z .none)

@@ -1,4 +1,4 @@
--- The names that are made are plain: UTF-8 and without '.'.
+-- The names that are made are plain: UTF-8 without '.', in bytes.
 use mathlib.Core.Path.{_≡_, refl}
 use mathlib.Core.Logic.{⊎-elim}
 use mathlib.Core.List.{List, [], _∷_, _++_}
@@ -13,6 +13,7 @@ use Rattle.definition.specs.Tree.{Name, Shell, wrap, vec, option, array, CaseKi
 use Rattle.definition.specs.Utf8.{Range, inside, behind, characters, wellFormed}
 use Rattle.definition.specs.Read.{noDot, dotted, undotted}
 use Rattle.definition.specs.Names.{elem, letter, letters, segment, digits, decimal, child, caseSegment, shellSegment, numbered, firstFree, fresh}
+use Rattle.laws.specs.Book.{Bytes}
 use Rattle.laws.proofs.Tests.{yes-no, not-both, both-true, either}
 
 -- bytes of one-byte characters, '.' not among them
@@ -52,11 +53,21 @@ dots-append (b ∷ a) x p q = ⊎-elim
     (λ (w : eqb b 46 ≡ false). rw w (dots-append a x (rw w at p) q))
     (yes-no (eqb b 46))
 
-pub joined : (n x : List ℕ) → undotted n ≡ true → Ascii x → undotted (n ++ x) ≡ true
+ascii-small : (n x : List ℕ) → Bytes n → Ascii x → Bytes (n ++ x)
+ascii-small [] [] b h = tt
+ascii-small [] (c ∷ x) b h = (omega (arith, ltb-true c 128 (h .0)), ascii-small [] x tt (h .2))
+ascii-small (c ∷ n) x b h = (b .0, ascii-small n x (b .1) h)
+
+-- a name of any length
+pub record Base (n : Name) : Type 0 where
+  pub passes : undotted n ≡ true
+  pub small : Bytes n
+
+joined : (n x : List ℕ) → Base n → Ascii x → Base (n ++ x)
 unfolding undotted dotted wellFormed
 joined n x p h =
-    let w = both-true (characters [] n) (noDot n) p in
-    rw (chars-append [] n x (w .0) (ascii-chars x h), dots-append n x (w .1) (ascii-dots x h))
+    let w = both-true (characters [] n) (noDot n) (p .passes) in
+    record { passes = rw (chars-append [] n x (w .0) (ascii-chars x h), dots-append n x (w .1) (ascii-dots x h)); small = ascii-small n x (p .small) h }
 
 ascii-letter : (b : ℕ) → Ascii (letter b)
 unfolding letter
@@ -108,7 +119,7 @@ ascii-decimal : (n : ℕ) → Ascii (decimal n)
 unfolding decimal
 ascii-decimal n = ascii-digits n n [] (le-refl n) tt
 
-pub child-field : (n l : Name) → undotted n ≡ true → undotted (child n (segment l)) ≡ true
+pub child-field : (n l : Name) → Base n → Base (child n (segment l))
 unfolding child
 child-field n l p = joined n (95 ∷ segment l) p (refl, refl, ascii-segment l)
 
@@ -119,7 +130,7 @@ ascii-shell vec = (refl, refl, (refl, refl, (refl, refl, (refl, refl, tt))))
 ascii-shell option = (refl, refl, (refl, refl, (refl, refl, (refl, refl, tt))))
 ascii-shell (array l) = (refl, refl, (refl, refl, (refl, refl, (refl, refl, tt))))
 
-pub child-shell : (n : Name) (x : Shell) → undotted n ≡ true → undotted (child n (shellSegment x)) ≡ true
+pub child-shell : (n : Name) (x : Shell) → Base n → Base (child n (shellSegment x))
 unfolding child
 child-shell n x p = joined n (95 ∷ shellSegment x) p (refl, refl, ascii-shell x)
 
@@ -129,15 +140,15 @@ ascii-case enums l i = ascii-segment l
 ascii-case ints l i = (refl, refl, (refl, refl, (refl, refl, (refl, refl, (refl, refl, (refl, refl, ascii-decimal i))))))
 ascii-case arrays l i = (refl, refl, (refl, refl, (refl, refl, (refl, refl, (refl, refl, (refl, refl, ascii-decimal i))))))
 
-pub child-case : (n : Name) (k : CaseKind) (l : Name) (i : ℕ) → undotted n ≡ true → undotted (child n (caseSegment k l i)) ≡ true
+pub child-case : (n : Name) (k : CaseKind) (l : Name) (i : ℕ) → Base n → Base (child n (caseSegment k l i))
 unfolding child
 child-case n k l i p = joined n (95 ∷ caseSegment k l i) p (refl, refl, ascii-case k l i)
 
-numbered-plain : (base : Name) (i : ℕ) → undotted base ≡ true → undotted (numbered base i) ≡ true
+numbered-plain : (base : Name) (i : ℕ) → Base base → Base (numbered base i)
 unfolding numbered
 numbered-plain base i p = joined base (95 ∷ decimal i) p (refl, refl, ascii-decimal i)
 
-first-plain : (base : Name) → undotted base ≡ true → (k i : ℕ) (taken : List Name) → undotted (firstFree (numbered base) k i taken) ≡ true
+first-plain : (base : Name) → Base base → (k i : ℕ) (taken : List Name) → Base (firstFree (numbered base) k i taken)
 unfolding firstFree
 first-plain base p zero i taken = numbered-plain base i p
 first-plain base p (suc k) i taken = ⊎-elim
@@ -145,7 +156,7 @@ first-plain base p (suc k) i taken = ⊎-elim
     (λ (q : elem (numbered base i) taken ≡ false). rw q (numbered-plain base i p))
     (yes-no (elem (numbered base i) taken))
 
-pub fresh-plain : (base : Name) (taken : List Name) → undotted base ≡ true → undotted (fresh base taken) ≡ true
+pub fresh-plain : (base : Name) (taken : List Name) → Base base → Base (fresh base taken)
 unfolding fresh
 fresh-plain base taken p = ⊎-elim
     (λ (q : elem base taken ≡ true). rw q (first-plain base p (length taken) 0 taken))

@@ -1,7 +1,7 @@
 -- What the writer writes, the reader reads.
 use mathlib.Core.Path.{_≡_, refl, ap}
 use mathlib.Core.List.{List, [], _∷_, _++_}
-use mathlib.Core.Bool.{Bool, true}
+use mathlib.Core.Bool.{Bool}
 use Prim.Native.Nat.{ℕ, zero, suc, _≤_}
 use native.Mathlib.Omega.{arith}
 use native.Mathlib.Nat.{not-suc-le-zero}
@@ -11,7 +11,7 @@ use Rattle.definition.specs.Tree.{Name, Leaf, constraint-int, constraint-enum, 
 use Rattle.definition.specs.Read.{u16, part, text, dotted, undotted, byte, nameBy, namesBy, name, known, oneOf, caseKinds, len, selectorBy, selector, label, fieldBy, fields, cases, inners, isLeaf, tags, items, level, chainBy, chain, combinator, arg}
 use Rattle.definition.specs.Write.{wU16, wName, wText, wAll, wList, wLen, wSelector, caseByte, wLabel, leafTag, fieldByte, wOpen, wShut, countF, countC, countA, wCombinator, wInner, wFields, wCases, wInners}
 use Rattle.definition.specs.Size.{levels, levelsI, levelsF, levelsC, levelsA}
-use Rattle.laws.specs.Good.{Pass, GoodS, GoodL, Good, GoodI, GoodF, GoodC, GoodA}
+use Rattle.laws.specs.Book.{Named, AllNamed, GoodLen, GoodS, GoodL, Good, GoodI, GoodF, GoodC, GoodA}
 
 pub r-u16 : (n : ℕ) (r : List ℕ) → u16 (wU16 n r) ≡ ok n r
 unfolding u16 wU16
@@ -26,22 +26,22 @@ pub r-text : (x r : List ℕ) → text (wText x r) ≡ ok x r
 unfolding text wText
 r-text x r = simp (r-u16, r-part)
 
-r-nameBy : (test : List ℕ → Bool) (n : Name) → test n ≡ true → (r : List ℕ) → nameBy test (wName n r) ≡ ok n r
+r-nameBy : (test : List ℕ → Bool) (n : Name) → Named test n → (r : List ℕ) → nameBy test (wName n r) ≡ ok n r
 unfolding nameBy wName byte
-r-nameBy test n h r = simp (r-part, h)
+r-nameBy test n h r = let p = h .passes in simp (r-part, p)
 
-pub r-name : (n : Name) → undotted n ≡ true → (r : List ℕ) → name (wName n r) ≡ ok n r
+pub r-name : (n : Name) → Named undotted n → (r : List ℕ) → name (wName n r) ≡ ok n r
 unfolding name
 r-name n h r = r-nameBy undotted n h r
 
-pub r-names : (test : List ℕ → Bool) (ns : List Name) → Pass test ns → (r : List ℕ) → namesBy test (length ns) (wAll wName ns r) ≡ ok ns r
+pub r-names : (test : List ℕ → Bool) (ns : List Name) → AllNamed test ns → (r : List ℕ) → namesBy test (length ns) (wAll wName ns r) ≡ ok ns r
 unfolding namesBy wAll
 r-names test [] h r = refl
 r-names test (n ∷ ns) h r = simp (r-nameBy test n (h .0), r-names test ns (h .1) r)
 
-r-len : (l : Len) → Pass undotted (l .roots) → (r : List ℕ) → len (wLen l r) ≡ ok l r
+r-len : (l : Len) → GoodLen l → (r : List ℕ) → len (wLen l r) ≡ ok l r
 unfolding len wLen wList
-r-len l h r = simp (r-u16, r-names undotted (l .roots) h, r-text)
+r-len l h r = simp (r-u16, r-names undotted (l .roots) (h .0), r-text)
 
 r-selector : (s : Selector) → GoodS s → (r : List ℕ) → selector (wSelector s r) ≡ ok s r
 unfolding selector selectorBy wSelector oneOf known
@@ -95,7 +95,7 @@ mutual
   r-fields no-field g k h r = refl
   r-fields (field ordinary l c f) g k h r = simp (r-name l (g .0), r-combinator c (g .1 .0) k (omega arith) (wFields f r), r-fields f (g .1 .1) k (omega arith) r)
   r-fields (field dependent l c f) g k h r = simp (r-name l (g .0), r-combinator c (g .1 .0) k (omega arith) (wFields f r), r-fields f (g .1 .1) k (omega arith) r)
-  r-fields (const l x f) g k h r = simp (r-name l (g .0), r-text, r-fields f (g .1) k h r)
+  r-fields (const l x f) g k h r = simp (r-name l (g .0), r-text, r-fields f (g .1 .1) k h r)
 
   r-cases : (f : Cases) (t : CaseKind) → GoodC f t → (k : ℕ) → levelsC f ≤ k → (r : List ℕ) → cases (combinator k) t (countC f) (wCases f t r) ≡ ok f r
   r-cases no-case t g k h r = refl

@@ -1,14 +1,15 @@
 -- The table of well-formed byte sequences says the same as the encodings of scalar values.
-use mathlib.Core.Path.{_≡_, refl, ap, _∙_}
+use mathlib.Core.Path.{_≡_, refl, ap, _∙_, sym}
 use mathlib.Core.Logic.{_⊎_, inl, inr, ⊎-elim}
 use mathlib.Core.List.{List, [], _∷_, _++_}
-use mathlib.Core.Bool.{true, false, _&&_}
+use mathlib.Core.Bool.{true, false, _&&_, cond}
 use Prim.Native.Nat.{ℕ, zero, suc, _+_, _*_, _-_, _/_, _%_, _≤_, _<_}
 use native.Mathlib.Omega.{arith}
 use native.Mathlib.Nat.{not-suc-le-zero}
 use lib.Dec.{eqb, leb, ltb}
-use lib.ListN.{length}
+use lib.ListN.{length, getD, drop}
 use borrow.Author.Tests.{ltb-true, ltb-false, leb-true, eqb-true, eqb-false, lt-ltb, le-ltb, le-leb, ne-eqb}
+use Rattle.laws.specs.Laws.{TableSaysUtf8, OneEncoding}
 use Rattle.laws.proofs.Tests.{yes-no, both-true}
 use Rattle.definition.specs.Utf8.{scalar, encode, Utf8, none, more, Range, behind, characters, wellFormed}
 
@@ -165,7 +166,7 @@ module _ (c : ℕ) (s : List ℕ) where
       (yes-no (ltb c 2048)))
       (yes-no (ltb c 128))
 
-pub utf8-passes : {s : List ℕ} → Utf8 s → wellFormed s ≡ true
+utf8-passes : {s : List ℕ} → Utf8 s → wellFormed s ≡ true
 unfolding wellFormed characters
 utf8-passes none = refl
 utf8-passes (more {s = s} c h u) = passes c s h ∙ utf8-passes u
@@ -286,6 +287,48 @@ takes : (k : ℕ) (s : List ℕ) → length s ≤ k → characters [] s ≡ true
 takes zero s n e = empty s n
 takes (suc k) s n e = turn k (λ s n e. takes k s n e) s n e
 
-pub passes-utf8 : (s : List ℕ) → wellFormed s ≡ true → Utf8 s
+passes-utf8 : (s : List ℕ) → wellFormed s ≡ true → Utf8 s
 unfolding wellFormed
 passes-utf8 s e = takes (length s) s (omega arith) e
+
+pub table-says-utf8 : TableSaysUtf8
+table-says-utf8 s = (λ u. utf8-passes u, λ e. passes-utf8 s e)
+
+-- the scalar value at the front, by the first byte, and what follows it
+front : List ℕ → ℕ
+front [] = 0
+front (b ∷ s) =
+    cond (ltb b 128) b
+    (cond (ltb b 224) ((b - 192) * 64 + (getD s 0 0 - 128))
+    (cond (ltb b 240) ((b - 224) * 4096 + (getD s 0 0 - 128) * 64 + (getD s 1 0 - 128))
+    ((b - 240) * 262144 + (getD s 0 0 - 128) * 4096 + (getD s 1 0 - 128) * 64 + (getD s 2 0 - 128))))
+
+rest : List ℕ → List ℕ
+rest [] = []
+rest (b ∷ s) = cond (ltb b 128) s (cond (ltb b 224) (drop 1 s) (cond (ltb b 240) (drop 2 s) (drop 3 s)))
+
+decoded : (c : ℕ) (s : List ℕ) → scalar c ≡ true → (front (encode c ++ s) ≡ c) × (rest (encode c ++ s) ≡ s)
+unfolding front rest
+decoded c s h = ⊎-elim
+    (λ (p : ltb c 128 ≡ true). rw (one c (ltb-true c 128 p), p) (refl, refl))
+    (λ (p : ltb c 128 ≡ false). let k = ltb-false c 128 p in ⊎-elim
+    (λ (q : ltb c 2048 ≡ true).
+    let l = ltb-true c 2048 q in
+    rw (two c k l, le-ltb (192 + c / 64) 128 (omega arith), lt-ltb (192 + c / 64) 224 (omega arith)) (omega arith, refl))
+    (λ (q : ltb c 2048 ≡ false). let l = ltb-false c 2048 q in ⊎-elim
+    (λ (r : ltb c 65536 ≡ true).
+    let m = ltb-true c 65536 r in
+    rw (three c l m, le-ltb (224 + c / 4096) 128 (omega arith), le-ltb (224 + c / 4096) 224 (omega arith), lt-ltb (224 + c / 4096) 240 (omega arith)) (omega arith, refl))
+    (λ (r : ltb c 65536 ≡ false).
+    let a : c / 4096 ≡ c / 64 / 64 = omega arith in
+    let b : c / 262144 ≡ c / 4096 / 64 = omega arith in
+    rw (four c (ltb-false c 65536 r), le-ltb (240 + c / 262144) 128 (omega arith), le-ltb (240 + c / 262144) 224 (omega arith), le-ltb (240 + c / 262144) 240 (omega arith)) (omega arith, refl))
+    (yes-no (ltb c 65536)))
+    (yes-no (ltb c 2048)))
+    (yes-no (ltb c 128))
+
+pub one-encoding : OneEncoding
+one-encoding c d h g s t e =
+    let u = decoded c s h in
+    let v = decoded d t g in
+    (sym (u .0) ∙ ap front e ∙ v .0, sym (u .1) ∙ ap rest e ∙ v .1)

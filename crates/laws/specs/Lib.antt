@@ -1,2 +1,3 @@
-pub mod Good
+pub mod Book
 pub mod Lists
+pub mod Laws
