@@ -12,8 +12,8 @@ use Rattle.definition.specs.Collect.{anonymous}
 use Rattle.definition.specs.Lift.{full, State, Walk, childBy, bind, walk, walkI, walkF, walkC, walkAll}
 use Rattle.definition.specs.Bodies.{everyInvocation, everyInvocationI, everyInvocationF, everyInvocationC, everyBody}
 use Rattle.definition.specs.PutBack.{bodyOf, meaningOf, replace, replaceI, replaceF, replaceC, inBody, standsFor, back, backAll}
-use Rattle.laws.proofs.Steps.{did}
 use Rattle.laws.proofs.Tests.{both-true}
+use Rattle.laws.proofs.Steps.{did}
 use Rattle.laws.proofs.Elem.{bodyOf-new}
 use Rattle.laws.proofs.Lifted.{Lifted, lifted}
 use Rattle.demand3.proofs.Walked.{Known, Grew, name-new, known-first, walked, walkedI, walkedF, walkedC, walkedAll, kid}

@@ -7,11 +7,11 @@ use Rattle.definition.specs.Tree.{Name, FieldKind, ordinary, dependent, Combina
 use Rattle.definition.specs.Names.{eqName, elem, remove, sorted}
 use Rattle.definition.specs.Collect.{bytesOrTail, selectorUses, shellUses, unbound, free, freeI, freeF, freeC}
 use Rattle.definition.specs.Bodies.{chainsOk, chainsOkI, chainsOkF, chainsOkC}
-use Rattle.demand3.specs.Shortest.{each, binds, covered, coveredI, coveredF, coveredC, Shortest}
-use Rattle.laws.proofs.Order.{elem-sorted, sorted-distinct}
+use Rattle.laws.proofs.Tests.{yes-no, not-both, both-true}
 use Rattle.laws.proofs.FreshName.{eqName-true, eqName-refl}
 use Rattle.laws.proofs.Elem.{elem-here, elem-there}
-use Rattle.laws.proofs.Tests.{yes-no, not-both, both-true}
+use Rattle.laws.proofs.Order.{elem-sorted, sorted-distinct}
+use Rattle.demand3.specs.Shortest.{each, binds, covered, coveredI, coveredF, coveredC, Shortest}
 
 and-assoc : (a b c : Bool) → (a && b) && c ≡ a && (b && c)
 and-assoc true b c = refl

@@ -9,19 +9,19 @@ use borrow.Author.Tests.{le-leb}
 use Rattle.definition.specs.Res.{Res, bad, ok}
 use Rattle.definition.specs.Out.{done}
 use Rattle.definition.specs.Tree.{Name, Leaf, constraint-int, constraint-enum, bits, enum, tail, nothing, never, CaseKind, Combinator, plain, chained, Inner, leaf, struct, choice, shell, bytes, invocation, macro-invocation, Fields, no-field, field, const, Cases, no-case, case, Param, Definition, format, constant, byte-order, macro}
-use Rattle.definition.specs.Names.{child, segment, caseSegment, shellSegment}
-use Rattle.definition.specs.Collect.{anonymousLeaf, anonymous, anonymousI}
 use Rattle.definition.specs.Contents.{book}
 use Rattle.definition.specs.Write.{wBook}
 use Rattle.definition.specs.Size.{sizeBook, levelsBook}
+use Rattle.definition.specs.Names.{child, segment, caseSegment, shellSegment}
 use Rattle.definition.specs.Macros.{Macro, macros, expandMacro, expand, expandI, expandF, expandC, expandAll, expandList, expandBook}
-use Rattle.demand3.specs.Flat.{CalmLeaf, Calm, CalmI, CalmF, CalmC, Flat, FlatI, FlatAll}
+use Rattle.definition.specs.Collect.{anonymousLeaf, anonymous, anonymousI}
 use Rattle.definition.specs.Lift.{full, State, Walk, childBy, bind, walk, walkI, walkF, walkC, walkAll, start, liftBook}
 use Rattle.definition.specs.Answer.{Result, all, out, outcome, source, expanded, elaborated, answered, attempt, answer}
-use Rattle.laws.specs.Lists.{NoMacro}
 use Rattle.laws.specs.Book.{Bytes, IsBook}
-use Rattle.laws.proofs.Laws.{written-is-read, expanded-book, elaborated-book}
+use Rattle.laws.specs.Lists.{NoMacro}
 use Rattle.laws.proofs.Steps.{yielded, did, no-done, did-out}
+use Rattle.laws.proofs.Laws.{written-is-read, expanded-book, elaborated-book}
+use Rattle.demand3.specs.Flat.{CalmLeaf, Calm, CalmI, CalmF, CalmC, Flat, FlatI, FlatAll}
 use Rattle.demand3.proofs.Walked.{walkedAll}
 
 -- a list that an elaboration can end with

@@ -10,10 +10,10 @@ use Rattle.definition.specs.Names.{elem}
 use Rattle.definition.specs.Lift.{names}
 use Rattle.definition.specs.Answer.{Result, all}
 use Rattle.definition.specs.Bodies.{everyInvocation}
-use Rattle.demand3.specs.Flat.{FlatAll}
 use Rattle.definition.specs.Premise.{callsKnown, chainsPlain}
 use Rattle.definition.specs.PutBack.{back, putBack}
 use Rattle.laws.specs.Lists.{paramNames, Distinct}
+use Rattle.demand3.specs.Flat.{FlatAll}
 use Rattle.demand3.specs.Shortest.{Shortest}
 
 -- no call of a lifted name is left in a body

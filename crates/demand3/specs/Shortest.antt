@@ -3,9 +3,9 @@ use mathlib.Core.Path.{_≡_}
 use mathlib.Core.List.{List, [], _∷_, map}
 use mathlib.Core.Bool.{Bool, true, false, _&&_}
 use Rattle.definition.specs.Tree.{Name, FieldKind, ordinary, dependent, Combinator, plain, chained, Inner, leaf, struct, choice, shell, bytes, invocation, macro-invocation, Fields, no-field, field, const, Cases, no-case, case}
-use Rattle.laws.specs.Lists.{Distinct}
 use Rattle.definition.specs.Names.{elem, remove, root}
 use Rattle.definition.specs.Collect.{selectorUses, shellUses}
+use Rattle.laws.specs.Lists.{Distinct}
 
 unfoldable pub each : List Name → List Name → Bool
 each [] ns = true

@@ -16,9 +16,9 @@ use Rattle.definition.specs.Size.{levelsBook}
 use Rattle.laws.specs.Book.{Bytes, GoodAll}
 use Rattle.laws.proofs.Tests.{both-true}
 use Rattle.laws.proofs.Steps.{Gives, refusal, value, then, so, ask, inside}
-use Rattle.laws.proofs.Inverse.{Reads, i-u16, i-part, i-byte, i-oneOf, i-definition}
-use Rattle.laws.proofs.Splits.{s-definition}
 use Rattle.laws.proofs.Levels.{levels-append}
+use Rattle.laws.proofs.Splits.{s-definition}
+use Rattle.laws.proofs.Inverse.{Reads, i-u16, i-part, i-byte, i-oneOf, i-definition}
 
 i-end : {A : Type 0} (P : A → List ℕ → Type 0) (a : A) (s : List ℕ) → P a s → Gives (λ x r. P x []) (atEnd a s)
 unfolding atEnd

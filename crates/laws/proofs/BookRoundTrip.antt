@@ -14,10 +14,10 @@ use Rattle.definition.specs.Contents.{entry, entries, contents, Body, cut, atEn
 use Rattle.definition.specs.Write.{wU16, wAll, wList, wInner, wParam, wDefinition, kindOf, kindByte, sizeOf, wEntries, wParts, entryOf, wBook}
 use Rattle.definition.specs.Size.{sizeBook, levelsI, levelsP, levelsBook}
 use Rattle.laws.specs.Book.{IsBook, GoodI, GoodP, GoodD, GoodAll}
-use Rattle.laws.proofs.RoundTrip.{r-u16, r-part, r-text, r-name, r-names, r-combinator, r-level}
-use Rattle.laws.proofs.Sizes.{room, size-book, room-least}
 use Rattle.laws.proofs.Levels.{levels-append}
 use Rattle.laws.proofs.Splits.{s-definition}
+use Rattle.laws.proofs.Sizes.{room, size-book, room-least}
+use Rattle.laws.proofs.RoundTrip.{r-u16, r-part, r-text, r-name, r-names, r-combinator, r-level}
 
 r-arg : (i : Inner) → GoodI i → (k : ℕ) → suc (levelsI i) ≤ k → (r : List ℕ) → arg k (wInner i r) ≡ ok i r
 unfolding combinator

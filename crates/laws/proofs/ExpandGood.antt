@@ -8,8 +8,8 @@ use lib.ListN.{length}
 use borrow.Author.Tests.{leb-true}
 use Rattle.definition.specs.Out.{Out}
 use Rattle.definition.specs.Tree.{Name, CaseKind, Combinator, plain, chained, Inner, leaf, struct, choice, shell, bytes, invocation, macro-invocation, Fields, no-field, field, const, Cases, no-case, case, Inners, no-inner, inner, Definition, format, constant, byte-order, macro}
-use Rattle.definition.specs.Names.{eqName}
 use Rattle.definition.specs.Size.{size, sizeBook, levels, levelsBook}
+use Rattle.definition.specs.Names.{eqName}
 use Rattle.definition.specs.Macros.{same, subst, substI, substF, substC, limited, instance, innerOf, Macro, macros, expandBy, expandMacro, expand, expandI, expandF, expandC, expandAll, expandList}
 use Rattle.laws.specs.Book.{Good, GoodI, GoodF, GoodC, GoodA, GoodAll, IsBook}
 use Rattle.laws.specs.Lists.{NoMacro}

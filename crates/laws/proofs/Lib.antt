@@ -14,7 +14,9 @@ pub mod PlainNames
 pub mod Order
 pub mod Utf8
 pub mod Lifted
+pub mod States
 pub mod Measure
+pub mod Stopped
 pub mod WalkGood
 pub mod ExpandGood
 pub mod Laws

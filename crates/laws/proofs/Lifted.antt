@@ -4,14 +4,14 @@ use mathlib.Core.List.{List, [], _∷_, _++_}
 use mathlib.Core.Bool.{Bool, true, false, not}
 use Prim.Native.Nat.{_+_, _-_, _≤_}
 use lib.Dec.{leb}
-use borrow.Author.Tests.{leb-true}
 use lib.ListN.{length}
+use borrow.Author.Tests.{leb-true}
 use Rattle.definition.specs.Res.{Maybe, absent, just, ok, require}
 use Rattle.definition.specs.Tree.{Name, Combinator, plain, Inner, invocation, Param, format}
-use Rattle.definition.specs.Names.{elem, sorted, fresh}
-use Rattle.definition.specs.Collect.{free, leftover}
 use Rattle.definition.specs.Write.{sizeOf}
 use Rattle.definition.specs.Size.{size}
+use Rattle.definition.specs.Names.{elem, sorted, fresh}
+use Rattle.definition.specs.Collect.{free, leftover}
 use Rattle.definition.specs.Lift.{Course, State, binder, bound, typed, take, grow, measured, append, Walk, lift}
 use Rattle.laws.specs.Lists.{paramNames}
 use Rattle.laws.proofs.Tests.{not-true}
@@ -23,12 +23,12 @@ abbrev pub Bound : List Param → List Param → Type 0
 Bound binders [] = Unit {0}
 Bound binders (p ∷ ps) = (binder binders (p .name) ≡ just (p .type)) × Bound binders ps
 
-record Typed (binders : List Param) (ns : List Name) (s : State) (ps : List Param) (t : State) : Type 0 where
-  same : s ≡ t
-  named : paramNames ps ≡ ns
-  bound : Bound binders ps
+pub record Typed (binders : List Param) (ns : List Name) (s : State) (ps : List Param) (t : State) : Type 0 where
+  pub same : s ≡ t
+  pub named : paramNames ps ≡ ns
+  pub bound : Bound binders ps
 
-typed-says : (binders : List Param) (ns : List Name) (s : State) → Gives (Typed binders ns s) (typed binders ns s)
+pub typed-says : (binders : List Param) (ns : List Name) (s : State) → Gives (Typed binders ns s) (typed binders ns s)
 unfolding typed bound
 typed-says binders [] s = value (record { same = refl; named = refl; bound = tt })
 typed-says binders (n ∷ ns) s = then (bound-says (binder binders n) n s) _ λ p t b. then (typed-says binders ns t) _ λ ps u w.

@@ -5,18 +5,18 @@ use mathlib.Core.Bool.{Bool, true, false}
 use Prim.Native.Nat.{ℕ, suc, _+_, _≤_}
 use native.Mathlib.Omega.{arith}
 use lib.Dec.{leb}
-use borrow.Author.Tests.{le-leb, leb-true}
 use lib.ListN.{length, length-append}
+use borrow.Author.Tests.{le-leb, leb-true}
 use Rattle.definition.specs.Res.{ok}
 use Rattle.definition.specs.Tree.{Name, CaseKind, Combinator, plain, chained, Inner, leaf, struct, choice, shell, bytes, invocation, macro-invocation, Fields, no-field, field, const, Cases, no-case, case, Param, Definition, format, constant, byte-order, macro}
-use Rattle.definition.specs.Names.{child, segment, caseSegment, shellSegment}
 use Rattle.definition.specs.Write.{sizeOf}
 use Rattle.definition.specs.Size.{size, sizeBook}
+use Rattle.definition.specs.Names.{child, segment, caseSegment, shellSegment}
 use Rattle.definition.specs.Lift.{Course, full, State, Walk, childBy, bind, walk, walkI, walkF, walkC, walkAll, start}
 use Rattle.laws.proofs.Tests.{both-true}
 use Rattle.laws.proofs.Steps.{Gives, value, then, so, gave}
-use Rattle.laws.proofs.Lifted.{Lifted, lift-says}
 use Rattle.laws.proofs.Sizes.{sizeI, sizeF, sizeC, size-plain, size-chained, size-struct, size-choice, size-shell, size-field, size-constant, size-case, size-format, room, room-append, size-book}
+use Rattle.laws.proofs.Lifted.{Lifted, lift-says}
 
 module _ (course : Course) where
   -- something of size `old` became something of size `new`

@@ -4,13 +4,13 @@ use mathlib.Core.Logic.{⊎-elim}
 use mathlib.Core.List.{List, [], _∷_, _++_}
 use mathlib.Core.Bool.{true, false, _&&_, _||_}
 use Prim.Native.Nat.{ℕ, zero, suc, _+_, _/_, _%_, _≤_, _<_}
-use native.Mathlib.Omega.{arith}
 use native.Mathlib.Nat.{le-refl}
+use native.Mathlib.Omega.{arith}
 use lib.Dec.{eqb, leb, ltb}
 use lib.ListN.{length}
 use borrow.Author.Tests.{leb-true, ltb-true, ltb-false, lt-ltb, ne-eqb}
-use Rattle.definition.specs.Tree.{Name, Shell, wrap, vec, option, array, CaseKind, enums, ints, arrays}
 use Rattle.definition.specs.Utf8.{Range, inside, behind, characters, wellFormed}
+use Rattle.definition.specs.Tree.{Name, Shell, wrap, vec, option, array, CaseKind, enums, ints, arrays}
 use Rattle.definition.specs.Read.{noDot, dotted, undotted}
 use Rattle.definition.specs.Names.{elem, letter, letters, segment, digits, decimal, child, caseSegment, shellSegment, numbered, firstFree, fresh}
 use Rattle.laws.specs.Book.{Bytes}

@@ -6,8 +6,8 @@ use native.Mathlib.Omega.{arith}
 use lib.ListN.{length, length-append}
 use Rattle.definition.specs.Tree.{Name, Text, Shell, Selector, CaseKind, FieldKind, Combinator, plain, chained, Inner, struct, choice, shell, Fields, field, const, Cases, case, Param, Definition, format}
 use Rattle.definition.specs.Write.{wU16, wName, wText, wAll, wList, wSelector, caseByte, wLabel, wOpen, wShut, countC, wCombinator, wInner, wFields, wCases, wParam, wDefinition, sizeOf, wEntries, wParts, entryOf, wBook}
-use Rattle.laws.proofs.Splits.{Splits, s-name, s-text, s-list, s-selector, s-label, s-open, s-comb, s-inner, s-param, s-definition}
 use Rattle.definition.specs.Size.{size, sizeBook}
+use Rattle.laws.proofs.Splits.{Splits, s-name, s-text, s-list, s-selector, s-label, s-open, s-comb, s-inner, s-param, s-definition}
 
 -- what is written in front of a list is as long whatever follows
 pub adds : (w : List ℕ → List ℕ) → Splits w → (r : List ℕ) → length (w r) ≡ length (w []) + length r

@@ -1,12 +1,12 @@
 -- What is written of a list that a book can hold is bytes: lengths and counts are below 65,536, since no more than that is written.
 use mathlib.Core.List.{List, [], _∷_, _++_, map}
-use Prim.Native.Nat.{ℕ, _+_, _*_, _≤_, _<_}
 use mathlib.Core.Bool.{Bool}
+use Prim.Native.Nat.{ℕ, _+_, _*_, _≤_, _<_}
 use native.Mathlib.Omega.{arith}
 use lib.ListN.{length, length-map}
 use Rattle.definition.specs.Tree.{Name, Text, Leaf, constraint-int, constraint-enum, bits, enum, tail, nothing, never, Len, Shell, wrap, vec, option, array, Selector, none, by, CaseKind, enums, ints, arrays, FieldKind, ordinary, dependent, Combinator, plain, chained, Inner, leaf, struct, choice, shell, bytes, invocation, macro-invocation, Fields, no-field, field, const, Cases, no-case, case, Inners, no-inner, inner, Param, Kind, isFormat, isConstant, isByteOrder, isMacro, Definition, format, constant, byte-order, macro}
-use Rattle.definition.specs.Write.{wU16, wName, wText, wAll, wList, wLen, wSelector, caseByte, wLabel, leafTag, fieldByte, wOpen, wShut, countF, countC, countA, wCombinator, wInner, wFields, wCases, wInners, wParam, wDefinition, kindOf, kindByte, sizeOf, wEntries, wParts, entryOf, wBook}
 use Rattle.definition.specs.Read.{dotted, undotted}
+use Rattle.definition.specs.Write.{wU16, wName, wText, wAll, wList, wLen, wSelector, caseByte, wLabel, leafTag, fieldByte, wOpen, wShut, countF, countC, countA, wCombinator, wInner, wFields, wCases, wInners, wParam, wDefinition, kindOf, kindByte, sizeOf, wEntries, wParts, entryOf, wBook}
 use Rattle.laws.specs.Book.{Bytes, Named, AllNamed, GoodLen, GoodS, GoodL, GoodShell, Good, GoodI, GoodF, GoodC, GoodA, GoodP, GoodD, GoodAll, IsBook}
 use Rattle.laws.proofs.Sizes.{room, size-book, size-bodies, room-least}
 

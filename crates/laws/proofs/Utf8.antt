@@ -4,14 +4,14 @@ use mathlib.Core.Logic.{_⊎_, inl, inr, ⊎-elim}
 use mathlib.Core.List.{List, [], _∷_, _++_}
 use mathlib.Core.Bool.{true, false, _&&_, cond}
 use Prim.Native.Nat.{ℕ, zero, suc, _+_, _*_, _-_, _/_, _%_, _≤_, _<_}
-use native.Mathlib.Omega.{arith}
 use native.Mathlib.Nat.{not-suc-le-zero}
+use native.Mathlib.Omega.{arith}
 use lib.Dec.{eqb, leb, ltb}
 use lib.ListN.{length, getD, drop}
 use borrow.Author.Tests.{ltb-true, ltb-false, leb-true, eqb-true, eqb-false, lt-ltb, le-ltb, le-leb, ne-eqb}
+use Rattle.definition.specs.Utf8.{scalar, encode, Utf8, none, more, Range, behind, characters, wellFormed}
 use Rattle.laws.specs.Laws.{TableSaysUtf8, OneEncoding}
 use Rattle.laws.proofs.Tests.{yes-no, both-true}
-use Rattle.definition.specs.Utf8.{scalar, encode, Utf8, none, more, Range, behind, characters, wellFormed}
 
 -- a scalar value is no surrogate and at most 0x10FFFF
 module _ (c : ℕ) where

@@ -8,18 +8,18 @@ use native.Mathlib.Omega.{arith}
 use Rattle.definition.specs.Res.{just}
 use Rattle.definition.specs.Tree.{Name, CaseKind, FieldKind, ordinary, dependent, Combinator, plain, chained, Inner, leaf, struct, choice, shell, bytes, invocation, macro-invocation, Fields, no-field, field, const, Cases, no-case, case, Param, Definition, format, constant, byte-order, macro}
 use Rattle.definition.specs.Read.{noDot, dotted, undotted}
+use Rattle.definition.specs.Size.{levels, levelsI, levelsF, levelsC, levelsP, levelsBook}
 use Rattle.definition.specs.Names.{eqName, child, segment, caseSegment, shellSegment}
 use Rattle.definition.specs.Macros.{innerOf}
-use Rattle.definition.specs.Size.{levels, levelsI, levelsF, levelsC, levelsP, levelsBook}
 use Rattle.definition.specs.Lift.{Course, State, Walk, binder, childBy, bind, walk, walkI, walkF, walkC, walkAll, start}
 use Rattle.laws.specs.Book.{Named, AllNamed, Good, GoodI, GoodF, GoodC, GoodP, GoodAll}
 use Rattle.laws.specs.Lists.{paramNames}
 use Rattle.laws.proofs.Tests.{yes-no, both-true}
 use Rattle.laws.proofs.Steps.{Gives, value, then, so, gave}
-use Rattle.laws.proofs.FreshName.{eqName-true}
 use Rattle.laws.proofs.Levels.{levels-append, good-append}
-use Rattle.laws.proofs.Lifted.{Bound, Lifted, lift-says}
+use Rattle.laws.proofs.FreshName.{eqName-true}
 use Rattle.laws.proofs.PlainNames.{Base, child-field, child-shell, child-case, fresh-plain}
+use Rattle.laws.proofs.Lifted.{Bound, Lifted, lift-says}
 
 -- a parameter that a book can hold, and parameters
 pub record FineType (n : Name) (i : Inner) : Type 0 where

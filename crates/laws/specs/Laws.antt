@@ -1,23 +1,25 @@
 -- The laws of the definition: what is proved of it in this crate, statement by statement. The proofs are in proofs/Laws.antt.
 use mathlib.Core.Path.{_≡_}
-use mathlib.Core.Logic.{_↔_}
+use mathlib.Core.Logic.{_↔_, _⊎_}
 use mathlib.Core.List.{List, [], _∷_, _++_, List·Memᴰ}
-use mathlib.Core.Bool.{true, _&&_}
+use mathlib.Core.Bool.{Bool, true, false, _&&_}
 use Prim.Native.Nat.{ℕ, zero, suc, _≤_, _<_}
 use lib.Dec.{ltb}
 use lib.ListN.{length, drop}
-use Rattle.definition.specs.Res.{ok}
+use Rattle.definition.specs.Code.{result-long}
+use Rattle.definition.specs.Res.{bad, ok}
 use Rattle.definition.specs.Out.{done}
-use Rattle.definition.specs.Tree.{Name, Definition}
 use Rattle.definition.specs.Utf8.{scalar, encode, Utf8, wellFormed}
+use Rattle.definition.specs.Tree.{Name, Definition, format, constant, byte-order, macro}
 use Rattle.definition.specs.Contents.{readBook}
 use Rattle.definition.specs.Write.{wBook}
 use Rattle.definition.specs.Size.{sizeBook}
 use Rattle.definition.specs.Names.{numbered, fresh, sorted}
 use Rattle.definition.specs.Collect.{anonymous}
-use Rattle.definition.specs.Lift.{Course, State, walkAll, start}
+use Rattle.definition.specs.Lift.{Course, full, State, walkAll, start}
 use Rattle.definition.specs.Answer.{Result, all, attempt, answer, output}
 use Rattle.laws.specs.Book.{Bytes, IsBook}
+use Rattle.laws.specs.Lists.{paramNames}
 
 -- UTF-8 -------------------------------------------------------------------------------------------
 
@@ -91,6 +93,17 @@ SortedAscends = (ns : List Name) → Ascending (sorted ns)
 abbrev pub SortedHasMembers : Type 0
 SortedHasMembers = (ns : List Name) (n : Name) → List·Memᴰ n (sorted ns) ↔ List·Memᴰ n ns
 
+-- the parameters of what is lifted ascend, and only formats are lifted
+abbrev pub LiftedAscend : List Definition → Type 0
+LiftedAscend [] = Unit {0}
+LiftedAscend (format n ps c ∷ ds) = Ascending (paramNames ps) × LiftedAscend ds
+LiftedAscend (constant n x ∷ ds) = ⊥
+LiftedAscend (byte-order x ∷ ds) = ⊥
+LiftedAscend (macro n ps c ∷ ds) = ⊥
+
+abbrev pub ParametersAscend : Type 0
+ParametersAscend = (book : List ℕ) (outLength workLength : ℕ) (r : Result) → attempt book outLength workLength ≡ done r → LiftedAscend (r .lifted)
+
 -- Code 10 ----------------------------------------------------------------------------------------
 
 -- the walk that stops lifting when there are k definitions, and tests no limit. It leaves the rest of the book as it stands
@@ -100,3 +113,24 @@ stopped k = record { lifts = λ c n. anonymous c && ltb n k; within = λ b n. tr
 -- "Code 10 measures the book as if the walk stopped with that lift made": for every k, the running numbers are the size and the count of the book that the walk stopped at k definitions leaves
 abbrev pub MeasureIsSize : Type 0
 MeasureIsSize = (k : ℕ) (ds es : List Definition) (t : State) → walkAll (stopped k) ds (start ds) ≡ ok es t → (t .bytes ≡ sizeBook (es ++ t .made)) × (t .defns ≡ length (es ++ t .made))
+
+-- a walk with the limits of code 10 left open; document 01's is the one with 16,384 and 512
+abbrev pub limited : (ℕ → ℕ → Bool) → Course
+limited within = record { lifts = λ c n. anonymous c; within = within }
+
+-- ".. at each lift": whatever limits are tested at a lift, the numbers that they refuse are the size and the count of the book that the walk stopped with that lift made leaves
+pub record StoppedAt (within : ℕ → ℕ → Bool) (ds : List Definition) (s : State) : Type 0 where
+  pub over : within (s .bytes) (s .defns) ≡ false
+  pub kept : List Definition
+  pub state : State
+  pub walked : walkAll (stopped (s .defns)) ds (start ds) ≡ ok kept state
+  pub size : sizeBook (kept ++ state .made) ≡ s .bytes
+  pub count : length (kept ++ state .made) ≡ s .defns
+
+abbrev pub SumAtEachLift : Type 0
+SumAtEachLift = (within : ℕ → ℕ → Bool) (ds : List Definition) (s : State) → walkAll (limited within) ds (start ds) ≡ bad result-long s → StoppedAt within ds s
+
+-- "10: result over 16,384 bytes or 512 definitions"
+abbrev pub ResultLong : Type 0
+ResultLong = (ds : List Definition) (s : State) → walkAll full ds (start ds) ≡ bad result-long s
+    → (es : List Definition) × (t : State) × (walkAll (stopped (s .defns)) ds (start ds) ≡ ok es t) × ((16384 < sizeBook (es ++ t .made)) ⊎ (512 < length (es ++ t .made)))
