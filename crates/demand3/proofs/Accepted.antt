@@ -11,7 +11,7 @@ use Rattle.definition.specs.Tree.{Definition}
 use Rattle.definition.specs.Write.{wBook}
 use Rattle.definition.specs.Answer.{Result, all, expanded, elaborated, Answer, answered, attempt, answer}
 use Rattle.laws.proofs.Steps.{did-out, did-given}
-use Rattle.laws.proofs.Laws.{code-done}
+use Rattle.laws.proofs.Results.{code-done}
 use Rattle.demand3.specs.Demand3.{Demand3}
 use Rattle.demand3.proofs.Demand3.{demand3}
 

@@ -14,8 +14,8 @@ use Rattle.definition.specs.Bodies.{everyInvocation, everyInvocationI, everyInv
 use Rattle.definition.specs.PutBack.{bodyOf, meaningOf, replace, replaceI, replaceF, replaceC, inBody, standsFor, back, backAll}
 use Rattle.laws.proofs.Tests.{both-true}
 use Rattle.laws.proofs.Steps.{did}
-use Rattle.laws.proofs.Elem.{bodyOf-new}
 use Rattle.laws.proofs.Lifted.{Lifted, lifted}
+use Rattle.demand3.proofs.Elem.{bodyOf-new}
 use Rattle.demand3.proofs.Walked.{Known, Grew, name-new, known-first, walked, walkedI, walkedF, walkedC, walkedAll, kid}
 
 -- M: the definitions lifted in the end; none of the names in `known` is one of theirs
@@ -59,7 +59,7 @@ module _ (M : List Definition) (known : List Name) (clear : (n : Name) → elem 
         let l = lifted full c inside base binders s d t e in
         let g = grew (l .name) binders (l .first) (l .body) (l .last) (l .went) in
         let kn₁ = known-first c inside base binders s d t l g kn in
-        let h₁ : Holds (l .last) = λ n x w. h n x (rw (l .last-made) (Rattle.laws.proofs.Elem.bodyOf-lasts (l .last .made) _ n x w)) in
+        let h₁ : Holds (l .last) = λ n x w. h n x (rw (l .last-made) (Rattle.demand3.proofs.Elem.bodyOf-lasts (l .last .made) _ n x w)) in
         lift-back c inside base binders s d t l g kn h (λ j r. ih (l .name) binders (l .first) (l .body) (l .last) (l .went) kn₁ h₁ p j r) k q
     kid-back false base binders s d t e kn h p k q = ih base binders s d t e kn h p k q
 

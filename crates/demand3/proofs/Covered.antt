@@ -9,9 +9,9 @@ use Rattle.definition.specs.Collect.{bytesOrTail, selectorUses, shellUses, unbo
 use Rattle.definition.specs.Bodies.{chainsOk, chainsOkI, chainsOkF, chainsOkC}
 use Rattle.laws.proofs.Tests.{yes-no, not-both, both-true}
 use Rattle.laws.proofs.FreshName.{eqName-true, eqName-refl}
-use Rattle.laws.proofs.Elem.{elem-here, elem-there}
 use Rattle.laws.proofs.Order.{elem-sorted, sorted-distinct}
 use Rattle.demand3.specs.Shortest.{each, binds, covered, coveredI, coveredF, coveredC, Shortest}
+use Rattle.demand3.proofs.Elem.{elem-here, elem-there}
 
 and-assoc : (a b c : Bool) → (a && b) && c ≡ a && (b && c)
 and-assoc true b c = refl
@@ -28,7 +28,7 @@ unfolding each remove elem
 each-remove l [] ns = refl
 each-remove l (u ∷ us) ns = ⊎-elim
     (λ (q : eqName l u ≡ true). let e = eqName-true l u q in rw (q, ← e, eqName-refl l) (each-remove l us ns))
-    (λ (q : eqName l u ≡ false). rw (q, Rattle.laws.proofs.Elem.eqName-swap l u q, each-remove l us ns))
+    (λ (q : eqName l u ≡ false). rw (q, Rattle.demand3.proofs.Elem.eqName-swap l u q, each-remove l us ns))
     (yes-no (eqName l u))
 
 each-unbound : (k : FieldKind) (l : Name) (us ns : List Name) → each (unbound k l us) ns ≡ each us (binds k l ns)

@@ -13,9 +13,9 @@ use Rattle.definition.specs.Lift.{full, State, names, start, liftBook, walkAll}
 use Rattle.definition.specs.Answer.{Result, outcome, expanded, elaborated}
 use Rattle.definition.specs.Premise.{callsKnown, chainsPlain}
 use Rattle.definition.specs.PutBack.{bodyOf, backAll, putBack}
-use Rattle.laws.proofs.Elem.{bodyOf-none}
 use Rattle.demand3.specs.Flat.{FlatAll}
 use Rattle.demand3.specs.Demand3.{Tight, Demand3}
+use Rattle.demand3.proofs.Elem.{bodyOf-none}
 use Rattle.demand3.proofs.Walked.{Known, Grew, walkedAll}
 use Rattle.demand3.proofs.Back.{Holds, back-all}
 use Rattle.demand3.proofs.Ease.{ease-all}

@@ -1,3 +1,4 @@
+pub mod Elem
 pub mod Walked
 pub mod Back
 pub mod Ease

@@ -15,10 +15,10 @@ use Rattle.definition.specs.PutBack.{bodyOf, replace, standsFor, back}
 use Rattle.laws.specs.Lists.{paramNames}
 use Rattle.laws.proofs.Tests.{both-true}
 use Rattle.laws.proofs.Steps.{did}
-use Rattle.laws.proofs.Elem.{bodyOf-lasts}
 use Rattle.laws.proofs.Lifted.{Lifted, lifted}
 use Rattle.demand3.specs.Shortest.{Shortest}
 use Rattle.demand3.specs.Demand3.{NoneLeft, Tight}
+use Rattle.demand3.proofs.Elem.{bodyOf-lasts}
 use Rattle.demand3.proofs.Walked.{Known, Grew, known-first, walked, walkedI, walkedF, walkedC, walkedAll, kid}
 use Rattle.demand3.proofs.Back.{Holds, earlier, calls, walk-back}
 use Rattle.demand3.proofs.Ease.{ease}

@@ -20,7 +20,7 @@ use Rattle.definition.specs.Answer.{Result, all, out, outcome, source, expanded
 use Rattle.laws.specs.Book.{Bytes, IsBook}
 use Rattle.laws.specs.Lists.{NoMacro}
 use Rattle.laws.proofs.Steps.{yielded, did, no-done, did-out}
-use Rattle.laws.proofs.Laws.{written-is-read, expanded-book, elaborated-book}
+use Rattle.laws.proofs.Results.{written-is-read, expanded-book, elaborated-book}
 use Rattle.demand3.specs.Flat.{CalmLeaf, Calm, CalmI, CalmF, CalmC, Flat, FlatI, FlatAll}
 use Rattle.demand3.proofs.Walked.{walkedAll}
 

@@ -1,182 +1,25 @@
--- The laws of specs/Laws.antt, proved.
-use mathlib.Core.Path.{_≡_, refl, ap, _∙_}
-use mathlib.Core.Logic.{_⊎_, inl, inr}
-use mathlib.Core.List.{_∷_, List, _++_, []}
-use mathlib.Core.Bool.{Bool, true, false, _&&_}
-use Prim.Native.Nat.{ℕ, _≤_, _<_}
-use native.Mathlib.Omega.{arith}
-use lib.Dec.{leb}
-use lib.ListN.{length}
-use borrow.Author.Tests.{leb-true, leb-false}
-use Rattle.definition.specs.Code.{Code, number, work-short, book-long, not-a-book, bad-name, too-deep, macro-growth, leftover-macro, no-binder, name-long, result-long, output-short}
-use Rattle.definition.specs.Res.{Res}
-use Rattle.definition.specs.Out.{Out, refused, done}
-use Rattle.definition.specs.Tree.{Definition, Name, Combinator, Param, format, constant, byte-order, macro}
-use Rattle.definition.specs.Contents.{book, readBook}
-use Rattle.definition.specs.Write.{wBook}
-use Rattle.definition.specs.Size.{sizeBook}
-use Rattle.definition.specs.Macros.{expandList, expandBook}
-use Rattle.definition.specs.Collect.{free}
-use Rattle.definition.specs.Lift.{Walk, full, State, walkAll, start, liftBook}
-use Rattle.definition.specs.Answer.{out, source, expanded, Result, outcome, elaborated, all, attempt, answered, answer, filled, output}
-use Rattle.laws.specs.Book.{Bytes, IsBook}
-use Rattle.laws.specs.Lists.{NoMacro, paramNames}
-use Rattle.laws.specs.Laws.{TableSaysUtf8, OneEncoding, WrittenIsRead, ReadIsWritten, ResultIsBook, FreshIsFirstFree, CandidatesDiffer, SortedAscends, SortedHasMembers, stopped, MeasureIsSize, LiftedAscend, SumAtEachLift, ResultLong, ParametersAscend, Ascending}
-use Rattle.laws.proofs.Tests.{not-both}
-use Rattle.laws.proofs.Steps.{Gives, refusal, value, so, gave, Yields, stops, yields, next, where-true, yielded, of-result, of-value}
-use Rattle.laws.proofs.BookInverse.{i-book}
-use Rattle.laws.proofs.BookRoundTrip.{r-book}
-use Rattle.laws.proofs.Small.{book-small}
-use Rattle.laws.proofs.FreshName.{first-free, candidates-differ}
-use Rattle.laws.proofs.Order.{sorted-ascends, sorted-members}
-use Rattle.laws.proofs.Utf8 as Utf8
-use Rattle.laws.proofs.Lifted.{Lifted}
-use Rattle.laws.proofs.States.{Carried, states-all}
-use Rattle.laws.proofs.Measure.{measures, within-limits}
-use Rattle.laws.proofs.Stopped.{sum-at-each-lift}
-use Rattle.laws.proofs.WalkGood.{result-fine}
-use Rattle.laws.proofs.ExpandGood.{expand-good}
+-- The laws of specs/Laws.antt hold.
+use Rattle.laws.specs.Laws.{Laws}
+use Rattle.laws.proofs.FreshName.{fresh-is-first-free, candidates-differ}
+use Rattle.laws.proofs.Order.{sorted-ascends, sorted-has-members}
+use Rattle.laws.proofs.Utf8.{table-says-utf8, one-encoding}
+use Rattle.laws.proofs.Stopped.{measure-is-size, sum-at-each-lift, result-long-is-over}
+use Rattle.laws.proofs.Results.{written-is-read, read-is-written, result-is-book}
+use Rattle.laws.proofs.Parameters.{parameters-ascend}
 
-pub table-says-utf8 : TableSaysUtf8
-table-says-utf8 = Utf8.table-says-utf8
-
-pub one-encoding : OneEncoding
-one-encoding = Utf8.one-encoding
-
-pub fresh-is-first-free : FreshIsFirstFree
-fresh-is-first-free = first-free
-
-pub candidates-are-different : CandidatesDiffer
-candidates-are-different = candidates-differ
-
-pub sorted-list-ascends : SortedAscends
-sorted-list-ascends = sorted-ascends
-
-pub sorted-list-has-members : SortedHasMembers
-sorted-list-has-members = sorted-members
-
-pub sum-is-size : SumAtEachLift
-sum-is-size = sum-at-each-lift
-
-pub result-long-is-over : ResultLong
-result-long-is-over ds s e =
-    let w = sum-at-each-lift (full .within) ds s e in
-    (w .kept, w .state, w .walked, rw (w .size, w .count) (one-over (leb (s .bytes) 16384) (leb (s .defns) 512) refl refl (w .over)))
-  where
-    one-over : (a b : Bool) → leb (s .bytes) 16384 ≡ a → leb (s .defns) 512 ≡ b → a && b ≡ false → (16384 < s .bytes) ⊎ (512 < s .defns)
-    one-over false b p q e = inl (leb-false (s .bytes) 16384 p)
-    one-over true false p q e = inr (leb-false (s .defns) 512 q)
-    one-over true true p q e = not-both true refl e
-
-pub measure-is-size : MeasureIsSize
-measure-is-size k ds es t e = measures (stopped k) ds es t e
-
--- the definition computes with long lists of what unfolds; what it says is short
-read-says : (s : List ℕ) → readBook s ≡ book 6 s
-unfolding readBook
-read-says s = refl
-
-expand-says : (ds : List Definition) → expandBook ds ≡ expandList ds
-unfolding expandBook
-expand-says ds = refl
-
-lift-says : (ds : List Definition) → liftBook ds ≡ walkAll full ds (start ds)
-unfolding liftBook
-lift-says ds = refl
-
-pub written-is-read : WrittenIsRead
-written-is-read ds b = (book-small ds b, read-says (wBook ds) ∙ r-book ds b)
-
-reads : (s : List ℕ) → Bytes s → length s ≤ 16384 → Gives (λ ds r. (s ≡ wBook ds) × IsBook ds) (readBook s)
-unfolding sizeBook
-reads s h l = rw (read-says s) (so (i-book s h) λ ds r w. (w .same, record { good = w .good; deep = w .deep; few = w .few; short = omega (arith, ap length (w .same)) }))
-
-pub read-is-written : ReadIsWritten
-read-is-written s h l ds r e = gave (reads s h l) e
-
--- from the bytes of a book to the result
-out-yields : {S A : Type 0} {P : A → Type 0} {m : Res S A} → Gives (λ a s. P a) m → Yields P (out m)
-unfolding out
-out-yields refusal = stops
-out-yields (value p) = yields p
-
-source-book : (s : List ℕ) → Bytes s → Yields IsBook (source s)
-unfolding source
-source-book s h = next {P = λ b. Bytes b × (length b ≤ 16384)} (where-true (leb (length s) 16384) _ s (λ t. (h, leb-true (length s) 16384 t))) _ λ b w. out-yields (so (reads b (w .0) (w .1)) λ ds r v. v .1)
-
-pub expanded-book : (s : List ℕ) → Bytes s → Yields (λ ds. IsBook ds × NoMacro ds) (expanded s)
-unfolding expanded
-expanded-book s h = next (source-book s h) _ λ ds b. rw (expand-says ds) (expand-good ds (b .good) (b .few))
-
--- what holds of every walk of an expanded list holds of every result
-outcome-yields : (P : Result → Type 0) {m : Res State (List Definition)} → Gives (λ es t. P (record { kept = es; lifted = t .made })) m → Yields P (outcome m)
-unfolding outcome
-outcome-yields P refusal = stops
-outcome-yields P (value p) = yields p
-
-elaborated-yields : (P : Result → Type 0) (s : List ℕ) → ((ds : List Definition) → expanded s ≡ done ds → Gives (λ es t. P (record { kept = es; lifted = t .made })) (walkAll full ds (start ds))) → Yields P (elaborated s)
-unfolding elaborated
-elaborated-yields P s h = next (of-result (expanded s) λ ds e. h ds e) _ λ ds w. rw (lift-says ds) (outcome-yields P w)
-
-attempt-yields : (P : Result → Type 0) (s : List ℕ) → Yields P (elaborated s) → (o w : ℕ) → Yields (λ r. P r × (length (wBook (all r)) ≤ o)) (attempt s o w)
-unfolding attempt
-attempt-yields P s h o w = next {P = λ b. Yields P (elaborated b)} (where-true (leb 65536 w) _ s (λ t. h)) _ λ b g. next g _ λ r k. where-true (leb (length (wBook (all r))) o) _ r λ t. (k, leb-true _ o t)
-
-lifted-book : (ds : List Definition) → IsBook ds → Gives (λ es t. IsBook (es ++ t .made)) (walkAll full ds (start ds))
-lifted-book ds b = of-value (walkAll full ds (start ds)) λ es t e.
-    let f = gave (result-fine full ds (record { good = b .good; deep = b .deep })) e in
-    let w = within-limits ds es t e (b .short) (b .few) in
-    record { good = f .good; deep = f .deep; few = w .1; short = w .0 }
-
-pub elaborated-book : (s : List ℕ) → Bytes s → Yields (λ r. IsBook (all r)) (elaborated s)
-elaborated-book s h = elaborated-yields (λ r. IsBook (all r)) s λ ds e. lifted-book ds (yielded (expanded-book s h) e .0)
-
--- no code of the table is 0
-positive : {X : Type 0} (k : Code) → number k ≡ 0 → X
-unfolding number
-positive work-short e = absurd (omega arith)
-positive book-long e = absurd (omega arith)
-positive not-a-book e = absurd (omega arith)
-positive bad-name e = absurd (omega arith)
-positive too-deep e = absurd (omega arith)
-positive macro-growth e = absurd (omega arith)
-positive leftover-macro e = absurd (omega arith)
-positive no-binder e = absurd (omega arith)
-positive name-long e = absurd (omega arith)
-positive result-long e = absurd (omega arith)
-positive output-short e = absurd (omega arith)
-
--- code 0: there is a result
-pub code-done : {X : Type 0} (m : Out Result) → answered m .code ≡ 0 → ((r : Result) → m ≡ done r → X) → X
-unfolding answered
-code-done (refused k) e go = positive k e
-code-done (done r) e go = go r refl
-
-pub result-is-book : ResultIsBook
-unfolding answer output filled
-result-is-book s o w h e = code-done (attempt s (length o) w) e λ r g.
-    let k = yielded (attempt-yields (λ r. IsBook (all r)) s (elaborated-book s h) (length o) w) g in
-    let z = written-is-read (all r) (k .0) in
-    record { result = r; attempted = g; isBook = k .0; small = z .0; reads = z .1; fits = k .1; fills = rw g }
-
--- the parameters of what was lifted
-ascend-snoc : (ds : List Definition) (n : Name) (ps : List Param) (c : Combinator) → LiftedAscend ds → Ascending (paramNames ps) → LiftedAscend (ds ++ (format n ps c ∷ []))
-ascend-snoc [] n ps c f g = (g, tt)
-ascend-snoc (format m qs d ∷ ds) n ps c f g = (f .0, ascend-snoc ds n ps c (f .1) g)
-ascend-snoc (constant m x ∷ ds) n ps c f g = absurd f
-ascend-snoc (byte-order x ∷ ds) n ps c f g = absurd f
-ascend-snoc (macro m qs d ∷ ds) n ps c f g = absurd f
-
-abbrev Ascends : State → State → Type 0
-Ascends s t = LiftedAscend (s .made) → LiftedAscend (t .made)
-
-lift-ascends : {c : Combinator} {inside : Walk} {n : Name} {b : List Param} {s : State} {d : Combinator} {t : State} (l : Lifted full c inside n b s d t) → Ascends (l .first) (l .last) → Ascends s t
-lift-ascends {c = c} l f h = rw (l .last-made) (ascend-snoc (l .last .made) (l .name) (l .params) (l .body) (f (rw (l .first-made) h)) (rw (l .needed) (sorted-ascends (free c))))
-
-carried-ascends : Carried full Ascends
-carried-ascends = record { stays = λ s f. f; goes-on = λ f g h. g (f h); lifts = λ l f. lift-ascends l f }
-
-pub parameters-ascend : ParametersAscend
-unfolding start
-parameters-ascend book o w r e = yielded (attempt-yields (λ r. LiftedAscend (r .lifted)) book
-    (elaborated-yields (λ r. LiftedAscend (r .lifted)) book λ ds e. so (states-all full Ascends carried-ascends ds (start ds)) λ es t f. f tt) o w) e .0
+pub laws : Laws
+laws = record {
+  table-says-utf8 = table-says-utf8;
+  one-encoding = one-encoding;
+  written-is-read = written-is-read;
+  read-is-written = read-is-written;
+  result-is-book = result-is-book;
+  fresh-is-first-free = fresh-is-first-free;
+  candidates-differ = candidates-differ;
+  sorted-ascends = sorted-ascends;
+  sorted-has-members = sorted-has-members;
+  parameters-ascend = parameters-ascend;
+  measure-is-size = measure-is-size;
+  sum-at-each-lift = sum-at-each-lift;
+  result-long-is-over = result-long-is-over;
+}

@@ -9,7 +9,6 @@ pub mod RoundTrip
 pub mod BookRoundTrip
 pub mod Small
 pub mod FreshName
-pub mod Elem
 pub mod PlainNames
 pub mod Order
 pub mod Utf8
@@ -19,4 +18,6 @@ pub mod Measure
 pub mod Stopped
 pub mod WalkGood
 pub mod ExpandGood
+pub mod Results
+pub mod Parameters
 pub mod Laws

@@ -95,8 +95,8 @@ unfolding sorted elem
 elem-sorted p [] = refl
 elem-sorted p (n ∷ l) = rw (elem-insert p n (sorted l), elem-sorted p l)
 
-pub sorted-members : SortedHasMembers
-sorted-members ns n = (λ h. elem-in n ns (sym (elem-sorted n ns) ∙ in-elem n (sorted ns) h), λ h. elem-in n (sorted ns) (elem-sorted n ns ∙ in-elem n ns h))
+pub sorted-has-members : SortedHasMembers
+sorted-has-members ns n = (λ h. elem-in n ns (sym (elem-sorted n ns) ∙ in-elem n (sorted ns) h), λ h. elem-in n (sorted ns) (elem-sorted n ns ∙ in-elem n ns h))
 
 -- what ascends names each once
 passes : {a b c : Name} → Less a b → Less b c → Less a c

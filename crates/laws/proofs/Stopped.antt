@@ -1,20 +1,22 @@
 -- Code 10 at a lift: the numbers that it tests are those of the walk stopped there. The walk and the stopped one go together up to that lift, and then the stopped one changes nothing more.
 use mathlib.Core.Path.{_≡_, refl, sym, _∙_}
+use mathlib.Core.Logic.{_⊎_, inl, inr}
 use mathlib.Core.List.{List, [], _∷_}
 use mathlib.Core.Bool.{Bool, true, false, not, _&&_}
-use Prim.Native.Nat.{ℕ, suc, _≤_}
+use Prim.Native.Nat.{ℕ, suc, _≤_, _<_}
 use native.Mathlib.Omega.{arith}
 use lib.Dec.{leb, ltb}
 use lib.ListN.{length}
-use borrow.Author.Tests.{ltb-false, le-ltb}
+use borrow.Author.Tests.{ltb-false, le-ltb, leb-false}
 use Rattle.definition.specs.Code.{Code, result-long, name-long, leftover-macro}
 use Rattle.definition.specs.Res.{Maybe, absent, just, Res, bad, ok, _>>=_, require}
 use Rattle.definition.specs.Tree.{Name, CaseKind, Combinator, plain, chained, Inner, leaf, struct, choice, shell, bytes, invocation, macro-invocation, Fields, no-field, field, const, Cases, no-case, case, Param, Definition, format, constant, byte-order, macro}
 use Rattle.definition.specs.Names.{sorted, fresh, child, segment, caseSegment, shellSegment}
 use Rattle.definition.specs.Collect.{anonymous, free, leftover}
-use Rattle.definition.specs.Lift.{Course, State, Walk, binder, bound, typed, take, grow, measured, append, lift, childBy, bind, walk, walkI, walkF, walkC, walkAll, start}
-use Rattle.laws.specs.Laws.{stopped, limited, SumAtEachLift}
-use Rattle.laws.proofs.Steps.{no-ok, gave}
+use Rattle.definition.specs.Lift.{Course, State, Walk, binder, bound, typed, take, grow, measured, append, lift, childBy, bind, walk, walkI, walkF, walkC, walkAll, start, full}
+use Rattle.laws.specs.Laws.{stopped, limited, SumAtEachLift, MeasureIsSize, ResultLongIsOver}
+use Rattle.laws.proofs.Tests.{not-both}
+use Rattle.laws.proofs.Steps.{no-ok, gave, value}
 use Rattle.laws.proofs.Lifted.{typed-says}
 use Rattle.laws.proofs.Measure.{measures}
 
@@ -256,3 +258,16 @@ sum-at-each-lift within ds s e =
     let z = w .2 refl in
     let m = measures (stopped (s .defns)) ds (z .value) (z .state) (z .gives) in
     record { over = w .1; kept = z .value; state = z .state; walked = z .gives; size = sym (m .0) ∙ z .bytes; count = sym (m .1) ∙ z .defns }
+
+pub result-long-is-over : ResultLongIsOver
+result-long-is-over ds s e =
+    let w = sum-at-each-lift (full .within) ds s e in
+    (w .kept, w .state, w .walked, rw (w .size, w .count) (one-over (leb (s .bytes) 16384) (leb (s .defns) 512) refl refl (w .over)))
+  where
+    one-over : (a b : Bool) → leb (s .bytes) 16384 ≡ a → leb (s .defns) 512 ≡ b → a && b ≡ false → (16384 < s .bytes) ⊎ (512 < s .defns)
+    one-over false b p q e = inl (leb-false (s .bytes) 16384 p)
+    one-over true false p q e = inr (leb-false (s .defns) 512 q)
+    one-over true true p q e = not-both true refl e
+
+pub measure-is-size : MeasureIsSize
+measure-is-size k ds es t e = measures (stopped k) ds es t e

@@ -131,6 +131,21 @@ abbrev pub SumAtEachLift : Type 0
 SumAtEachLift = (within : ℕ → ℕ → Bool) (ds : List Definition) (s : State) → walkAll (limited within) ds (start ds) ≡ bad result-long s → StoppedAt within ds s
 
 -- "10: result over 16,384 bytes or 512 definitions"
-abbrev pub ResultLong : Type 0
-ResultLong = (ds : List Definition) (s : State) → walkAll full ds (start ds) ≡ bad result-long s
+abbrev pub ResultLongIsOver : Type 0
+ResultLongIsOver = (ds : List Definition) (s : State) → walkAll full ds (start ds) ≡ bad result-long s
     → (es : List Definition) × (t : State) × (walkAll (stopped (s .defns)) ds (start ds) ≡ ok es t) × ((16384 < sizeBook (es ++ t .made)) ⊎ (512 < length (es ++ t .made)))
+
+pub record Laws : Type 0 where
+  pub table-says-utf8 : TableSaysUtf8
+  pub one-encoding : OneEncoding
+  pub written-is-read : WrittenIsRead
+  pub read-is-written : ReadIsWritten
+  pub result-is-book : ResultIsBook
+  pub fresh-is-first-free : FreshIsFirstFree
+  pub candidates-differ : CandidatesDiffer
+  pub sorted-ascends : SortedAscends
+  pub sorted-has-members : SortedHasMembers
+  pub parameters-ascend : ParametersAscend
+  pub measure-is-size : MeasureIsSize
+  pub sum-at-each-lift : SumAtEachLift
+  pub result-long-is-over : ResultLongIsOver
