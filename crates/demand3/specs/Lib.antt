@@ -1,0 +1,3 @@
+pub mod Flat
+pub mod Shortest
+pub mod Demand3

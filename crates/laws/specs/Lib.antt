@@ -1,0 +1,3 @@
+pub mod Book
+pub mod Lists
+pub mod Laws
