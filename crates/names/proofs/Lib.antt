@@ -1,0 +1,4 @@
+pub mod Table
+pub mod Segment
+pub mod Held
+pub mod Decimal
