@@ -1,9 +1,8 @@
 // Generated names. One is kept in a buffer's first bytes, beside its length, and grows there: a child's name is its node's with more behind
 // it. The buffer is 255 bytes long, so a length past its end says that the name is too long, and stays so whatever is put behind.
+pub mod fresh;
 mod letters;
 
-use lookup::name_at;
-use lookup::same_name;
 use writer::put_byte;
 use writer::put_bytes;
 ghost use mathlib.Core.Path.{_≡_};
