@@ -1,6 +1,5 @@
 -- Document 01, "What comes back": the code, the counts, the final bytes of output and work area.
-use mathlib.Core.List.{List, [], _∷_, _++_}
-use mathlib.Core.Bool.{Bool, true, false, not}
+use mathlib.Core.List.{List, _++_}
 use Prim.Native.Nat.{ℕ, _-_}
 use lib.Dec.{leb}
 use lib.ListN.{length, drop, replicate}

@@ -1,7 +1,7 @@
 -- The contents and the bodies. Document 01: "Contents first: u16 count n, 0 to 512; then n entries .. Then the bodies in the same order, with no gap".
 -- `width` is an entry's size: 6 in the book of document 01, and a parameter here for the second edition of document 02 k.
 use mathlib.Core.List.{List, [], _∷_, _++_}
-use mathlib.Core.Bool.{Bool, true, false, _&&_}
+use mathlib.Core.Bool.{_&&_}
 use Prim.Native.Nat.{ℕ, zero, suc, _+_, _-_, _*_}
 use lib.Dec.{eqb, leb}
 use lib.ListN.{length}

@@ -16,3 +16,6 @@ pub mod Bodies
 pub mod Premise
 pub mod PutBack
 pub mod Listing
+pub mod Notation
+pub mod Worked
+pub mod Pinned

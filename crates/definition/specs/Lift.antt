@@ -1,12 +1,12 @@
 -- Lifting rules (`expand_definitions`), codes 7 to 10.
 use mathlib.Core.List.{List, [], _∷_, _++_}
 use mathlib.Core.Bool.{Bool, true, false, cond, not, _&&_}
-use Prim.Native.Nat.{ℕ, zero, suc, _+_, _-_}
-use lib.Dec.{eqb, leb, ltb}
+use Prim.Native.Nat.{ℕ, suc, _+_, _-_}
+use lib.Dec.{leb}
 use lib.ListN.{length}
 use Rattle.definition.specs.Code.{leftover-macro, name-long, no-binder, result-long}
 use Rattle.definition.specs.Res.{Maybe, absent, just, Res, bad, ok, _>>=_, require}
-use Rattle.definition.specs.Tree.{Name, Text, Leaf, constraint-int, constraint-enum, bits, enum, tail, nothing, never, Len, Shell, wrap, vec, option, array, Selector, none, by, CaseKind, enums, ints, arrays, FieldKind, ordinary, dependent, Combinator, plain, chained, Inner, leaf, struct, choice, shell, bytes, invocation, macro-invocation, Fields, no-field, field, const, Cases, no-case, case, Inners, no-inner, inner, Param, Definition, format, constant, byte-order, macro}
+use Rattle.definition.specs.Tree.{Name, CaseKind, FieldKind, ordinary, dependent, Combinator, plain, chained, Inner, leaf, struct, choice, shell, bytes, invocation, macro-invocation, Fields, no-field, field, const, Cases, no-case, case, Param, Definition, format, constant, byte-order, macro}
 use Rattle.definition.specs.Names.{eqName, elem, remove, before, insert, sorted, root, letter, letters, segment, digits, decimal, child, caseSegment, shellSegment, numbered, firstFree, fresh}
 use Rattle.definition.specs.Write.{sizeOf, wBook}
 use Rattle.definition.specs.Size.{size, sizeBook}

@@ -1,11 +1,11 @@
 -- Premise test: "yes exactly when after macro expansion every Invocation in a format body, macro arguments aside, names a kind 1 or 2 definition, and every chain there stands on Bytes or Tail".
-use mathlib.Core.List.{List, [], _∷_}
+use mathlib.Core.List.{List}
 use mathlib.Core.Bool.{Bool, true, false, _&&_}
 use Prim.Native.Nat.{ℕ}
 use lib.Dec.{leb}
 use Rattle.definition.specs.Code.{number, work-short}
 use Rattle.definition.specs.Out.{Out, refused, done, _>>=_, given}
-use Rattle.definition.specs.Tree.{Name, Definition}
+use Rattle.definition.specs.Tree.{Definition}
 use Rattle.definition.specs.Names.{eqName, elem}
 use Rattle.definition.specs.Collect.{bytesOrTail, isTail}
 use Rattle.definition.specs.Bodies.{everyInvocation, chainsOk, everyBody}

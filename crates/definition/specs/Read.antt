@@ -1,15 +1,15 @@
 -- Reading a body: codes 3, 4 and 5. Document 01, "The definition book" and "For 3, 4, 5: .. bodies in order and items in layout order; the first fault counts".
 -- Each reader takes the bytes from where it stands and gives its value and the bytes after it, or a code and the bytes from the item at fault on:
 -- that place is for document 02 a, "the first byte of the count, entry, tag, flag, name or text that failed"; document 01 prints no place.
-use mathlib.Core.List.{List, [], _∷_, _++_}
+use mathlib.Core.List.{List, [], _∷_}
 use mathlib.Core.Bool.{Bool, true, false, _&&_, cond}
 use Prim.Native.Nat.{ℕ, zero, suc, _+_, _*_}
 use lib.Dec.{eqb}
-use lib.ListN.{length, getD}
+use lib.ListN.{getD}
 use Rattle.definition.specs.Code.{bad-name, not-a-book, too-deep}
 use Rattle.definition.specs.Res.{Maybe, absent, just, Res, bad, ok, _>>=_, require, from}
 use Rattle.definition.specs.Utf8.{wellFormed}
-use Rattle.definition.specs.Tree.{Kind, isFormat, isConstant, isByteOrder, isMacro, Name, Text, Leaf, constraint-int, constraint-enum, bits, enum, tail, nothing, never, Len, Shell, wrap, vec, option, array, Selector, none, by, CaseKind, enums, ints, arrays, FieldKind, ordinary, dependent, Combinator, plain, chained, Inner, leaf, struct, choice, shell, bytes, invocation, macro-invocation, Fields, no-field, field, const, Cases, no-case, case, Inners, no-inner, inner, Param, Definition, format, constant, byte-order, macro}
+use Rattle.definition.specs.Tree.{Kind, isFormat, isConstant, isByteOrder, isMacro, Name, Text, Leaf, constraint-int, constraint-enum, bits, enum, tail, nothing, never, Len, wrap, vec, option, array, Selector, none, by, CaseKind, enums, ints, arrays, FieldKind, ordinary, dependent, Combinator, plain, chained, Inner, leaf, struct, choice, shell, bytes, invocation, macro-invocation, Fields, no-field, field, const, Cases, no-case, case, Inners, no-inner, inner, Param, Definition, format, constant, byte-order, macro}
 
 abbrev pub Reader : Type 0 → Type 0
 Reader A = List ℕ → Res (List ℕ) A

@@ -1,5 +1,5 @@
 -- The definition book: what its bytes stand for. Document 01, "The definition book".
-use mathlib.Core.List.{List, [], _∷_}
+use mathlib.Core.List.{List}
 use Prim.Native.Nat.{ℕ}
 
 -- names and texts are lists of bytes

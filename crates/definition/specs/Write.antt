@@ -1,6 +1,6 @@
 -- Writing: the layout of document 01's "The definition book", item by item. Each function puts its bytes in front of the list that follows.
 use mathlib.Core.List.{List, [], _∷_, _++_, map}
-use Prim.Native.Nat.{ℕ, zero, suc, _+_, _*_, _/_, _%_}
+use Prim.Native.Nat.{ℕ, suc, _+_, _*_, _/_, _%_}
 use lib.ListN.{length}
 use Rattle.definition.specs.Tree.{Kind, isFormat, isConstant, isByteOrder, isMacro, Entry, Name, Text, Leaf, constraint-int, constraint-enum, bits, enum, tail, nothing, never, Len, Shell, wrap, vec, option, array, Selector, none, by, CaseKind, enums, ints, arrays, FieldKind, ordinary, dependent, Combinator, plain, chained, Inner, leaf, struct, choice, shell, bytes, invocation, macro-invocation, Fields, no-field, field, const, Cases, no-case, case, Inners, no-inner, inner, Param, Definition, format, constant, byte-order, macro}
 

@@ -1,0 +1,8 @@
+pub mod Table
+pub mod Segment
+pub mod Held
+pub mod Decimal
+pub mod Rows
+pub mod Free
+mod Take
+mod Chosen

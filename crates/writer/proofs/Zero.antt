@@ -1,0 +1,32 @@
+-- A range that is zeroed one element after the other.
+-- Assumes nothing.
+use mathlib.Core.Path.{_≡_, refl, sym, ap, _∙_}
+use mathlib.Core.Logic.{⊎-elim}
+use mathlib.Core.List.{List, [], _∷_, _++_}
+use Prim.Native.Nat.{ℕ, suc, _+_, _-_, _≤_, _<_, min, max}
+use native.Mathlib.Omega.{arith}
+use lib.ListN.{length, set, replicate, length-replicate, replicate-append-replicate}
+use Rattle.writer.specs.Buf.{put, zeros}
+use Rattle.writer.proofs.Put.{put-nil, put-past, put-push, put-cut, within}
+
+long : (n : ℕ) → length (zeros n) ≡ n
+long n = length-replicate {0} {A = ℕ} n 0
+
+pub put-zeros-none : (d : List ℕ) (a : ℕ) → put d a (zeros (a - a)) ≡ d
+put-zeros-none d a = let z : a - a ≡ 0 = omega arith in rw z (put-nil d a)
+
+pub put-zero : (d : List ℕ) (a i : ℕ) → a ≤ i → i < length d → set (put d a (zeros (i - a))) i 0 ≡ put d a (zeros (i + 1 - a))
+put-zero d a i h k =
+    let e : i + 1 - a ≡ (i - a) + 1 = omega arith in
+    let o : i ≡ a + length (zeros (i - a)) = omega (arith, long (i - a)) in
+    put-push d a (zeros (i - a)) 0 i o k ∙ rw e (ap (put d a) (replicate-append-replicate (i - a) 1 0))
+
+-- past the end there is nothing to zero
+pub zeros-end : (d : List ℕ) (a e i : ℕ) → a ≤ i → i ≡ max a (min e (length d)) → put d a (zeros (i - a)) ≡ put d a (zeros (e - a))
+zeros-end d a e i h k = ⊎-elim
+    (λ (f : e ≤ length d). let m : i - a ≡ e - a = omega arith in rw m)
+    (λ (f : length d < e).
+    let m : e - a ≡ (i - a) + ((e - a) - (i - a)) = omega arith in
+    let n : length d ≤ a + length (zeros (i - a)) = omega (arith, long (i - a)) in
+    sym (rw m (ap (put d a) (sym (replicate-append-replicate (i - a) ((e - a) - (i - a)) 0)) ∙ put-cut d a (zeros (i - a)) (zeros ((e - a) - (i - a))) n)))
+    (within e (length d))
