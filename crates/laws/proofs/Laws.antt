@@ -3,7 +3,7 @@ use Rattle.laws.specs.Laws.{Laws}
 use Rattle.laws.proofs.FreshName.{fresh-is-first-free, candidates-differ}
 use Rattle.laws.proofs.Order.{sorted-ascends, sorted-has-members}
 use Rattle.laws.proofs.Utf8.{table-says-utf8, one-encoding}
-use Rattle.laws.proofs.Stopped.{measure-is-size, sum-at-each-lift, result-long-is-over}
+use Rattle.laws.proofs.Stopped.{measure-is-size, sum-at-each-lift, code10-is-first-over}
 use Rattle.laws.proofs.Results.{written-is-read, read-is-written, result-is-book}
 use Rattle.laws.proofs.Parameters.{parameters-ascend}
 
@@ -21,5 +21,5 @@ laws = record {
   parameters-ascend = parameters-ascend;
   measure-is-size = measure-is-size;
   sum-at-each-lift = sum-at-each-lift;
-  result-long-is-over = result-long-is-over;
+  code10-is-first-over = code10-is-first-over;
 }

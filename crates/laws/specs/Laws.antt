@@ -2,7 +2,7 @@
 use mathlib.Core.Path.{_≡_}
 use mathlib.Core.Logic.{_↔_, _⊎_}
 use mathlib.Core.List.{List, [], _∷_, _++_, List·Memᴰ}
-use mathlib.Core.Bool.{Bool, true, false, _&&_}
+use mathlib.Core.Bool.{Bool, true, _&&_}
 use Prim.Native.Nat.{ℕ, zero, suc, _≤_, _<_}
 use lib.Dec.{ltb}
 use lib.ListN.{length, drop}
@@ -27,7 +27,7 @@ use Rattle.laws.specs.Lists.{paramNames}
 abbrev pub TableSaysUtf8 : Type 0
 TableSaysUtf8 = (s : List ℕ) → Utf8 s ↔ (wellFormed s ≡ true)
 
--- "their one encoding": the bytes say which scalar values they encode
+-- a scalar value has one encoding, and no bytes are the encodings of two: what starts with the encoding of c does not start with that of another
 abbrev pub OneEncoding : Type 0
 OneEncoding = (c d : ℕ) → scalar c ≡ true → scalar d ≡ true → (s t : List ℕ) → encode c ++ s ≡ encode d ++ t → (c ≡ d) × (s ≡ t)
 
@@ -114,26 +114,38 @@ stopped k = record { lifts = λ c n. anonymous c && ltb n k; within = λ b n. tr
 abbrev pub MeasureIsSize : Type 0
 MeasureIsSize = (k : ℕ) (ds es : List Definition) (t : State) → walkAll (stopped k) ds (start ds) ≡ ok es t → (t .bytes ≡ sizeBook (es ++ t .made)) × (t .defns ≡ length (es ++ t .made))
 
--- a walk with the limits of code 10 left open; document 01's is the one with 16,384 and 512
+-- the book that is left when the walk stops with k definitions
+pub record Left (k : ℕ) (ds : List Definition) : Type 0 where
+  pub book : List Definition
+  pub kept : List Definition
+  pub state : State
+  pub walked : walkAll (stopped k) ds (start ds) ≡ ok kept state
+  pub whole : book ≡ kept ++ state .made
+  pub count : length book ≡ k
+
+-- a walk with the limits of code 10 left open. Document 01's, `full`, is the one with 16,384 and 512
 abbrev pub limited : (ℕ → ℕ → Bool) → Course
 limited within = record { lifts = λ c n. anonymous c; within = within }
 
--- ".. at each lift": whatever limits are tested at a lift, the numbers that they refuse are the size and the count of the book that the walk stopped with that lift made leaves
-pub record StoppedAt (within : ℕ → ℕ → Bool) (ds : List Definition) (s : State) : Type 0 where
-  pub over : within (s .bytes) (s .defns) ≡ false
-  pub kept : List Definition
-  pub state : State
-  pub walked : walkAll (stopped (s .defns)) ds (start ds) ≡ ok kept state
-  pub size : sizeBook (kept ++ state .made) ≡ s .bytes
-  pub count : length (kept ++ state .made) ≡ s .defns
-
+-- ".. with that lift made: the expanded book plus, for each lift so far, 6 bytes of contents, the new body and the call, less the combinator moved": whatever limits refuse at a lift, the sum that they refuse is the size of the book that is left when the walk stops with that lift made
 abbrev pub SumAtEachLift : Type 0
-SumAtEachLift = (within : ℕ → ℕ → Bool) (ds : List Definition) (s : State) → walkAll (limited within) ds (start ds) ≡ bad result-long s → StoppedAt within ds s
+SumAtEachLift = (within : ℕ → ℕ → Bool) (ds : List Definition) (s : State) → walkAll (limited within) ds (start ds) ≡ bad result-long s → (l : Left (s .defns) ds) × (sizeBook (l .book) ≡ s .bytes)
 
 -- "10: result over 16,384 bytes or 512 definitions"
-abbrev pub ResultLongIsOver : Type 0
-ResultLongIsOver = (ds : List Definition) (s : State) → walkAll full ds (start ds) ≡ bad result-long s
-    → (es : List Definition) × (t : State) × (walkAll (stopped (s .defns)) ds (start ds) ≡ ok es t) × ((16384 < sizeBook (es ++ t .made)) ⊎ (512 < length (es ++ t .made)))
+abbrev pub Within : List Definition → Type 0
+Within ds = (sizeBook ds ≤ 16384) × (length ds ≤ 512)
+
+abbrev pub Over : List Definition → Type 0
+Over ds = (16384 < sizeBook ds) ⊎ (512 < length ds)
+
+-- "the first lift with one of them decides": where 10 is given, the book with that lift made is over a limit, and with each lift before it was within both; where the walk ends, the book was within both with each lift made
+pub record Code10 (ds : List Definition) : Type 0 where
+  pub refused : (s : State) → walkAll full ds (start ds) ≡ bad result-long s → (l : Left (s .defns) ds) × Over (l .book)
+  pub first : (s : State) → walkAll full ds (start ds) ≡ bad result-long s → (k : ℕ) → length ds ≤ k → k < s .defns → (l : Left k ds) × Within (l .book)
+  pub accepted : (es : List Definition) (t : State) → walkAll full ds (start ds) ≡ ok es t → (k : ℕ) → length ds ≤ k → k ≤ length (es ++ t .made) → (l : Left k ds) × Within (l .book)
+
+abbrev pub Code10IsFirstOver : Type 0
+Code10IsFirstOver = (ds : List Definition) → Within ds → Code10 ds
 
 pub record Laws : Type 0 where
   pub table-says-utf8 : TableSaysUtf8
@@ -148,4 +160,4 @@ pub record Laws : Type 0 where
   pub parameters-ascend : ParametersAscend
   pub measure-is-size : MeasureIsSize
   pub sum-at-each-lift : SumAtEachLift
-  pub result-long-is-over : ResultLongIsOver
+  pub code10-is-first-over : Code10IsFirstOver
