@@ -3,8 +3,9 @@ use Rattle.laws.specs.Laws.{Laws}
 use Rattle.laws.proofs.FreshName.{fresh-is-first-free, candidates-differ}
 use Rattle.laws.proofs.Order.{sorted-ascends, sorted-has-members}
 use Rattle.laws.proofs.Utf8.{table-says-utf8, one-encoding}
+use Rattle.laws.proofs.Growth.{lifts-grow}
 use Rattle.laws.proofs.Stopped.{measure-is-size, sum-at-each-lift, code10-is-first-over}
-use Rattle.laws.proofs.Results.{written-is-read, read-is-written, result-is-book}
+use Rattle.laws.proofs.Results.{written-is-read, read-is-written, expanded-is-book, result-is-book}
 use Rattle.laws.proofs.Parameters.{parameters-ascend}
 
 pub laws : Laws
@@ -13,6 +14,7 @@ laws = record {
   one-encoding = one-encoding;
   written-is-read = written-is-read;
   read-is-written = read-is-written;
+  expanded-is-book = expanded-is-book;
   result-is-book = result-is-book;
   fresh-is-first-free = fresh-is-first-free;
   candidates-differ = candidates-differ;
@@ -22,4 +24,5 @@ laws = record {
   measure-is-size = measure-is-size;
   sum-at-each-lift = sum-at-each-lift;
   code10-is-first-over = code10-is-first-over;
+  lifts-grow = lifts-grow;
 }

@@ -15,6 +15,7 @@ pub mod Utf8
 pub mod Lifted
 pub mod States
 pub mod Measure
+pub mod Growth
 pub mod Stopped
 pub mod WalkGood
 pub mod ExpandGood

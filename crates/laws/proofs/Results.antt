@@ -18,7 +18,7 @@ use Rattle.definition.specs.Lift.{full, State, walkAll, start, liftBook}
 use Rattle.definition.specs.Answer.{out, source, expanded, Result, outcome, elaborated, all, attempt, answered, answer, filled, output}
 use Rattle.laws.specs.Book.{Bytes, IsBook}
 use Rattle.laws.specs.Lists.{NoMacro}
-use Rattle.laws.specs.Laws.{WrittenIsRead, ReadIsWritten, ResultIsBook}
+use Rattle.laws.specs.Laws.{ExpandedIsBook, WrittenIsRead, ReadIsWritten, ResultIsBook}
 use Rattle.laws.proofs.Steps.{Gives, refusal, value, so, gave, Yields, stops, yields, next, where-true, yielded, of-result, of-value}
 use Rattle.laws.proofs.BookInverse.{i-book}
 use Rattle.laws.proofs.BookRoundTrip.{r-book}
@@ -64,6 +64,9 @@ source-book s h = next {P = λ b. Bytes b × (length b ≤ 16384)} (where-true (
 pub expanded-book : (s : List ℕ) → Bytes s → Yields (λ ds. IsBook ds × NoMacro ds) (expanded s)
 unfolding expanded
 expanded-book s h = next (source-book s h) _ λ ds b. rw (expand-says ds) (expand-good ds (b .good) (b .few))
+
+pub expanded-is-book : ExpandedIsBook
+expanded-is-book s h ds e = yielded (expanded-book s h) e
 
 -- what holds of every walk of an expanded list holds of every result
 outcome-yields : (P : Result → Type 0) {m : Res State (List Definition)} → Gives (λ es t. P (record { kept = es; lifted = t .made })) m → Yields P (outcome m)

@@ -3,7 +3,7 @@ use mathlib.Core.Path.{_≡_}
 use mathlib.Core.Logic.{_↔_, _⊎_}
 use mathlib.Core.List.{List, [], _∷_, _++_, List·Memᴰ}
 use mathlib.Core.Bool.{Bool, true, _&&_}
-use Prim.Native.Nat.{ℕ, zero, suc, _≤_, _<_}
+use Prim.Native.Nat.{ℕ, zero, suc, _+_, _*_, _≤_, _<_}
 use lib.Dec.{ltb}
 use lib.ListN.{length, drop}
 use Rattle.definition.specs.Code.{result-long}
@@ -17,9 +17,9 @@ use Rattle.definition.specs.Size.{sizeBook}
 use Rattle.definition.specs.Names.{numbered, fresh, sorted}
 use Rattle.definition.specs.Collect.{anonymous}
 use Rattle.definition.specs.Lift.{Course, full, State, walkAll, start}
-use Rattle.definition.specs.Answer.{Result, all, attempt, answer, output}
+use Rattle.definition.specs.Answer.{expanded, Result, all, attempt, answer, output}
 use Rattle.laws.specs.Book.{Bytes, IsBook}
-use Rattle.laws.specs.Lists.{paramNames}
+use Rattle.laws.specs.Lists.{paramNames, NoMacro}
 
 -- UTF-8 -------------------------------------------------------------------------------------------
 
@@ -40,6 +40,10 @@ WrittenIsRead = (ds : List Definition) → IsBook ds → Bytes (wBook ds) × (re
 -- what was read is what is written: no two books read alike, and each list that is read is one that a book can hold
 abbrev pub ReadIsWritten : Type 0
 ReadIsWritten = (s : List ℕ) → Bytes s → length s ≤ 16384 → (ds : List Definition) (r : List ℕ) → readBook s ≡ ok ds r → (s ≡ wBook ds) × IsBook ds
+
+-- macro rules 1 and 5: the expanded list is one that a book can hold, and no kind 4 definition is left in it
+abbrev pub ExpandedIsBook : Type 0
+ExpandedIsBook = (book : List ℕ) → Bytes book → (ds : List Definition) → expanded book ≡ done ds → IsBook ds × NoMacro ds
 
 -- "0: done"; "On 0 the result fills the output's first bytes and the rest is as before.": the result is a book, every byte of it is below 256, and it reads back as itself
 pub record Accepted (book out : List ℕ) (workLength : ℕ) : Type 0 where
@@ -147,11 +151,23 @@ pub record Code10 (ds : List Definition) : Type 0 where
 abbrev pub Code10IsFirstOver : Type 0
 Code10IsFirstOver = (ds : List Definition) → Within ds → Code10 ds
 
+-- each lift adds at least 14 bytes and its name twice: its entry, and its name, counts, tag and flag in the new body and in the call
+abbrev pub growth : List Definition → ℕ
+growth [] = 0
+growth (format n ps c ∷ ds) = 14 + 2 * length n + growth ds
+growth (constant n x ∷ ds) = growth ds
+growth (byte-order x ∷ ds) = growth ds
+growth (macro n ps c ∷ ds) = growth ds
+
+abbrev pub LiftsGrow : Type 0
+LiftsGrow = (ds es : List Definition) (t : State) → walkAll full ds (start ds) ≡ ok es t → sizeBook ds + growth (t .made) ≤ sizeBook (es ++ t .made)
+
 pub record Laws : Type 0 where
   pub table-says-utf8 : TableSaysUtf8
   pub one-encoding : OneEncoding
   pub written-is-read : WrittenIsRead
   pub read-is-written : ReadIsWritten
+  pub expanded-is-book : ExpandedIsBook
   pub result-is-book : ResultIsBook
   pub fresh-is-first-free : FreshIsFirstFree
   pub candidates-differ : CandidatesDiffer
@@ -161,3 +177,4 @@ pub record Laws : Type 0 where
   pub measure-is-size : MeasureIsSize
   pub sum-at-each-lift : SumAtEachLift
   pub code10-is-first-over : Code10IsFirstOver
+  pub lifts-grow : LiftsGrow
