@@ -8,7 +8,7 @@ use Rattle.definition.specs.Names.{eqName, elem, remove, sorted}
 use Rattle.definition.specs.Collect.{bytesOrTail, selectorUses, shellUses, unbound, free, freeI, freeF, freeC}
 use Rattle.definition.specs.Bodies.{chainsOk, chainsOkI, chainsOkF, chainsOkC}
 use Rattle.laws.proofs.Tests.{yes-no, not-both, both-true}
-use Rattle.laws.proofs.FreshName.{eqName-true, eqName-refl}
+use Rattle.laws.proofs.Members.{eqName-true, eqName-refl}
 use Rattle.laws.proofs.Order.{elem-sorted, sorted-distinct}
 use Rattle.demand3.specs.Shortest.{each, binds, covered, coveredI, coveredF, coveredC, Shortest}
 use Rattle.demand3.proofs.Elem.{elem-here, elem-there}

@@ -12,7 +12,7 @@ use Rattle.definition.specs.Lift.{names}
 use Rattle.definition.specs.PutBack.{bodyOf}
 use Rattle.laws.specs.Lists.{Distinct}
 use Rattle.laws.proofs.Tests.{yes-no, not-both}
-use Rattle.laws.proofs.FreshName.{eqName-true, eqName-refl}
+use Rattle.laws.proofs.Members.{eqName-true, eqName-refl}
 
 pub eqName-swap : (a b : Name) → eqName a b ≡ false → eqName b a ≡ false
 eqName-swap a b e = ⊎-elim

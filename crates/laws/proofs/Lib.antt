@@ -1,5 +1,6 @@
 pub mod Tests
 pub mod Steps
+pub mod Members
 pub mod Levels
 pub mod Splits
 pub mod Sizes
@@ -8,10 +9,11 @@ pub mod BookInverse
 pub mod RoundTrip
 pub mod BookRoundTrip
 pub mod Small
+pub mod Utf8
+pub mod Segment
 pub mod FreshName
 pub mod PlainNames
 pub mod Order
-pub mod Utf8
 pub mod Lifted
 pub mod States
 pub mod Measure

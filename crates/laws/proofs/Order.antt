@@ -12,7 +12,7 @@ use Rattle.definition.specs.Names.{eqName, elem, before, insert, sorted}
 use Rattle.laws.specs.Lists.{Distinct}
 use Rattle.laws.specs.Laws.{Less, ends, smaller, equal, Ascending, SortedAscends, SortedHasMembers}
 use Rattle.laws.proofs.Tests.{yes-no, not-both}
-use Rattle.laws.proofs.FreshName.{eqName-true, elem-in, in-elem}
+use Rattle.laws.proofs.Members.{eqName-true, elem-in, in-elem}
 
 -- the test says the order
 before-less : (a b : Name) → before a b ≡ true → Less a b

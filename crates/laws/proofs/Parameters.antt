@@ -7,8 +7,8 @@ use Rattle.definition.specs.Lift.{Walk, full, State, start}
 use Rattle.laws.specs.Lists.{paramNames}
 use Rattle.laws.specs.Laws.{LiftedAscend, ParametersAscend, Ascending}
 use Rattle.laws.proofs.Steps.{so, yielded}
-use Rattle.laws.proofs.Order.{sorted-ascends}
 use Rattle.laws.proofs.Utf8 as Utf8
+use Rattle.laws.proofs.Order.{sorted-ascends}
 use Rattle.laws.proofs.Lifted.{Lifted}
 use Rattle.laws.proofs.States.{Carried, states-all}
 use Rattle.laws.proofs.Results.{elaborated-yields, attempt-yields}

@@ -34,19 +34,19 @@ module _ (c : ℕ) where
       (yes-no (ltb c 55296))
 
   -- the four lengths
-  one : c < 128 → encode c ≡ c ∷ []
+  pub one : c < 128 → encode c ≡ c ∷ []
   unfolding encode
   one h = rw (lt-ltb c 128 h)
 
-  two : 128 ≤ c → c < 2048 → encode c ≡ (192 + c / 64) ∷ (128 + c % 64) ∷ []
+  pub two : 128 ≤ c → c < 2048 → encode c ≡ (192 + c / 64) ∷ (128 + c % 64) ∷ []
   unfolding encode
   two h g = rw (le-ltb c 128 h, lt-ltb c 2048 g)
 
-  three : 2048 ≤ c → c < 65536 → encode c ≡ (224 + c / 4096) ∷ (128 + c / 64 % 64) ∷ (128 + c % 64) ∷ []
+  pub three : 2048 ≤ c → c < 65536 → encode c ≡ (224 + c / 4096) ∷ (128 + c / 64 % 64) ∷ (128 + c % 64) ∷ []
   unfolding encode
   three h g = rw (le-ltb c 128 (omega arith), le-ltb c 2048 h, lt-ltb c 65536 g)
 
-  four : 65536 ≤ c → encode c ≡ (240 + c / 262144) ∷ (128 + c / 4096 % 64) ∷ (128 + c / 64 % 64) ∷ (128 + c % 64) ∷ []
+  pub four : 65536 ≤ c → encode c ≡ (240 + c / 262144) ∷ (128 + c / 4096 % 64) ∷ (128 + c / 64 % 64) ∷ (128 + c % 64) ∷ []
   unfolding encode
   four h = rw (le-ltb c 128 (omega arith), le-ltb c 2048 (omega arith), le-ltb c 65536 h)
 

@@ -16,8 +16,8 @@ use Rattle.laws.specs.Book.{Named, AllNamed, Good, GoodI, GoodF, GoodC, 
 use Rattle.laws.specs.Lists.{paramNames}
 use Rattle.laws.proofs.Tests.{yes-no, both-true}
 use Rattle.laws.proofs.Steps.{Gives, value, then, so, gave}
+use Rattle.laws.proofs.Members.{eqName-true}
 use Rattle.laws.proofs.Levels.{levels-append, good-append}
-use Rattle.laws.proofs.FreshName.{eqName-true}
 use Rattle.laws.proofs.PlainNames.{Base, child-field, child-shell, child-case, fresh-plain}
 use Rattle.laws.proofs.Lifted.{Bound, Lifted, lift-says}
 

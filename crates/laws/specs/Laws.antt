@@ -2,9 +2,9 @@
 use mathlib.Core.Path.{_≡_}
 use mathlib.Core.Logic.{_↔_, _⊎_}
 use mathlib.Core.List.{List, [], _∷_, _++_, List·Memᴰ}
-use mathlib.Core.Bool.{Bool, true, _&&_}
+use mathlib.Core.Bool.{Bool, true, _&&_, cond, _||_}
 use Prim.Native.Nat.{ℕ, zero, suc, _+_, _*_, _≤_, _<_}
-use lib.Dec.{ltb}
+use lib.Dec.{leb, ltb}
 use lib.ListN.{length, drop}
 use Rattle.definition.specs.Code.{result-long}
 use Rattle.definition.specs.Res.{bad, ok}
@@ -14,7 +14,7 @@ use Rattle.definition.specs.Tree.{Name, Definition, format, constant, byte-orde
 use Rattle.definition.specs.Contents.{readBook}
 use Rattle.definition.specs.Write.{wBook}
 use Rattle.definition.specs.Size.{sizeBook}
-use Rattle.definition.specs.Names.{numbered, fresh, sorted}
+use Rattle.definition.specs.Names.{letters, numbered, fresh, sorted}
 use Rattle.definition.specs.Collect.{anonymous}
 use Rattle.definition.specs.Lift.{Course, full, State, walkAll, start}
 use Rattle.definition.specs.Answer.{expanded, Result, all, attempt, answer, output}
@@ -59,6 +59,14 @@ abbrev pub ResultIsBook : Type 0
 ResultIsBook = (book out : List ℕ) (workLength : ℕ) → Bytes book → answer book (length out) workLength .code ≡ 0 → Accepted book out workLength
 
 -- Names --------------------------------------------------------------------------------------------
+
+-- "A label's segment maps each character: ASCII letters lower-cased, digits kept, every other character one '_'"
+abbrev pub sign : ℕ → ℕ
+sign c = cond (leb 65 c && leb c 90) (c + 32) (cond (leb 97 c && leb c 122 || leb 48 c && leb c 57) c 95)
+
+-- the definition goes by bytes, and says that
+abbrev pub SegmentByCharacters : Type 0
+SegmentByCharacters = (c : ℕ) → scalar c ≡ true → (s : List ℕ) → letters (encode c ++ s) ≡ sign c ∷ letters s
 
 -- "The name is the base if free, else base_0, base_1.."
 abbrev pub candidate : Name → ℕ → Name
@@ -169,6 +177,7 @@ pub record Laws : Type 0 where
   pub read-is-written : ReadIsWritten
   pub expanded-is-book : ExpandedIsBook
   pub result-is-book : ResultIsBook
+  pub segment-by-characters : SegmentByCharacters
   pub fresh-is-first-free : FreshIsFirstFree
   pub candidates-differ : CandidatesDiffer
   pub sorted-ascends : SortedAscends
