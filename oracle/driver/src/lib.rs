@@ -1,0 +1,13 @@
+//! Books for the unchanged Rust: reading, writing, judging, generating.
+
+pub mod answer;
+pub mod bridge;
+pub mod caught;
+pub mod expand;
+pub mod lift;
+pub mod limits;
+pub mod measure;
+pub mod reach;
+pub mod read;
+pub mod tree;
+pub mod write;
