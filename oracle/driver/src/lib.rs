@@ -2,12 +2,16 @@
 
 pub mod answer;
 pub mod bridge;
+pub mod build;
+pub mod cases;
 pub mod caught;
 pub mod expand;
 pub mod lift;
 pub mod limits;
+pub mod listing;
 pub mod measure;
 pub mod reach;
 pub mod read;
+pub mod stream;
 pub mod tree;
 pub mod write;

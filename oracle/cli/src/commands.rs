@@ -1,0 +1,142 @@
+//! The subcommands. Each answers `Err` with one clear line.
+
+use driver::answer::{answer, premise, Internal};
+use driver::cases::{self, short};
+use driver::expand::Mode;
+use driver::stream;
+use std::collections::BTreeMap;
+use std::io::{self, BufReader, BufWriter, Read, Write};
+
+type Outcome = Result<(), String>;
+
+const USAGE: &str = "\
+oracle answer [--nested]    case stream in, answers out
+oracle premise [--nested]   case stream in, premise answers and expanded books out
+oracle cases SEED COUNT     case stream out
+oracle short                case stream out: everything short
+oracle tally SEED COUNT     codes by kind of generated case
+oracle listing              book in, listing out
+oracle judges               whose word each code is
+";
+
+pub fn run(arguments: &[String]) -> Outcome {
+    let words: Vec<&str> = arguments.iter().map(String::as_str).collect();
+    match words.as_slice() {
+        ["answer"] => answers(Mode::Plain),
+        ["answer", "--nested"] => answers(Mode::Nested),
+        ["premise"] => premises(Mode::Plain),
+        ["premise", "--nested"] => premises(Mode::Nested),
+        ["cases", seed, count] => generated(number(seed)?, number(count)?),
+        ["short"] => everything_short(),
+        ["tally", seed, count] => tally(number(seed)?, number(count)?),
+        ["listing"] => listing(),
+        ["help" | "--help" | "-h"] => print(USAGE),
+        [] => Err("no subcommand; `oracle help` names them".to_string()),
+        [other, ..] => Err(format!(
+            "`{other}` with {} more words is no subcommand; `oracle help` names them",
+            words.len() - 1
+        )),
+    }
+}
+
+fn number(word: &str) -> Result<u64, String> {
+    word.parse()
+        .map_err(|_| format!("`{word}` is no number from 0 to 18446744073709551615"))
+}
+
+fn failed(error: io::Error) -> String {
+    format!("writing failed: {error}")
+}
+
+fn print(text: &str) -> Outcome {
+    let mut out = io::stdout().lock();
+    out.write_all(text.as_bytes()).map_err(failed)?;
+    out.flush().map_err(failed)
+}
+
+fn stdin_whole() -> Result<Vec<u8>, String> {
+    let mut bytes = Vec::new();
+    io::stdin()
+        .lock()
+        .read_to_end(&mut bytes)
+        .map_err(|error| format!("reading failed: {error}"))?;
+    Ok(bytes)
+}
+
+/// Runs over a case stream; an error names its case.
+fn over_cases(
+    mut each: impl FnMut(&mut BufWriter<io::StdoutLock>, &[u8]) -> Result<io::Result<()>, Internal>,
+) -> Outcome {
+    let mut input = BufReader::new(io::stdin().lock());
+    let mut out = BufWriter::new(io::stdout().lock());
+    for case in 0u64.. {
+        let book = stream::read_case(&mut input).map_err(|error| format!("case {case}: {error}"))?;
+        let Some(book) = book else { break };
+        each(&mut out, &book)
+            .map_err(|error| disagreement(case, &book, &error))?
+            .map_err(failed)?;
+    }
+    out.flush().map_err(failed)
+}
+
+/// The loudest line there is: the two readings do not agree.
+fn disagreement(case: u64, book: &[u8], error: &str) -> String {
+    let hex: String = book.iter().take(400).map(|byte| format!("{byte:02x}")).collect();
+    format!(
+        "DISAGREEMENT in case {case}: {error}; the book has {} bytes: {hex}",
+        book.len()
+    )
+}
+
+fn answers(mode: Mode) -> Outcome {
+    over_cases(|out, book| Ok(stream::write_answer(out, &answer(book, mode)?)))
+}
+
+fn premises(mode: Mode) -> Outcome {
+    over_cases(|out, book| Ok(stream::write_premise(out, &premise(book, mode)?)))
+}
+
+fn generated(seed: u64, count: u64) -> Outcome {
+    let mut out = BufWriter::new(io::stdout().lock());
+    for number in 0..count {
+        stream::write_case(&mut out, &cases::case(seed, number).bytes).map_err(failed)?;
+    }
+    out.flush().map_err(failed)
+}
+
+fn everything_short() -> Outcome {
+    let mut out = BufWriter::new(io::stdout().lock());
+    for book in short::strings().chain(short::books()) {
+        stream::write_case(&mut out, &book).map_err(failed)?;
+    }
+    out.flush().map_err(failed)
+}
+
+fn tally(seed: u64, count: u64) -> Outcome {
+    let mut codes: BTreeMap<u8, u64> = BTreeMap::new();
+    let mut kinds: BTreeMap<cases::Kind, BTreeMap<u8, u64>> = BTreeMap::new();
+    for number in 0..count {
+        let case = cases::case(seed, number);
+        let code = answer(&case.bytes, Mode::Plain)
+            .map_err(|error| disagreement(number, &case.bytes, &error))?
+            .code();
+        *codes.entry(code).or_default() += 1;
+        *kinds.entry(case.kind).or_default().entry(code).or_default() += 1;
+    }
+    let mut text = format!("all {}\n", counts(&codes));
+    for (kind, codes) in kinds {
+        text.push_str(&format!("{kind:?} {}\n", counts(&codes)));
+    }
+    print(&text)
+}
+
+fn counts(codes: &BTreeMap<u8, u64>) -> String {
+    let parts: Vec<String> = codes.iter().map(|(code, count)| format!("{code}:{count}")).collect();
+    parts.join(" ")
+}
+
+fn listing() -> Outcome {
+    let book = stdin_whole()?;
+    let answer = answer(&book, Mode::Plain).map_err(|error| disagreement(0, &book, &error))?;
+    print(&driver::listing::listing(&answer)?)
+}
