@@ -1,9 +1,10 @@
 //! The subcommands. Each answers `Err` with one clear line.
 
+use crate::{judges, recorded};
 use driver::answer::{answer, premise, Internal};
 use driver::cases::{self, short};
 use driver::expand::Mode;
-use driver::stream;
+use driver::{bench, notation, read, stream, write};
 use std::collections::BTreeMap;
 use std::io::{self, BufReader, BufWriter, Read, Write};
 
@@ -15,7 +16,13 @@ oracle premise [--nested]   case stream in, premise answers and expanded books o
 oracle cases SEED COUNT     case stream out
 oracle short                case stream out: everything short
 oracle tally SEED COUNT     codes by kind of generated case
+oracle book write           text in, book out
+oracle book read            book in, text out
 oracle listing              book in, listing out
+oracle bench N              case stream in, times out: best and mean of N repetitions
+oracle record SEED COUNT BOOKS DIRECTORY
+                            the recorded list: the books of one directory, the worked
+                            ones and generated ones, COUNT in all, into another
 oracle judges               whose word each code is
 ";
 
@@ -29,7 +36,14 @@ pub fn run(arguments: &[String]) -> Outcome {
         ["cases", seed, count] => generated(number(seed)?, number(count)?),
         ["short"] => everything_short(),
         ["tally", seed, count] => tally(number(seed)?, number(count)?),
+        ["book", "write"] => book_write(),
+        ["book", "read"] => book_read(),
         ["listing"] => listing(),
+        ["bench", repetitions] => bench(number(repetitions)?),
+        ["record", seed, count, books, directory] => {
+            recorded::record(number(seed)?, number(count)?, books, directory)
+        }
+        ["judges"] => print(judges::JUDGES),
         ["help" | "--help" | "-h"] => print(USAGE),
         [] => Err("no subcommand; `oracle help` names them".to_string()),
         [other, ..] => Err(format!(
@@ -139,4 +153,54 @@ fn listing() -> Outcome {
     let book = stdin_whole()?;
     let answer = answer(&book, Mode::Plain).map_err(|error| disagreement(0, &book, &error))?;
     print(&driver::listing::listing(&answer)?)
+}
+
+fn book_write() -> Outcome {
+    let text = String::from_utf8(stdin_whole()?).map_err(|_| "the text is not UTF-8".to_string())?;
+    let bytes = write::write(&notation::parse(&text)?)?;
+    let mut out = io::stdout().lock();
+    out.write_all(&bytes).map_err(failed)?;
+    out.flush().map_err(failed)
+}
+
+fn book_read() -> Outcome {
+    let book = read::read(&stdin_whole()?)
+        .map_err(|fault| format!("refused {} at byte {}", fault.code, fault.at))?;
+    print(&notation::print(&book))
+}
+
+/// Refused books are left out: a panic is not what is to be timed.
+fn bench(repetitions: u64) -> Outcome {
+    let repetitions = match u32::try_from(repetitions) {
+        Ok(repetitions) if repetitions > 0 => repetitions,
+        _ => return Err(format!("{repetitions} repetitions: from 1 to 4294967295, please")),
+    };
+    let mut input = BufReader::new(io::stdin().lock());
+    let (mut books, mut cases) = (Vec::new(), 0u64);
+    while let Some(book) =
+        stream::read_case(&mut input).map_err(|error| format!("case {cases}: {error}"))?
+    {
+        let answer = answer(&book, Mode::Plain).map_err(|e| disagreement(cases, &book, &e))?;
+        cases += 1;
+        if answer.code() == 0 {
+            books.push(book);
+        }
+    }
+    if books.is_empty() {
+        return Err(format!("none of {cases} books is accepted"));
+    }
+    let bytes: usize = books.iter().map(Vec::len).sum();
+    let whole = bench::whole(&books, repetitions);
+    let alone = bench::elaborate_alone(&books, repetitions);
+    print(&format!(
+        "{} of {cases} books accepted, {} bytes each in the mean, {repetitions} repetitions\n\
+         decode, elaborate, encode: best {} ns, mean {} ns a book\n\
+         elaborate alone: best {} ns, mean {} ns a book\n",
+        books.len(),
+        bytes / books.len(),
+        whole.best,
+        whole.mean,
+        alone.best,
+        alone.mean,
+    ))
 }

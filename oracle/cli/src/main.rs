@@ -2,6 +2,8 @@
 //! the driver; README.md describes them.
 
 mod commands;
+mod judges;
+mod recorded;
 
 use std::process::ExitCode;
 

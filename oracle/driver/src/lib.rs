@@ -1,6 +1,7 @@
 //! Books for the unchanged Rust: reading, writing, judging, generating.
 
 pub mod answer;
+pub mod bench;
 pub mod bridge;
 pub mod build;
 pub mod cases;
@@ -10,8 +11,11 @@ pub mod lift;
 pub mod limits;
 pub mod listing;
 pub mod measure;
+pub mod notation;
 pub mod reach;
 pub mod read;
+pub mod record;
 pub mod stream;
 pub mod tree;
+pub mod worked;
 pub mod write;

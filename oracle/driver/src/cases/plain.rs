@@ -44,6 +44,8 @@ struct Maker<'r> {
     formats: Vec<String>,
     /// Parameters of the macro whose body is being made.
     macro_params: Vec<String>,
+    /// In a macro's body or argument, where no call is expanded again.
+    in_macro: bool,
 }
 
 #[derive(Clone, Copy, PartialEq, Eq)]
@@ -96,6 +98,7 @@ impl<'r> Maker<'r> {
             macros: Vec::new(),
             formats: Vec::new(),
             macro_params: Vec::new(),
+            in_macro: false,
         }
     }
 
@@ -124,6 +127,7 @@ impl<'r> Maker<'r> {
         self.fuel = self.rng.between(1, self.taste.fuel);
         self.scope.clear();
         self.macro_params.clear();
+        self.in_macro = kind == 4;
         match kind {
             1 => self.format(),
             2 => Definition::Constant {
@@ -167,7 +171,9 @@ impl<'r> Maker<'r> {
             .map(|_| self.rng.pick(&MACRO_PARAMS).to_string())
             .collect();
         self.macro_params = params.clone();
-        self.scope = vec!["n".to_string()];
+        if self.rng.chance(30) {
+            self.scope = vec!["n".to_string()];
+        }
         let depth = self.rng.between(0, self.taste.depth.min(4));
         let body = self.combinator(depth);
         Definition::Macro { name, params, body }
@@ -216,7 +222,10 @@ impl<'r> Maker<'r> {
 
     /// An inner without combinators inside.
     fn flat(&mut self) -> Inner {
-        let call_macro = self.taste.macros / 2 + self.taste.leftover;
+        let call_macro = match self.in_macro {
+            true => self.taste.leftover,
+            false => self.taste.macros / 2 + self.taste.leftover,
+        };
         let call_param = if self.macro_params.is_empty() { 0 } else { 60 };
         match self.rng.weighted(&[40, 25, 15, call_macro, call_param]) {
             0 => {
@@ -258,7 +267,9 @@ impl<'r> Maker<'r> {
         };
         let count = self.rng.weighted(&[10, 35, 35, 15, 5]);
         let depth = self.rng.weighted(&[60, 25, 15]);
+        let outer = std::mem::replace(&mut self.in_macro, true);
         let args = (0..count).map(|_| self.inner(depth)).collect();
+        self.in_macro = outer;
         Inner::MacroInvocation(name, args)
     }
 
