@@ -10,12 +10,12 @@ use std::collections::{BTreeMap, HashMap, HashSet};
 /// A file ends before it would be longer than this.
 const FILE_BYTES: usize = 390_000;
 /// Records up to this length are taken as they come ..
-const SHORT: usize = 330;
-/// .. and longer ones until each kind has so many under each code.
+const SHORT: usize = 310;
+/// .. those up to this length until each kind has so many under each code ..
+const MIDDLE: usize = 2600;
+const MIDDLE_EACH: usize = 6;
+/// .. and of longer ones, so many.
 const LONG_EACH: usize = 1;
-/// .. and of a length between, so many.
-const MIDDLE: usize = 1500;
-const MIDDLE_EACH: usize = 8;
 
 pub struct List {
     pub files: Vec<Vec<u8>>,
@@ -23,12 +23,13 @@ pub struct List {
     pub codes: BTreeMap<u8, usize>,
 }
 
-/// The list of a seed: the given books, the worked ones, then generated ones
-/// until there are `count` cases.
+/// The list of a seed: the given books, the worked ones, the limits from both
+/// sides, then generated ones until there are `count` cases.
 pub fn record(seed: u64, count: usize, books: Vec<Vec<u8>>) -> Result<List, Internal> {
     let mut recorder = Recorder::default();
-    let given = books.into_iter().chain(worked().into_iter().map(|one| one.bytes));
-    for book in given {
+    let worked = worked().into_iter().map(|one| one.bytes);
+    let sides = cases::both_sides().into_iter().map(|side| side.bytes);
+    for book in books.into_iter().chain(worked).chain(sides) {
         recorder.offer(&book, None)?;
     }
     for number in 0.. {

@@ -50,14 +50,38 @@ pub fn definitions(rng: &mut Rng) -> Book {
     book((0..count).map(one).collect())
 }
 
-/// A few definitions whose lifts make 511 to 513, one count or both.
+/// Definitions and lifts that together make 511 to 513.
 pub fn lifted_definitions(rng: &mut Rng) -> Book {
     let target = rng.between(DEFINITIONS - 1, DEFINITIONS + 1);
-    let lifts = rng.between(1, 300);
-    let mut definitions = vec![format("m", many_lifts(rng, lifts))];
-    let order = |_| byte_order(&[]);
-    definitions.extend((1..target - lifts).map(order));
+    match rng.chance(60) {
+        true => {
+            let lifts = rng.between(1, 300);
+            let root = many_lifts(rng, lifts);
+            filled(vec![format("m", root)], lifts, target)
+        }
+        false => lifted_by_macro(rng, target),
+    }
+}
+
+/// Adds byte orders until definitions and lifts make `target`.
+fn filled(mut definitions: Vec<Definition>, lifts: usize, target: usize) -> Book {
+    let formats = definitions.iter().filter(|one| one.kind() == 1).count();
+    definitions.extend((formats + lifts..target).map(|_| byte_order(&[])));
     book(definitions)
+}
+
+/// The same with few bytes: a macro is called again and again, and each call
+/// leaves a struct of many enums to lift.
+pub fn lifted_by_macro(rng: &mut Rng, target: usize) -> Book {
+    let enums = rng.between(8, 25);
+    let calls = rng.between(200, 480) / (enums + 1);
+    let each = |_| field("", enumeration());
+    let root = structure((0..calls).map(|_| field("", macro_call("f", vec![]))).collect());
+    let definitions = vec![
+        macro_definition("f", &[], structure((0..enums).map(each).collect())),
+        format("", root),
+    ];
+    filled(definitions, calls * (enums + 1), target)
 }
 
 /// A struct of so many lifted fields, under one base or several.
@@ -82,30 +106,45 @@ pub fn book_bytes(rng: &mut Rng) -> Vec<u8> {
 }
 
 /// Adds a constant so that a number of bytes counted so far becomes `target`.
-fn padded(mut source: Book, counted: usize, target: usize) -> Vec<u8> {
+pub fn padded(mut source: Book, counted: usize, target: usize) -> Vec<u8> {
     let own = 6 + name_bytes(PADDING) + 2;
     let text = vec![b'.'; target.saturating_sub(counted + own)];
     source.definitions.push(constant(PADDING, &text));
     written(&source)
 }
 
-/// A book whose result has 16,383 to 16,386 bytes, every one of its lifts on
-/// the good side or only the last ones past it: 0 or 10.
+/// A book whose result has 16,383 to 16,386 bytes: 0 or 10.
 pub fn result_bytes(rng: &mut Rng) -> Vec<u8> {
-    let size = *rng.pick(&[Size::Small, Size::Medium]);
-    let source = plain::book(rng, size);
     let target = rng.between(BOOK_BYTES - 1, BOOK_BYTES + 2);
+    let size = *rng.pick(&[Size::Small, Size::Medium]);
+    let source = match rng.below(3) {
+        0 => plain::book(rng, size),
+        1 => book(vec![format("m", many_lifts(rng, 3))]),
+        _ => copied_types(rng),
+    };
+    with_result_of(source, target)
+}
+
+/// Pads a book so that its result has `target` bytes. Padding in a constant is
+/// neither walked nor copied, so the result grows by what the book grows.
+pub fn with_result_of(source: Book, target: usize) -> Vec<u8> {
     match answer(&written(&source), Mode::Plain) {
-        Ok(Answer::Done(done)) if done.lifted > 0 => padded(source, done.book.len(), target),
-        _ => {
-            let source = book(vec![format("m", many_lifts(rng, 3))]);
-            let result = match answer(&written(&source), Mode::Plain) {
-                Ok(Answer::Done(done)) => done.book.len(),
-                _ => 0,
-            };
-            padded(source, result, target)
-        }
+        Ok(Answer::Done(done)) => padded(source, done.book.len(), target),
+        _ => written(&source),
     }
+}
+
+/// A small book with a large result: each lift copies the type of its n.
+pub fn copied_types(rng: &mut Rng) -> Book {
+    let lifts = rng.between(8, 40);
+    let bytes_each = (BOOK_BYTES - 400) / (lifts + 1) - 60;
+    let mut fields = vec![dependent("n", padding(bytes_each))];
+    let label = |number: usize| ["a", "b", "é"][number % 3];
+    fields.extend((0..lifts).map(|number| {
+        let inside = structure(vec![field("x", bytes(&["n"]))]);
+        field(label(number), inside)
+    }));
+    book(vec![format("m", structure(fields))])
 }
 
 /// Chosen names of 254 to 257 bytes: long bases, taken bases, long suffixes.
@@ -178,7 +217,7 @@ fn caller(args: Vec<Inner>) -> Definition {
 
 /// The macro's combinator gets 16,384 bytes and `past` more, all but its root
 /// lost in the end: 0 or 6.
-fn step_bytes(rng: &mut Rng, past: usize) -> Book {
+pub fn step_bytes(rng: &mut Rng, past: usize) -> Book {
     let calls = rng.between(2, 6);
     let target = BOOK_BYTES + past;
     let fields = |text: usize| {
@@ -198,7 +237,7 @@ fn step_bytes(rng: &mut Rng, past: usize) -> Book {
 }
 
 /// The macro's combinator gets 64 levels and `past` more, lost in the end.
-fn step_levels(rng: &mut Rng, past: usize) -> Book {
+pub fn step_levels(rng: &mut Rng, past: usize) -> Book {
     let above = rng.between(5, 40);
     let arg = LEVELS + past - above;
     book(vec![
@@ -213,7 +252,7 @@ fn vecs(count: usize, inside: Inner) -> Inner {
 }
 
 /// The book left has 16,384 bytes and `past` more.
-fn left_bytes(rng: &mut Rng, past: usize) -> Book {
+pub fn left_bytes(rng: &mut Rng, past: usize) -> Book {
     let calls = rng.between(2, 9);
     let with = |text: usize, pad: usize| {
         let each = |_| field("x", macro_call("f", vec![]));
@@ -235,7 +274,7 @@ fn left_bytes(rng: &mut Rng, past: usize) -> Book {
 }
 
 /// A call at one depth, a body of the rest: 64 levels and `past` more.
-fn left_levels(rng: &mut Rng, past: usize) -> Book {
+pub fn left_levels(rng: &mut Rng, past: usize) -> Book {
     let body_levels = rng.between(2, 60);
     let above = LEVELS + past - body_levels;
     book(vec![
@@ -255,7 +294,7 @@ fn doubling(rng: &mut Rng) -> Book {
 }
 
 /// Large after the first parameter, small after the second: 0 or 6.
-fn shrinking(rng: &mut Rng, past: usize) -> Book {
+pub fn shrinking(rng: &mut Rng, past: usize) -> Book {
     let calls = rng.between(2, 5);
     let each = |_| field("x", call("a", &[]));
     let fields: Vec<Field> = (0..calls).map(each).collect();

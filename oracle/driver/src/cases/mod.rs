@@ -2,12 +2,14 @@
 
 mod damage;
 mod edge;
+mod exact;
 mod place;
 mod plain;
 mod rng;
 pub mod short;
 
-pub use place::{along, TAGS};
+pub use exact::both_sides;
+pub use place::{along, STEPS, TAGS};
 
 use plain::Size;
 use rng::Rng;

@@ -5,7 +5,7 @@ use crate::build::*;
 use crate::tree::{Book, Cases, Combinator, Definition, Inner, LEAVES};
 
 /// The places a combinator can stand in, below another one.
-const STEPS: usize = 12;
+pub const STEPS: usize = 12;
 /// Leaves first, then the other nine tags with the three kinds of choice.
 pub const TAGS: usize = LEAVES.len() + 11;
 
