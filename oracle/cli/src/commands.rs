@@ -84,7 +84,8 @@ fn over_cases(
     let mut input = BufReader::new(io::stdin().lock());
     let mut out = BufWriter::new(io::stdout().lock());
     for case in 0u64.. {
-        let book = stream::read_case(&mut input).map_err(|error| format!("case {case}: {error}"))?;
+        let book =
+            stream::read_case(&mut input).map_err(|error| format!("case {case}: {error}"))?;
         let Some(book) = book else { break };
         each(&mut out, &book)
             .map_err(|error| disagreement(case, &book, &error))?
@@ -95,7 +96,11 @@ fn over_cases(
 
 /// The loudest line there is: the two readings do not agree.
 fn disagreement(case: u64, book: &[u8], error: &str) -> String {
-    let hex: String = book.iter().take(400).map(|byte| format!("{byte:02x}")).collect();
+    let hex: String = book
+        .iter()
+        .take(400)
+        .map(|byte| format!("{byte:02x}"))
+        .collect();
     format!(
         "DISAGREEMENT in case {case}: {error}; the book has {} bytes: {hex}",
         book.len()
@@ -145,7 +150,10 @@ fn tally(seed: u64, count: u64) -> Outcome {
 }
 
 fn counts(codes: &BTreeMap<u8, u64>) -> String {
-    let parts: Vec<String> = codes.iter().map(|(code, count)| format!("{code}:{count}")).collect();
+    let parts: Vec<String> = codes
+        .iter()
+        .map(|(code, count)| format!("{code}:{count}"))
+        .collect();
     parts.join(" ")
 }
 
@@ -156,7 +164,8 @@ fn listing() -> Outcome {
 }
 
 fn book_write() -> Outcome {
-    let text = String::from_utf8(stdin_whole()?).map_err(|_| "the text is not UTF-8".to_string())?;
+    let text =
+        String::from_utf8(stdin_whole()?).map_err(|_| "the text is not UTF-8".to_string())?;
     let bytes = write::write(&notation::parse(&text)?)?;
     let mut out = io::stdout().lock();
     out.write_all(&bytes).map_err(failed)?;
@@ -173,7 +182,11 @@ fn book_read() -> Outcome {
 fn bench(repetitions: u64) -> Outcome {
     let repetitions = match u32::try_from(repetitions) {
         Ok(repetitions) if repetitions > 0 => repetitions,
-        _ => return Err(format!("{repetitions} repetitions: from 1 to 4294967295, please")),
+        _ => {
+            return Err(format!(
+                "{repetitions} repetitions: from 1 to 4294967295, please"
+            ))
+        }
     };
     let mut input = BufReader::new(io::stdin().lock());
     let (mut books, mut cases) = (Vec::new(), 0u64);

@@ -5,6 +5,7 @@ mod commands;
 mod judges;
 mod recorded;
 
+use std::io::Write;
 use std::process::ExitCode;
 
 /// Deep books recurse: the work is done on a stack that is never short.
@@ -26,7 +27,9 @@ fn main() -> ExitCode {
     match outcome {
         Ok(()) => ExitCode::SUCCESS,
         Err(message) => {
-            eprintln!("oracle: {}", message.replace('\n', " "));
+            let line = format!("oracle: {}\n", message.replace('\n', " "));
+            // Where even this cannot be written, the exit code still tells.
+            let _ = std::io::stderr().write_all(line.as_bytes());
             ExitCode::FAILURE
         }
     }

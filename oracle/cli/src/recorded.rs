@@ -19,7 +19,10 @@ pub fn record(seed: u64, count: u64, books: &str, directory: &str) -> Result<(),
     for (number, bytes) in list.files.iter().enumerate() {
         save(&directory.join(format!("cases-{number}.bin")), bytes)?;
     }
-    save(&directory.join("README.md"), page(seed, count, &list).as_bytes())
+    save(
+        &directory.join("README.md"),
+        page(seed, count, &list).as_bytes(),
+    )
 }
 
 /// The books of a directory, by name.

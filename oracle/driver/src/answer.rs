@@ -3,12 +3,13 @@
 
 use crate::bridge::{from_ast, to_ast, Texts};
 use crate::caught;
-use crate::expand::{expand, Mode, Stop};
+use crate::expand::{expand, Mode};
 use crate::lift::{lift, Lifted};
 use crate::limits::{code, BOOK_BYTES, DEFINITIONS, NAME_BYTES};
 use crate::measure;
-use crate::read::{read, Fault};
 use crate::reach;
+use crate::read::{read, Fault};
+use crate::stop::Stop;
 use crate::write::write;
 use std::collections::HashSet;
 use vest::ast::{CombinatorInner, Definition};
@@ -107,9 +108,7 @@ fn confirm_refusal(code: u8, mut word: Vec<Definition>, texts: &Texts) -> Result
     let outcome = caught::catch(|| vest::elab::elaborate(&mut word));
     let confirmed = match (code, outcome) {
         (code::LEFTOVER_MACRO | code::NO_BINDER, Err(panic)) => panic.code()? == code,
-        (code::LIFTED_NAME_TOO_LONG, Ok(names)) => {
-            names.iter().any(|name| name.len() > NAME_BYTES)
-        }
+        (code::LIFTED_NAME_TOO_LONG, Ok(names)) => names.iter().any(|name| name.len() > NAME_BYTES),
         (code::RESULT_TOO_LARGE, Ok(_)) => {
             word.len() > DEFINITIONS || measure::book(&word, texts)?.bytes > BOOK_BYTES
         }
@@ -119,7 +118,9 @@ fn confirm_refusal(code: u8, mut word: Vec<Definition>, texts: &Texts) -> Result
     };
     match confirmed {
         true => Ok(()),
-        false => Err(Stop::Internal(format!("the Rust does not bear out code {code}"))),
+        false => Err(Stop::Internal(format!(
+            "the Rust does not bear out code {code}"
+        ))),
     }
 }
 

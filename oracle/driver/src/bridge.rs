@@ -398,9 +398,11 @@ impl Texts {
     fn params_back(&self, params: &[ast::ParamDefn]) -> Back<Vec<(String, Inner)>> {
         params
             .iter()
-            .map(|ast::ParamDefn::Dependent { name, combinator, .. }| {
-                Ok((name.name.clone(), self.inner_back(combinator)?))
-            })
+            .map(
+                |ast::ParamDefn::Dependent {
+                     name, combinator, ..
+                 }| { Ok((name.name.clone(), self.inner_back(combinator)?)) },
+            )
             .collect()
     }
 
@@ -430,9 +432,12 @@ impl Texts {
             Ast::Tail(c) => leaf(Leaf::Tail, c.span)?,
             Ast::Nothing(c) => leaf(Leaf::Nothing, c.span)?,
             Ast::Never(c) => leaf(Leaf::Never, c.span)?,
-            Ast::Struct(c) => {
-                Inner::Struct(c.fields.iter().map(|f| self.field_back(f)).collect::<Back<_>>()?)
-            }
+            Ast::Struct(c) => Inner::Struct(
+                c.fields
+                    .iter()
+                    .map(|f| self.field_back(f))
+                    .collect::<Back<_>>()?,
+            ),
             Ast::Wrap(c) => Inner::Wrap(
                 self.of_side(&c.prior)?.clone(),
                 self.boxed_back(&c.combinator)?,
@@ -457,22 +462,24 @@ impl Texts {
             ),
             Ast::MacroInvocation { name, args } => Inner::MacroInvocation(
                 name.clone(),
-                args.iter().map(|arg| self.inner_back(arg)).collect::<Back<_>>()?,
+                args.iter()
+                    .map(|arg| self.inner_back(arg))
+                    .collect::<Back<_>>()?,
             ),
         })
     }
 
     fn field_back(&self, field: &ast::StructField) -> Back<Field> {
         Ok(match field {
-            ast::StructField::Ordinary { label, combinator, .. } => {
-                Field::Ordinary(label.name.clone(), self.combinator_back(combinator)?)
-            }
-            ast::StructField::Dependent { label, combinator, .. } => {
-                Field::Dependent(label.name.clone(), self.combinator_back(combinator)?)
-            }
-            ast::StructField::Const { label, combinator, .. } => {
-                Field::Const(label.name.clone(), self.of_constant(combinator)?.clone())
-            }
+            ast::StructField::Ordinary {
+                label, combinator, ..
+            } => Field::Ordinary(label.name.clone(), self.combinator_back(combinator)?),
+            ast::StructField::Dependent {
+                label, combinator, ..
+            } => Field::Dependent(label.name.clone(), self.combinator_back(combinator)?),
+            ast::StructField::Const {
+                label, combinator, ..
+            } => Field::Const(label.name.clone(), self.of_constant(combinator)?.clone()),
         })
     }
 

@@ -9,6 +9,7 @@ use crate::bridge::Texts;
 use crate::limits::{code, BOOK_BYTES, PASSES};
 use crate::measure;
 use crate::reach;
+use crate::stop::Stop;
 use std::collections::HashMap;
 use vest::ast::{Combinator, CombinatorInner, Definition};
 use vest::elab::reach as rust;
@@ -20,19 +21,6 @@ pub enum Mode {
     Plain,
     /// Document 02 b: until no known call is left, 16 passes at the most.
     Nested,
-}
-
-/// Why there is no expanded list.
-#[derive(Debug, Clone, PartialEq, Eq)]
-pub enum Stop {
-    Refused(u8),
-    Internal(String),
-}
-
-impl From<String> for Stop {
-    fn from(message: String) -> Self {
-        Stop::Internal(message)
-    }
 }
 
 /// Past this size a substitution is not carried out: foretelling it is enough.

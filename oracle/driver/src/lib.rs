@@ -15,6 +15,7 @@ pub mod notation;
 pub mod reach;
 pub mod read;
 pub mod record;
+pub mod stop;
 pub mod stream;
 pub mod tree;
 pub mod worked;

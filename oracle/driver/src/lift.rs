@@ -6,9 +6,9 @@
 
 use crate::bridge::Texts;
 use crate::caught;
-use crate::expand::Stop;
 use crate::limits::{code, BOOK_BYTES, DEFINITIONS, NAME_BYTES};
 use crate::measure::{self, name_bytes};
+use crate::stop::Stop;
 use std::collections::HashSet;
 use vest::ast::{
     ArrayCombinator, Choices, Combinator, CombinatorInner, CombinatorInvocation, Definition,
@@ -140,12 +140,7 @@ impl<'a> Walk<'_, 'a> {
         Ok(())
     }
 
-    fn cases(
-        &mut self,
-        name: &str,
-        choices: &mut Choices<'a>,
-        binders: &mut Binders<'a>,
-    ) -> Step {
+    fn cases(&mut self, name: &str, choices: &mut Choices<'a>, binders: &mut Binders<'a>) -> Step {
         match choices {
             Choices::Enums(cases) => {
                 for (label, combinator) in cases {
@@ -173,7 +168,12 @@ impl<'a> Walk<'_, 'a> {
         combinator: &mut Combinator<'a>,
         binders: &mut Binders<'a>,
     ) -> Step {
-        self.under(name, &rust::generated_segment(&label.name), combinator, binders)
+        self.under(
+            name,
+            &rust::generated_segment(&label.name),
+            combinator,
+            binders,
+        )
     }
 
     fn under(

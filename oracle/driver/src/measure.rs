@@ -45,7 +45,9 @@ pub fn book(definitions: &[ast::Definition], texts: &Texts) -> Measured {
     let mut sum = Measure::flat(2);
     let mut orders = 0;
     for one in definitions {
-        sum = sum.beside(Measure::flat(6)).beside(definition(one, texts, orders)?);
+        sum = sum
+            .beside(Measure::flat(6))
+            .beside(definition(one, texts, orders)?);
         orders += usize::from(matches!(one, ast::Definition::Endianess(_)));
     }
     Ok(sum)
@@ -146,20 +148,24 @@ fn field(field: &ast::StructField, texts: &Texts) -> Measured {
         } => (label, self::combinator(combinator, texts)?),
         ast::StructField::Const {
             label, combinator, ..
-        } => (label, Measure::flat(text_bytes(texts.of_constant(combinator)?))),
+        } => (
+            label,
+            Measure::flat(text_bytes(texts.of_constant(combinator)?)),
+        ),
     };
     Ok(Measure::flat(1 + name_bytes(&label.name)).beside(rest))
 }
 
 fn choice(choice: &ast::ChoiceCombinator, texts: &Texts) -> Measured {
-    let selector = choice.depend_id.as_ref().map_or(0, |id| name_bytes(&id.name));
+    let selector = choice
+        .depend_id
+        .as_ref()
+        .map_or(0, |id| name_bytes(&id.name));
     let case = |key: usize, c: &ast::Combinator| -> Measured {
         Ok(Measure::flat(key).beside(combinator(c, texts)?))
     };
     let cases = match &choice.choices {
-        ast::Choices::Enums(cases) => {
-            counted(cases, |(label, c)| case(name_bytes(&label.name), c))
-        }
+        ast::Choices::Enums(cases) => counted(cases, |(label, c)| case(name_bytes(&label.name), c)),
         ast::Choices::Ints(cases) => {
             counted(cases, |(p, c)| case(text_bytes(texts.of_pattern(p)?), c))
         }
@@ -173,7 +179,9 @@ fn choice(choice: &ast::ChoiceCombinator, texts: &Texts) -> Measured {
 fn length(length: &ast::LengthExpr, texts: &Texts) -> Measured {
     let ids = length.collect_dependent_ids();
     let roots: usize = ids.iter().map(|id| name_bytes(&id.root)).sum();
-    Ok(Measure::flat(2 + roots + text_bytes(texts.of_length(length)?)))
+    Ok(Measure::flat(
+        2 + roots + text_bytes(texts.of_length(length)?),
+    ))
 }
 
 fn counted<T>(items: &[T], item: impl Fn(&T) -> Measured) -> Measured {

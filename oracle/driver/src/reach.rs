@@ -8,7 +8,10 @@ use vest::ast::{
 };
 
 /// Visits every format body of the list, in order.
-pub fn bodies<'d, 'a>(definitions: &'d [Definition<'a>], visit: &mut dyn FnMut(&'d Combinator<'a>)) {
+pub fn bodies<'d, 'a>(
+    definitions: &'d [Definition<'a>],
+    visit: &mut dyn FnMut(&'d Combinator<'a>),
+) {
     for definition in definitions {
         if let Definition::Combinator { combinator, .. } = definition {
             reach(combinator, visit);

@@ -146,9 +146,7 @@ fn choice(cursor: &mut Cursor, level: usize) -> Read<Inner> {
         _ => Some(cursor.dotted_name()?),
     };
     let cases = match cursor.one_of(1, 3)? {
-        1 => Cases::Enums(
-            cursor.counted(|c| Ok((c.plain_name()?, combinator(c, level + 1)?)))?,
-        ),
+        1 => Cases::Enums(cursor.counted(|c| Ok((c.plain_name()?, combinator(c, level + 1)?)))?),
         2 => Cases::Ints(cursor.counted(|c| Ok((c.text()?, combinator(c, level + 1)?)))?),
         _ => Cases::Arrays(cursor.counted(|c| Ok((c.text()?, combinator(c, level + 1)?)))?),
     };

@@ -120,7 +120,11 @@ fn encoded(book: &[u8], answer: &Answer, premise: &Premise) -> Vec<u8> {
         Answer::Refused(_) => (&[][..], 0, 0),
     };
     let done = answer.code() == 0;
-    let place = if done && result == book { IS_THE_BOOK } else { FOLLOWS };
+    let place = if done && result == book {
+        IS_THE_BOOK
+    } else {
+        FOLLOWS
+    };
     record.push(answer.code());
     record.extend((definitions as u16).to_le_bytes());
     record.extend((lifted as u16).to_le_bytes());

@@ -53,7 +53,11 @@ fn two() -> Inner {
 pub fn binder_search() -> Book {
     let one = Inner::Leaf(crate::tree::Leaf::ConstraintInt, b"one".to_vec());
     let s = structure(vec![dependent("n", two()), use_of_n()]);
-    book(vec![format_with("m", vec![("n", one)], structure(vec![field("s", s)]))])
+    book(vec![format_with(
+        "m",
+        vec![("n", one)],
+        structure(vec![field("s", s)]),
+    )])
 }
 
 /// Six uses of n, each at a place of its own.
@@ -64,7 +68,11 @@ pub fn six_uses() -> Book {
         field("c", call("m", &["n", "n.x"])),
         field("d", bytes(&["n"])),
     ]);
-    book(vec![format_with("m", vec![("n", int())], structure(vec![field("s", uses)]))])
+    book(vec![format_with(
+        "m",
+        vec![("n", int())],
+        structure(vec![field("s", uses)]),
+    )])
 }
 
 /// A format whose lift collides with its own taken name of so many bytes.
@@ -100,13 +108,20 @@ pub fn worked() -> Vec<Worked> {
         refused("64 vecs", m(vecs(64)), 5),
         refused("a taken base of 253 bytes", taken(253), 0),
         refused("a taken base of 254 bytes", taken(254), 9),
-        lifts("where the search starts", binder_search(), &["m_s_h", "m_s"]),
+        lifts(
+            "where the search starts",
+            binder_search(),
+            &["m_s_h", "m_s"],
+        ),
         lifts("six uses, one parameter", six_uses(), &["m_s"]),
         lifts(
             "no n inside the lifted m_s",
             m(structure(vec![
                 dependent("n", int()),
-                field("s", chained(enumeration(), structure(vec![field("b", bytes(&["n"]))]))),
+                field(
+                    "s",
+                    chained(enumeration(), structure(vec![field("b", bytes(&["n"]))])),
+                ),
             ])),
             &["m_s_0", "m_s"],
         ),
@@ -159,7 +174,10 @@ pub fn worked() -> Vec<Worked> {
             "9 before 7 and 8",
             book(vec![format(
                 &long,
-                structure(vec![field("s", structure(vec![field("x", zz()), field("y", bytes(&["n"]))]))]),
+                structure(vec![field(
+                    "s",
+                    structure(vec![field("x", zz()), field("y", bytes(&["n"]))]),
+                )]),
             )]),
             9,
         ),
@@ -170,10 +188,7 @@ pub fn worked() -> Vec<Worked> {
                     "m",
                     structure(vec![field(
                         "s",
-                        chained(
-                            structure(vec![field("x", enumeration())]),
-                            enumeration(),
-                        ),
+                        chained(structure(vec![field("x", enumeration())]), enumeration()),
                     )]),
                 ),
                 constant("m_s", &[]),
@@ -196,7 +211,11 @@ pub fn worked() -> Vec<Worked> {
         refused(
             "a macro that calls a macro, lifted",
             book(vec![
-                macro_definition("f", &[], structure(vec![field("x", macro_call("g", vec![]))])),
+                macro_definition(
+                    "f",
+                    &[],
+                    structure(vec![field("x", macro_call("g", vec![]))]),
+                ),
                 macro_definition("g", &[], nothing()),
                 format("m", vec(macro_call("f", vec![]))),
             ]),

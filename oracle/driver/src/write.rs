@@ -87,11 +87,7 @@ impl Writer {
         Ok(())
     }
 
-    fn counted<T>(
-        &mut self,
-        items: &[T],
-        mut item: impl FnMut(&mut Self, &T) -> Write,
-    ) -> Write {
+    fn counted<T>(&mut self, items: &[T], mut item: impl FnMut(&mut Self, &T) -> Write) -> Write {
         self.number(items.len(), "items in one place")?;
         items.iter().try_for_each(|one| item(self, one))
     }

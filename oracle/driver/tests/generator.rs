@@ -7,7 +7,9 @@ use driver::expand::Mode;
 use std::collections::BTreeMap;
 
 fn code(bytes: &[u8]) -> u8 {
-    answer(bytes, Mode::Plain).expect("both readings agree").code()
+    answer(bytes, Mode::Plain)
+        .expect("both readings agree")
+        .code()
 }
 
 #[test]

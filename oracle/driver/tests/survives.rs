@@ -31,11 +31,29 @@ fn every_item() -> Book {
     fields.extend([
         Field::Const("c".into(), b"const".to_vec()),
         dependent("d", Inner::Bytes(length("bytes"))),
-        field("w", Inner::Wrap(b"prior".to_vec(), Box::new(int().into()), b"post".to_vec())),
-        field("a", Inner::Array(length("array"), Box::new(option(nothing()).into()))),
-        field("e", choice(Some("d.x."), Cases::Enums(vec![("".into(), nothing().into())]))),
-        field("i", choice(None, Cases::Ints(vec![(b"1".to_vec(), vec(int()).into())]))),
-        field("r", choice(Some(".."), Cases::Arrays(vec![(vec![], nothing().into())]))),
+        field(
+            "w",
+            Inner::Wrap(b"prior".to_vec(), Box::new(int().into()), b"post".to_vec()),
+        ),
+        field(
+            "a",
+            Inner::Array(length("array"), Box::new(option(nothing()).into())),
+        ),
+        field(
+            "e",
+            choice(
+                Some("d.x."),
+                Cases::Enums(vec![("".into(), nothing().into())]),
+            ),
+        ),
+        field(
+            "i",
+            choice(None, Cases::Ints(vec![(b"1".to_vec(), vec(int()).into())])),
+        ),
+        field(
+            "r",
+            choice(Some(".."), Cases::Arrays(vec![(vec![], nothing().into())])),
+        ),
         field("v", call("m", &["d", "", ".x", "é.y"])),
         field("x", macro_call("f", vec![int(), macro_call("", vec![])])),
         field(
@@ -45,7 +63,11 @@ fn every_item() -> Book {
     ]);
     book(vec![
         byte_order(b"first"),
-        format_with("m", vec![("p", int()), ("p", vec(nothing()))], structure(fields)),
+        format_with(
+            "m",
+            vec![("p", int()), ("p", vec(nothing()))],
+            structure(fields),
+        ),
         constant("", b"\xff\x00"),
         byte_order(b""),
         macro_definition("f", &["a", "", "a"], call("a", &[])),

@@ -72,16 +72,22 @@ fn the_accepted_side_stands_exactly_at_the_limit() {
 /// The parameters of a format of a result, each with its type's text.
 fn typed(answer: &Answer, format: &str) -> Vec<(String, String)> {
     let book = result(answer);
-    let found = book.definitions.iter().find_map(|definition| match definition {
-        Definition::Format { name, params, .. } if name == format => Some(params.clone()),
-        _ => None,
-    });
+    let found = book
+        .definitions
+        .iter()
+        .find_map(|definition| match definition {
+            Definition::Format { name, params, .. } if name == format => Some(params.clone()),
+            _ => None,
+        });
     let text = |inner| match inner {
         Inner::Leaf(_, text) => String::from_utf8_lossy(&text).into_owned(),
         other => format!("{other:?}"),
     };
     let params = found.expect("the format is in the result");
-    params.into_iter().map(|(name, inner)| (name, text(inner))).collect()
+    params
+        .into_iter()
+        .map(|(name, inner)| (name, text(inner)))
+        .collect()
 }
 
 #[test]
@@ -132,7 +138,11 @@ fn worked_bytes_of_document_01() {
 
 #[test]
 fn nested_macros_and_their_limit() {
-    let nested = |text: &str| answer(&parsed(text), Mode::Nested).expect("agreement").code();
+    let nested = |text: &str| {
+        answer(&parsed(text), Mode::Nested)
+            .expect("agreement")
+            .code()
+    };
     let twice = "macro f!() = struct { x: g!() } macro g!() = nothing format m = vec<f!()>";
     assert_eq!(plain(&parsed(twice)).code(), 7);
     assert_eq!(nested(twice), 0);

@@ -40,9 +40,17 @@ fn hex(bytes: &[u8]) -> String {
 /// FIPS 180-4. The constants are computed: the first 32 bits of the fractional
 /// parts of the cube roots (`k`) and square roots (`h`) of the first primes.
 fn sha256(message: &[u8]) -> [u8; 32] {
-    let primes: Vec<u128> = (2u128..312).filter(|n| (2..*n).all(|d| n % d != 0)).collect();
-    let k: Vec<u32> = primes[..64].iter().map(|p| root(*p << 96, 3) as u32).collect();
-    let mut h: Vec<u32> = primes[..8].iter().map(|p| root(*p << 64, 2) as u32).collect();
+    let primes: Vec<u128> = (2u128..312)
+        .filter(|n| (2..*n).all(|d| n % d != 0))
+        .collect();
+    let k: Vec<u32> = primes[..64]
+        .iter()
+        .map(|p| root(*p << 96, 3) as u32)
+        .collect();
+    let mut h: Vec<u32> = primes[..8]
+        .iter()
+        .map(|p| root(*p << 64, 2) as u32)
+        .collect();
     for block in padded(message).chunks(64) {
         compress(&mut h, block, &k);
     }

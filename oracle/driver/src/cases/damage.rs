@@ -66,7 +66,10 @@ fn odd_name(place: usize) -> Book {
         4 => vec![macro_definition("f", &["a", odd], nothing())],
         5 => vec![format("m", structure(vec![field(odd, enumeration())]))],
         6 => vec![format("m", structure(vec![dependent(odd, enumeration())]))],
-        7 => inner(choice(None, Cases::Enums(vec![(odd.into(), nothing().into())]))),
+        7 => inner(choice(
+            None,
+            Cases::Enums(vec![(odd.into(), nothing().into())]),
+        )),
         8 => vec![format("m", choice(Some(odd), Cases::Ints(vec![])))],
         9 => inner(array(&["", odd], nothing())),
         10 => vec![format("m", vec(bytes(&[odd, ""])))],

@@ -76,7 +76,11 @@ pub fn lifted_by_macro(rng: &mut Rng, target: usize) -> Book {
     let enums = rng.between(8, 25);
     let calls = rng.between(200, 480) / (enums + 1);
     let each = |_| field("", enumeration());
-    let root = structure((0..calls).map(|_| field("", macro_call("f", vec![]))).collect());
+    let root = structure(
+        (0..calls)
+            .map(|_| field("", macro_call("f", vec![])))
+            .collect(),
+    );
     let definitions = vec![
         macro_definition("f", &[], structure((0..enums).map(each).collect())),
         format("", root),
@@ -159,7 +163,14 @@ pub fn lifted_names(rng: &mut Rng) -> Book {
         _ => 3,
     };
     let name = long_name(rng, target - suffix - 1 - segment);
-    let base = format!("{name}_{}", if label.is_empty() { "anon" } else { label.as_str() });
+    let base = format!(
+        "{name}_{}",
+        if label.is_empty() {
+            "anon"
+        } else {
+            label.as_str()
+        }
+    );
     let mut definitions = vec![format(&name, structure(vec![field(&label, enumeration())]))];
     for number in 0..taken {
         let other = match number {
@@ -188,7 +199,10 @@ pub fn long_bases(rng: &mut Rng) -> Book {
         false => nothing(),
     };
     let walked = vec(vec(vec(Combinator::chained(bytes(&[]), inner.into()))));
-    book(vec![format("m", structure(vec![field(&long, walked), field(&long, int())]))])
+    book(vec![format(
+        "m",
+        structure(vec![field(&long, walked), field(&long, int())]),
+    )])
 }
 
 /// Macro growth at exactly a limit, past it, and past it only on the way.
@@ -288,9 +302,17 @@ fn doubling(rng: &mut Rng) -> Book {
     let count = rng.between(2, 40);
     let params: Vec<String> = (0..count).map(|number| format!("p{number}")).collect();
     let names: Vec<&str> = params.iter().map(String::as_str).collect();
-    let twice = |name: &String| structure(vec![field("l", call(name, &[])), field("r", call(name, &[]))]);
+    let twice = |name: &String| {
+        structure(vec![
+            field("l", call(name, &[])),
+            field("r", call(name, &[])),
+        ])
+    };
     let args = params[1..].iter().map(twice).chain([nothing()]).collect();
-    book(vec![macro_definition("f", &names, call("p0", &[])), caller(args)])
+    book(vec![
+        macro_definition("f", &names, call("p0", &[])),
+        caller(args),
+    ])
 }
 
 /// Large after the first parameter, small after the second: 0 or 6.
@@ -325,7 +347,10 @@ fn many_params(rng: &mut Rng) -> Book {
     let calls = (0..rng.between(1, 60)).map(|number| field("x", call(names[number * 3], &[])));
     let fields = calls.collect();
     let args = (0..rng.between(0, count + 5)).map(|_| nothing()).collect();
-    book(vec![macro_definition("f", &names, structure(fields)), caller(args)])
+    book(vec![
+        macro_definition("f", &names, structure(fields)),
+        caller(args),
+    ])
 }
 
 /// Lifts that are 7, 8, 9, 10 or fine, in any order: the first one decides.
@@ -368,7 +393,10 @@ fn rival(rng: &mut Rng) -> Field {
     }
     let inner = structure(inside);
     let combinator = match rng.below(4) {
-        0 => Combinator::chained(inner, structure(vec![field("y", macro_call("zz", vec![]))]).into()),
+        0 => Combinator::chained(
+            inner,
+            structure(vec![field("y", macro_call("zz", vec![]))]).into(),
+        ),
         1 => Combinator::chained(enumeration(), inner.into()),
         _ => inner.into(),
     };
@@ -417,7 +445,11 @@ fn lift_at_each_level(rng: &mut Rng) -> Book {
 fn many_small_formats(rng: &mut Rng) -> Book {
     let count = rng.between(200, 300);
     let one = |number: usize| {
-        let inside = if number % 3 == 0 { enumeration() } else { int() };
+        let inside = if number % 3 == 0 {
+            enumeration()
+        } else {
+            int()
+        };
         format(&format!("f{number}"), structure(vec![field("a", inside)]))
     };
     book((0..count).map(one).collect())

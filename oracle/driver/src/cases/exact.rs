@@ -46,7 +46,10 @@ pub fn both_sides() -> Vec<Side> {
     };
     let lifted_name = |past| {
         let name = "q".repeat(NAME_BYTES + past - 2);
-        edge::written(&book(vec![format(&name, structure(vec![field("a", enumeration())]))]))
+        edge::written(&book(vec![format(
+            &name,
+            structure(vec![field("a", enumeration())]),
+        )]))
     };
     [
         pair("bytes of a book", code::BOOK_TOO_LONG, |past| {
@@ -57,14 +60,20 @@ pub fn both_sides() -> Vec<Side> {
         levels("levels of options", option),
         levels("levels of wraps", wrap),
         levels("levels of arrays", |inner| array(&[], inner)),
-        levels("levels of macro arguments", |inner| macro_call("f", vec![inner])),
+        levels("levels of macro arguments", |inner| {
+            macro_call("f", vec![inner])
+        }),
         pair("levels of chains", code::TOO_DEEP, chains),
         growth("bytes after one parameter", edge::step_bytes),
         growth("levels after one parameter", edge::step_levels),
         growth("bytes on the way", edge::shrinking),
         growth("bytes of the book left", edge::left_bytes),
         growth("levels of the book left", edge::left_levels),
-        pair("bytes of a lifted name", code::LIFTED_NAME_TOO_LONG, lifted_name),
+        pair(
+            "bytes of a lifted name",
+            code::LIFTED_NAME_TOO_LONG,
+            lifted_name,
+        ),
         pair("bytes of a result", code::RESULT_TOO_LARGE, |past| {
             edge::with_result_of(edge::copied_types(&mut rng(5)), BOOK_BYTES + past)
         }),

@@ -18,7 +18,11 @@ pub fn step(number: usize, child: Combinator) -> Combinator {
         3 => structure(vec![dependent("n", child), field("b", bytes(&["n"]))]).into(),
         4 => wrap(child).into(),
         5 => choice(Some("n"), Cases::Enums(vec![("A-b".into(), child)])).into(),
-        6 => choice(None, Cases::Ints(vec![(vec![1], nothing().into()), (vec![2], child)])).into(),
+        6 => choice(
+            None,
+            Cases::Ints(vec![(vec![1], nothing().into()), (vec![2], child)]),
+        )
+        .into(),
         7 => choice(None, Cases::Arrays(vec![(vec![], child)])).into(),
         8 => vec(child).into(),
         9 => array(&["n"], child).into(),
@@ -36,7 +40,10 @@ pub fn tagged(number: usize) -> Inner {
     match others - LEAVES.len() {
         0 => structure(vec![field("x", nothing())]),
         1 => wrap(nothing()),
-        2 => choice(Some("n.x"), Cases::Enums(vec![("V".into(), nothing().into())])),
+        2 => choice(
+            Some("n.x"),
+            Cases::Enums(vec![("V".into(), nothing().into())]),
+        ),
         3 => choice(None, Cases::Ints(vec![(vec![7], enumeration().into())])),
         4 => choice(Some("n"), Cases::Arrays(vec![])),
         5 => vec(enumeration()),
@@ -51,21 +58,36 @@ pub fn tagged(number: usize) -> Inner {
 /// The whole book: the way stands in a body, a parameter's type or a macro.
 pub fn along(steps: &[usize], tag: usize, home: usize, bound: bool, known: bool) -> Book {
     let end: Combinator = tagged(tag).into();
-    let way = steps.iter().rev().fold(end, |below, number| step(*number, below));
+    let way = steps
+        .iter()
+        .rev()
+        .fold(end, |below, number| step(*number, below));
     let params = match bound {
         true => vec![("n", int())],
         false => vec![],
     };
     let mut definitions: Vec<Definition> = match home % 3 {
         0 => vec![format_with("m", params, way)],
-        1 => vec![format_with("m", vec![("n", way.inner)], vec(structure(vec![field("u", bytes(&["n"]))])))],
+        1 => vec![format_with(
+            "m",
+            vec![("n", way.inner)],
+            vec(structure(vec![field("u", bytes(&["n"]))])),
+        )],
         _ => vec![
             macro_definition("g", &["m"], way),
-            format_with("m", params, structure(vec![field("c", macro_call("g", vec![int()]))])),
+            format_with(
+                "m",
+                params,
+                structure(vec![field("c", macro_call("g", vec![int()]))]),
+            ),
         ],
     };
     if known {
-        definitions.push(macro_definition("f", &["a"], structure(vec![field("x", call("a", &[]))])));
+        definitions.push(macro_definition(
+            "f",
+            &["a"],
+            structure(vec![field("x", call("a", &[]))]),
+        ));
     }
     book(definitions)
 }

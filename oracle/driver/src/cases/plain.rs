@@ -1,14 +1,30 @@
 //! Well-formed books: many lifts, parameters, collisions, shadowing, macros.
 
 use super::rng::Rng;
-use crate::tree::{
-    Book, Cases, Combinator, Definition, Field, Inner, Leaf, Length, Text, LEAVES,
-};
+use crate::tree::{Book, Cases, Combinator, Definition, Field, Inner, Leaf, Length, Text, LEAVES};
 
 /// Names of definitions: few, and many of them what a lift would choose.
 const NAMES: [&str; 20] = [
-    "m", "r", "m_a", "m_b", "m_a_0", "m_a_1", "m_a_item", "m_item", "m_0", "r_n", "r_hdr", "m_hdr",
-    "m_choice0", "m_anon", "r_choice1", "m__", "_anon", "", "é", "k",
+    "m",
+    "r",
+    "m_a",
+    "m_b",
+    "m_a_0",
+    "m_a_1",
+    "m_a_item",
+    "m_item",
+    "m_0",
+    "r_n",
+    "r_hdr",
+    "m_hdr",
+    "m_choice0",
+    "m_anon",
+    "r_choice1",
+    "m__",
+    "_anon",
+    "",
+    "é",
+    "k",
 ];
 /// Labels: collisions after mapping, none, non-ASCII, and the fixed segments.
 const LABELS: [&str; 22] = [

@@ -28,7 +28,11 @@ pub fn books() -> impl Iterator<Item = Vec<u8>> {
 
 fn all_leaves() -> Vec<Inner> {
     let mut leaves: Vec<Inner> = LEAVES.iter().map(|one| leaf(*one)).collect();
-    leaves.extend(few_leaves().into_iter().filter(|one| !matches!(one, Inner::Leaf(..))));
+    leaves.extend(
+        few_leaves()
+            .into_iter()
+            .filter(|one| !matches!(one, Inner::Leaf(..))),
+    );
     leaves.push(choice(Some("n"), Cases::Ints(vec![])));
     leaves.push(bytes(&[]));
     leaves

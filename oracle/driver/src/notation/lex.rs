@@ -20,7 +20,10 @@ pub struct Place {
 
 /// What is wrong, and where.
 pub fn at<T>(place: Place, what: impl std::fmt::Display) -> Result<T, String> {
-    Err(format!("line {}, column {}: {what}", place.line, place.column))
+    Err(format!(
+        "line {}, column {}: {what}",
+        place.line, place.column
+    ))
 }
 
 /// Longer symbols stand before the shorter ones they begin with.
@@ -175,7 +178,9 @@ impl Lexer<'_> {
                 while self.peek().is_some_and(|c| c.is_ascii_hexdigit()) {
                     digits.extend(self.next());
                 }
-                let value = u32::from_str_radix(&digits, 16).ok().and_then(char::from_u32);
+                let value = u32::from_str_radix(&digits, 16)
+                    .ok()
+                    .and_then(char::from_u32);
                 match (value, self.next()) {
                     (Some(character), Some('}')) => Ok(character),
                     _ => at(place, "\\u{..} wants the number of a character"),

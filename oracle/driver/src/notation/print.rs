@@ -21,7 +21,9 @@ fn definition(definition: &Definition) -> String {
             };
             format!("format {}{params} = {}\n", plain(name), combinator(body, 0))
         }
-        Definition::Constant { name, text } => format!("const {} = {}\n", plain(name), quoted(text)),
+        Definition::Constant { name, text } => {
+            format!("const {} = {}\n", plain(name), quoted(text))
+        }
         Definition::ByteOrder { text } => format!("order {}\n", quoted(text)),
         Definition::Macro { name, params, body } => {
             let params: Vec<String> = params.iter().map(|param| plain(param)).collect();
@@ -53,12 +55,18 @@ fn inner(inner: &Inner, indent: usize) -> String {
             quoted(post)
         ),
         Inner::Choice(selector, cases) => {
-            let selector = selector.as_ref().map_or(String::new(), |name| format!("(@{})", dotted(name)));
+            let selector = selector
+                .as_ref()
+                .map_or(String::new(), |name| format!("(@{})", dotted(name)));
             format!("choose{selector} {}", self::cases(cases, indent))
         }
         Inner::Vec(child) => format!("vec<{}>", combinator(child, indent)),
         Inner::Array(length, child) => {
-            format!("array<{}>{}", combinator(child, indent), self::length(length))
+            format!(
+                "array<{}>{}",
+                combinator(child, indent),
+                self::length(length)
+            )
         }
         Inner::Bytes(length) => format!("bytes{}", self::length(length)),
         Inner::Option(child) => format!("option<{}>", combinator(child, indent)),
@@ -121,12 +129,19 @@ fn block(items: Vec<String>, indent: usize) -> String {
         return "{}".to_string();
     }
     let margin = "  ".repeat(indent + 1);
-    let lines: String = items.iter().map(|item| format!("{margin}{item},\n")).collect();
+    let lines: String = items
+        .iter()
+        .map(|item| format!("{margin}{item},\n"))
+        .collect();
     format!("{{\n{lines}{}}}", "  ".repeat(indent))
 }
 
 fn length(length: &Length) -> String {
-    let roots: Vec<String> = length.roots.iter().map(|root| format!("@{}", plain(root))).collect();
+    let roots: Vec<String> = length
+        .roots
+        .iter()
+        .map(|root| format!("@{}", plain(root)))
+        .collect();
     let roots = roots.join(", ");
     match roots.is_empty() || length.text.is_empty() {
         true if length.text.is_empty() => format!("[{roots}]"),

@@ -96,7 +96,9 @@ pub fn derive_parser(input: TokenStream) -> TokenStream {
 fn struct_name(input: TokenStream) -> String {
     input
         .into_iter()
-        .skip_while(|token| !matches!(token, TokenTree::Ident(word) if word.to_string() == "struct"))
+        .skip_while(
+            |token| !matches!(token, TokenTree::Ident(word) if word.to_string() == "struct"),
+        )
         .nth(1)
         .expect("the parser is a struct")
         .to_string()
