@@ -2,7 +2,7 @@
 
 use crate::{judges, recorded};
 use driver::answer::{answer, premise, Internal};
-use driver::cases::{self, short};
+use driver::cases::{self, short, sweep};
 use driver::expand::Mode;
 use driver::{bench, notation, read, stream, write};
 use std::collections::BTreeMap;
@@ -15,6 +15,7 @@ oracle answer [--nested]    case stream in, answers out
 oracle premise [--nested]   case stream in, premise answers and expanded books out
 oracle cases SEED COUNT     case stream out
 oracle short                case stream out: everything short
+oracle sweep                book in, case stream out: all its small damages
 oracle tally SEED COUNT     codes by kind of generated case
 oracle book write           text in, book out
 oracle book read            book in, text out
@@ -35,6 +36,7 @@ pub fn run(arguments: &[String]) -> Outcome {
         ["premise", "--nested"] => premises(Mode::Nested),
         ["cases", seed, count] => generated(number(seed)?, number(count)?),
         ["short"] => everything_short(),
+        ["sweep"] => sweep(),
         ["tally", seed, count] => tally(number(seed)?, number(count)?),
         ["book", "write"] => book_write(),
         ["book", "read"] => book_read(),
@@ -116,16 +118,20 @@ fn premises(mode: Mode) -> Outcome {
 }
 
 fn generated(seed: u64, count: u64) -> Outcome {
-    let mut out = BufWriter::new(io::stdout().lock());
-    for number in 0..count {
-        stream::write_case(&mut out, &cases::case(seed, number).bytes).map_err(failed)?;
-    }
-    out.flush().map_err(failed)
+    stream_out((0..count).map(|number| cases::case(seed, number).bytes))
 }
 
 fn everything_short() -> Outcome {
+    stream_out(short::strings().chain(short::books()))
+}
+
+fn sweep() -> Outcome {
+    stream_out(sweep::sweep(&stdin_whole()?))
+}
+
+fn stream_out(books: impl Iterator<Item = Vec<u8>>) -> Outcome {
     let mut out = BufWriter::new(io::stdout().lock());
-    for book in short::strings().chain(short::books()) {
+    for book in books {
         stream::write_case(&mut out, &book).map_err(failed)?;
     }
     out.flush().map_err(failed)

@@ -34,6 +34,7 @@ fn files(directory: PathBuf) -> BTreeMap<String, Vec<u8>> {
 #[test]
 fn the_command_makes_the_list_again() {
     let made = PathBuf::from(env!("CARGO_TARGET_TMPDIR")).join("recorded");
+    let _ = fs::remove_dir_all(&made);
     fs::create_dir_all(&made).expect("a directory");
     let status = Command::new(env!("CARGO_BIN_EXE_oracle"))
         .args(["record", SEED, COUNT])
@@ -43,8 +44,11 @@ fn the_command_makes_the_list_again() {
         .expect("the oracle runs");
     assert!(status.success());
     let recorded = files(repository().join("crates/replay/data"));
-    for (name, bytes) in files(made) {
-        assert!(recorded.get(&name) == Some(&bytes), "{name} differs");
+    let made = files(made);
+    let names = |files: &BTreeMap<String, Vec<u8>>| files.keys().cloned().collect::<Vec<_>>();
+    assert_eq!(names(&made), names(&recorded));
+    for (name, bytes) in &made {
+        assert!(recorded[name] == *bytes, "{name} differs");
     }
     let bytes: usize = recorded.values().map(Vec::len).sum();
     assert!(bytes < 1_500_000, "{bytes} bytes");

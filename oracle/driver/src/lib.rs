@@ -16,7 +16,8 @@ pub mod reach;
 pub mod read;
 pub mod record;
 pub mod stop;
+pub mod stories;
 pub mod stream;
 pub mod tree;
-pub mod worked;
+
 pub mod write;

@@ -4,7 +4,7 @@
 use crate::answer::{answer, premise, Answer, Internal, Premise};
 use crate::cases::{self, Kind};
 use crate::expand::Mode;
-use crate::worked::worked;
+use crate::stories::stories;
 use std::collections::{BTreeMap, HashMap, HashSet};
 
 /// A file ends before it would be longer than this.
@@ -27,9 +27,9 @@ pub struct List {
 /// sides, then generated ones until there are `count` cases.
 pub fn record(seed: u64, count: usize, books: Vec<Vec<u8>>) -> Result<List, Internal> {
     let mut recorder = Recorder::default();
-    let worked = worked().into_iter().map(|one| one.bytes);
+    let stories = stories().into_iter().map(|one| one.bytes);
     let sides = cases::both_sides().into_iter().map(|side| side.bytes);
-    for book in books.into_iter().chain(worked).chain(sides) {
+    for book in books.into_iter().chain(stories).chain(sides) {
         recorder.offer(&book, None)?;
     }
     for number in 0.. {

@@ -79,17 +79,21 @@ fn odd_name(place: usize) -> Book {
     })
 }
 
-/// A copy with one to three faults, in the bytes as they are or in a body whose
-/// entry is made to fit again, so that the contents do not hide the fault.
+/// A copy with one to three faults: in the bytes as they are, in the contents
+/// alone, or in a body whose entry is made to fit again, so that the contents
+/// do not hide the fault.
 pub fn copy(rng: &mut Rng) -> Vec<u8> {
     let size = *rng.pick(&[Size::Small, Size::Small, Size::Medium]);
     let source = plain::book(rng, size);
-    match rng.chance(65) {
-        true => resealed(rng, &source),
-        false => {
-            let bytes = written(&source);
-            damaged(rng, bytes)
+    let mut bytes = written(&source);
+    match rng.below(10) {
+        0..=5 => resealed(rng, &source),
+        6 => {
+            let at = rng.below(2 + 6 * source.definitions.len());
+            bytes[at] = bytes[at].wrapping_add(*rng.pick(&[1, 255, 128, 3]));
+            bytes
         }
+        _ => damaged(rng, bytes),
     }
 }
 
@@ -104,7 +108,8 @@ fn resealed(rng: &mut Rng, source: &Book) -> Vec<u8> {
     seal(&bodies)
 }
 
-fn sealed(definition: &Definition) -> (u8, Vec<u8>) {
+/// A definition's kind and body.
+pub fn sealed(definition: &Definition) -> (u8, Vec<u8>) {
     (definition.kind(), body(definition).unwrap_or_default())
 }
 
@@ -152,8 +157,8 @@ fn damage(rng: &mut Rng, bytes: &mut Vec<u8>) {
     }
 }
 
-/// A body with the count of some list too high or too low, resealed; and an
-/// unknown tag one level too deep, which is 3, not 5.
+/// A tag around level 65, known or not: an unknown one is 3 before it is 5, and
+/// at times nothing comes after it.
 pub fn deep_and_unknown(rng: &mut Rng) -> Vec<u8> {
     let depth = rng.between(63, 66);
     let tag = *rng.pick(&[0, 17, 255, 13, 13, 16]);

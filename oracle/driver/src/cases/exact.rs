@@ -2,6 +2,7 @@
 //! just does not.
 
 use super::edge;
+use super::growth;
 use super::rng::Rng;
 use crate::build::*;
 use crate::limits::{code, BOOK_BYTES, DEFINITIONS, LEVELS, NAME_BYTES};
@@ -35,7 +36,7 @@ pub fn both_sides() -> Vec<Side> {
         let deep = (1..LEVELS + past).fold(nothing().into(), link);
         edge::written(&book(vec![format("m", deep)]))
     };
-    let growth = |name, make: fn(&mut Rng, usize) -> Book| {
+    let grown = |name, make: fn(&mut Rng, usize) -> Book| {
         pair(name, code::MACRO_GROWTH, move |past| {
             edge::written(&make(&mut rng(7), past))
         })
@@ -64,11 +65,11 @@ pub fn both_sides() -> Vec<Side> {
             macro_call("f", vec![inner])
         }),
         pair("levels of chains", code::TOO_DEEP, chains),
-        growth("bytes after one parameter", edge::step_bytes),
-        growth("levels after one parameter", edge::step_levels),
-        growth("bytes on the way", edge::shrinking),
-        growth("bytes of the book left", edge::left_bytes),
-        growth("levels of the book left", edge::left_levels),
+        grown("bytes after one parameter", growth::step_bytes),
+        grown("levels after one parameter", growth::step_levels),
+        grown("bytes on the way", growth::shrinking),
+        grown("bytes of the book left", growth::left_bytes),
+        grown("levels of the book left", growth::left_levels),
         pair(
             "bytes of a lifted name",
             code::LIFTED_NAME_TOO_LONG,

@@ -3,10 +3,14 @@
 mod damage;
 mod edge;
 mod exact;
+mod growth;
+mod hurt;
 mod place;
 mod plain;
+mod race;
 mod rng;
 pub mod short;
+pub mod sweep;
 
 pub use exact::both_sides;
 pub use place::{along, STEPS, TAGS};
@@ -87,9 +91,9 @@ fn make(kind: Kind, rng: &mut Rng) -> Vec<u8> {
         Kind::LiftedDefinitions => edge::lifted_definitions(rng),
         Kind::LiftedNames => edge::lifted_names(rng),
         Kind::LongBases => edge::long_bases(rng),
-        Kind::Growth => edge::growth(rng),
-        Kind::Race => edge::race(rng),
-        Kind::Hurt => edge::hurt(rng),
+        Kind::Growth => growth::random(rng),
+        Kind::Race => race::random(rng),
+        Kind::Hurt => hurt::random(rng),
     };
     edge::written(&book)
 }

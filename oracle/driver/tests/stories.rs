@@ -6,8 +6,8 @@ use driver::expand::Mode;
 use driver::listing::listing;
 use driver::notation;
 use driver::read::read;
+use driver::stories::{binder_search, lifted_names, six_uses, stories};
 use driver::tree::{Book, Definition, Inner};
-use driver::worked::{binder_search, lifted_names, six_uses, worked};
 use driver::write::write;
 use std::fs;
 use std::path::PathBuf;
@@ -32,8 +32,8 @@ fn examples() -> PathBuf {
 }
 
 #[test]
-fn worked_books_answer_as_they_say() {
-    for one in worked() {
+fn stories_answer_as_they_say() {
+    for one in stories() {
         let answer = plain(&one.bytes);
         assert_eq!(answer.code(), one.code, "{}", one.name);
         if let Some(lifted) = one.lifted {

@@ -7,7 +7,7 @@ use crate::limits::code;
 use crate::tree::{Book, Combinator, Inner};
 use crate::write::write;
 
-pub struct Worked {
+pub struct Story {
     pub name: &'static str,
     pub bytes: Vec<u8>,
     pub code: u8,
@@ -15,8 +15,8 @@ pub struct Worked {
     pub lifted: Option<Vec<&'static str>>,
 }
 
-fn raw(name: &'static str, bytes: &[u8], code: u8) -> Worked {
-    Worked {
+fn raw(name: &'static str, bytes: &[u8], code: u8) -> Story {
+    Story {
         name,
         bytes: bytes.to_vec(),
         code,
@@ -24,12 +24,12 @@ fn raw(name: &'static str, bytes: &[u8], code: u8) -> Worked {
     }
 }
 
-fn refused(name: &'static str, source: Book, code: u8) -> Worked {
+fn refused(name: &'static str, source: Book, code: u8) -> Story {
     raw(name, &write(&source).unwrap_or_default(), code)
 }
 
-fn lifts(name: &'static str, source: Book, lifted: &[&'static str]) -> Worked {
-    Worked {
+fn lifts(name: &'static str, source: Book, lifted: &[&'static str]) -> Story {
+    Story {
         lifted: Some(lifted.to_vec()),
         ..refused(name, source, code::DONE)
     }
@@ -85,7 +85,7 @@ fn taken(bytes: usize) -> Book {
     ])
 }
 
-pub fn worked() -> Vec<Worked> {
+pub fn stories() -> Vec<Story> {
     let zz = || macro_call("zz", vec![]);
     let m = |inner: Inner| book(vec![format("m", inner)]);
     let chained = |inner: Inner, next: Inner| Combinator::chained(inner, next.into());
