@@ -1,6 +1,6 @@
 //! The subcommands. Each answers `Err` with one clear line.
 
-use crate::{judges, recorded};
+use crate::{files, judges};
 use driver::answer::{answer, premise, Internal};
 use driver::cases::{self, short, sweep};
 use driver::expand::Mode;
@@ -24,6 +24,7 @@ oracle bench N              case stream in, times out: best and mean of N repeti
 oracle record SEED COUNT BOOKS DIRECTORY
                             the recorded list: the books of one directory, the worked
                             ones and generated ones, COUNT in all, into another
+oracle examples DIRECTORY   NAME.book and NAME.listing beside each NAME.layout
 oracle judges               whose word each code is
 ";
 
@@ -43,8 +44,9 @@ pub fn run(arguments: &[String]) -> Outcome {
         ["listing"] => listing(),
         ["bench", repetitions] => bench(number(repetitions)?),
         ["record", seed, count, books, directory] => {
-            recorded::record(number(seed)?, number(count)?, books, directory)
+            files::record(number(seed)?, number(count)?, books, directory)
         }
+        ["examples", directory] => files::examples(directory),
         ["judges"] => print(judges::JUDGES),
         ["help" | "--help" | "-h"] => print(USAGE),
         [] => Err("no subcommand; `oracle help` names them".to_string()),

@@ -2,8 +2,8 @@
 //! the driver; README.md describes them.
 
 mod commands;
+mod files;
 mod judges;
-mod recorded;
 
 use std::io::Write;
 use std::process::ExitCode;

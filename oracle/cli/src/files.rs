@@ -1,6 +1,12 @@
-//! Writes the recorded list and the page beside it.
+//! What is made into files: the recorded list with the page beside it, and the
+//! books and listings of the examples.
 
+use driver::answer::answer;
+use driver::expand::Mode;
+use driver::listing::listing;
+use driver::notation;
 use driver::record::{record as make, List};
+use driver::write::write;
 use std::fs;
 use std::path::{Path, PathBuf};
 
@@ -9,7 +15,7 @@ pub fn record(seed: u64, count: u64, books: &str, directory: &str) -> Result<(),
         .ok()
         .filter(|count| *count <= 100_000)
         .ok_or_else(|| format!("{count} cases: at most 100000, please"))?;
-    let names = book_files(Path::new(books))?;
+    let names = with_ending(Path::new(books), "book")?;
     let contents = names
         .iter()
         .map(|path| fs::read(path).map_err(|error| format!("{}: {error}", path.display())))
@@ -25,20 +31,38 @@ pub fn record(seed: u64, count: u64, books: &str, directory: &str) -> Result<(),
     )
 }
 
-/// The books of a directory, by name.
-fn book_files(directory: &Path) -> Result<Vec<PathBuf>, String> {
+/// Writes NAME.book and NAME.listing beside each NAME.layout.
+pub fn examples(directory: &str) -> Result<(), String> {
+    for path in with_ending(Path::new(directory), "layout")? {
+        let shown = path.display();
+        let fault = |error: String| format!("{shown}: {error}");
+        let text = fs::read_to_string(&path).map_err(|error| fault(error.to_string()))?;
+        let book = notation::parse(&text)
+            .and_then(|book| write(&book))
+            .map_err(fault)?;
+        let listed = answer(&book, Mode::Plain)
+            .and_then(|answer| listing(&answer))
+            .map_err(fault)?;
+        save(&path.with_extension("book"), &book)?;
+        save(&path.with_extension("listing"), listed.as_bytes())?;
+    }
+    Ok(())
+}
+
+/// The files of a directory that end so, by name.
+fn with_ending(directory: &Path, wanted: &str) -> Result<Vec<PathBuf>, String> {
     let shown = directory.display();
     let entries = fs::read_dir(directory).map_err(|error| format!("{shown}: {error}"))?;
     let mut names = Vec::new();
     for entry in entries {
         let path = entry.map_err(|error| format!("{shown}: {error}"))?.path();
-        if path.extension().is_some_and(|ending| ending == "book") {
+        if path.extension().is_some_and(|ending| ending == wanted) {
             names.push(path);
         }
     }
     names.sort();
     match names.is_empty() {
-        true => Err(format!("{shown}: no file ends in .book")),
+        true => Err(format!("{shown}: no file ends in .{wanted}")),
         false => Ok(names),
     }
 }
@@ -60,7 +84,7 @@ fn page(seed: u64, count: usize, list: &List) -> String {
         .map(|(number, file)| format!("| cases-{number}.bin | {} |", file.len()))
         .collect();
     format!(
-        include_str!("recorded.md"),
+        include_str!("list.md"),
         cases = list.cases,
         seed = seed,
         count = count,
