@@ -1,7 +1,7 @@
 //! The subcommands. Each answers `Err` with one clear line.
 
 use crate::{files, judges};
-use driver::answer::{answer, premise, Internal};
+use driver::answer::{answer, premise, Answer, Internal};
 use driver::cases::{self, short, sweep};
 use driver::expand::Mode;
 use driver::{bench, notation, read, stream, write};
@@ -19,6 +19,7 @@ oracle sweep                book in, case stream out: all its small damages
 oracle tally SEED COUNT     codes by kind of generated case
 oracle book write           text in, book out
 oracle book read            book in, text out
+oracle elaborate            book in, result out
 oracle listing              book in, listing out
 oracle bench N              case stream in, times out: best and mean of N repetitions
 oracle record SEED COUNT BOOKS DIRECTORY
@@ -41,6 +42,7 @@ pub fn run(arguments: &[String]) -> Outcome {
         ["tally", seed, count] => tally(number(seed)?, number(count)?),
         ["book", "write"] => book_write(),
         ["book", "read"] => book_read(),
+        ["elaborate"] => elaborate(),
         ["listing"] => listing(),
         ["bench", repetitions] => bench(number(repetitions)?),
         ["record", seed, count, books, directory] => {
@@ -67,8 +69,12 @@ fn failed(error: io::Error) -> String {
 }
 
 fn print(text: &str) -> Outcome {
+    put(text.as_bytes())
+}
+
+fn put(bytes: &[u8]) -> Outcome {
     let mut out = io::stdout().lock();
-    out.write_all(text.as_bytes()).map_err(failed)?;
+    out.write_all(bytes).map_err(failed)?;
     out.flush().map_err(failed)
 }
 
@@ -166,18 +172,26 @@ fn counts(codes: &BTreeMap<u8, u64>) -> String {
 }
 
 fn listing() -> Outcome {
+    print(&driver::listing::listing(&one_answer()?)?)
+}
+
+fn elaborate() -> Outcome {
+    match one_answer()? {
+        Answer::Done(done) => put(&done.book),
+        Answer::Refused(code) => Err(format!("refused {code}")),
+    }
+}
+
+/// The answer to the one book on standard input.
+fn one_answer() -> Result<Answer, String> {
     let book = stdin_whole()?;
-    let answer = answer(&book, Mode::Plain).map_err(|error| disagreement(0, &book, &error))?;
-    print(&driver::listing::listing(&answer)?)
+    answer(&book, Mode::Plain).map_err(|error| disagreement(0, &book, &error))
 }
 
 fn book_write() -> Outcome {
     let text =
         String::from_utf8(stdin_whole()?).map_err(|_| "the text is not UTF-8".to_string())?;
-    let bytes = write::write(&notation::parse(&text)?)?;
-    let mut out = io::stdout().lock();
-    out.write_all(&bytes).map_err(failed)?;
-    out.flush().map_err(failed)
+    put(&write::write(&notation::parse(&text)?)?)
 }
 
 fn book_read() -> Outcome {

@@ -150,6 +150,8 @@ fn books_as_bytes() {
     refuses(&["book", "read"], b"", "refused 3 at byte 0");
     refuses(&["book", "read"], &[0, 0, 0], "refused 3 at byte 2");
     refuses(&["book", "read"], &[0; 20_000], "refused 2 at byte 0");
+    refuses(&["elaborate"], &[1], "refused 3");
+    assert_eq!(succeeds(&["elaborate"], &[0, 0]), [0, 0]);
 }
 
 #[test]
