@@ -5,10 +5,12 @@ mod edge;
 mod exact;
 mod growth;
 mod hurt;
+mod macros;
 mod place;
 mod plain;
 mod race;
 mod rng;
+mod scope;
 pub mod short;
 pub mod sweep;
 
@@ -24,6 +26,8 @@ pub enum Kind {
     Small,
     Medium,
     Large,
+    Scope,
+    Macros,
     Place,
     Levels,
     DeepUnknown,
@@ -41,10 +45,12 @@ pub enum Kind {
 }
 
 /// Each kind with its share of 1,000 cases.
-pub const KINDS: [(Kind, usize); 17] = [
-    (Kind::Small, 330),
-    (Kind::Medium, 170),
+pub const KINDS: [(Kind, usize); 19] = [
+    (Kind::Small, 170),
+    (Kind::Medium, 120),
     (Kind::Large, 30),
+    (Kind::Scope, 150),
+    (Kind::Macros, 60),
     (Kind::Place, 90),
     (Kind::Levels, 30),
     (Kind::DeepUnknown, 10),
@@ -85,6 +91,8 @@ fn make(kind: Kind, rng: &mut Rng) -> Vec<u8> {
         Kind::Small => plain::book(rng, Size::Small),
         Kind::Medium => plain::book(rng, Size::Medium),
         Kind::Large => plain::book(rng, Size::Large),
+        Kind::Scope => scope::random(rng),
+        Kind::Macros => macros::random(rng),
         Kind::Place => place::random(rng),
         Kind::Levels => edge::levels(rng),
         Kind::Definitions => edge::definitions(rng),

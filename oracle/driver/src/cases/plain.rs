@@ -100,7 +100,7 @@ fn taste(rng: &mut Rng, size: Size) -> Taste {
         leftover: *rng.pick(&[0, 0, 0, 0, 2, 10]),
         chain: *rng.pick(&[0, 4, 10, 25]),
         macros: *rng.pick(&[0, 0, 15, 40]),
-        text: *rng.pick(&[0, 0, 2, 6]),
+        text: *rng.pick(&[0, 1, 2, 6]),
     }
 }
 
