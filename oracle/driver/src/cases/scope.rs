@@ -105,7 +105,7 @@ impl Maker<'_> {
 
     fn structure(&mut self, depth: usize) -> Inner {
         let outer = self.scope.len();
-        let count = self.rng.weighted(&[0, 15, 30, 30, 15, 10]);
+        let count = self.rng.weighted(&[0, 35, 30, 20, 10, 5]);
         let fields = (0..count).map(|_| self.field(depth)).collect();
         self.scope.truncate(outer);
         structure(fields)
@@ -132,15 +132,15 @@ impl Maker<'_> {
             return self.flat_use().into();
         }
         let below = depth - 1;
-        match self.rng.below(11) {
+        match self.rng.below(14) {
             0..=2 => self.structure(below).into(),
             3 => vec(self.using(below)).into(),
             4 => option(self.using(below)).into(),
             5 => wrap(self.using(below)).into(),
             6 => Inner::Array(self.length(), Box::new(self.using(below))).into(),
             7 => self.choice(below).into(),
-            8 => Combinator::chained(leaf(Leaf::Tail), self.using(below)),
-            9 => Combinator::chained(Inner::Bytes(self.length()), self.using(below)),
+            8..=10 => Combinator::chained(leaf(Leaf::Tail), self.using(below)),
+            11 | 12 => Combinator::chained(Inner::Bytes(self.length()), self.using(below)),
             _ => {
                 let on = self.structure(0);
                 Combinator::chained(on, self.using(below))
