@@ -84,7 +84,7 @@ fn done(reading: Lifted, mut word: Vec<Definition>, texts: &Texts) -> Result<Ans
     if result != from_ast(&reading.definitions, texts)? {
         return Err(Stop::Internal("the Rust's result is another one".into()));
     }
-    if names != reading.names {
+    if names != reading.names || names.len() != reading.appended {
         return Err(Stop::Internal("the Rust's lifted names are others".into()));
     }
     let book = write(&result)?;
@@ -98,7 +98,7 @@ fn done(reading: Lifted, mut word: Vec<Definition>, texts: &Texts) -> Result<Ans
     Ok(Answer::Done(Done {
         book,
         definitions: result.definitions.len(),
-        lifted: names.len(),
+        lifted: reading.appended,
     }))
 }
 

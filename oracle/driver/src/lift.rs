@@ -20,6 +20,8 @@ use vest::elab::reach as rust;
 pub struct Lifted<'a> {
     pub definitions: Vec<Definition<'a>>,
     pub names: HashSet<String>,
+    /// How many definitions were appended.
+    pub appended: usize,
     /// Document 01's running measure after the last lift.
     pub bytes: usize,
 }
@@ -57,10 +59,12 @@ pub fn lift<'a>(mut definitions: Vec<Definition<'a>>, texts: &Texts) -> Result<L
         }
     }
     let names = walk.lifted.iter().filter_map(format_name).collect();
+    let appended = walk.lifted.len();
     definitions.extend(walk.lifted);
     Ok(Lifted {
         definitions,
         names,
+        appended,
         bytes: walk.bytes,
     })
 }

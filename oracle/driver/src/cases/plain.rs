@@ -172,10 +172,11 @@ impl<'r> Maker<'r> {
         }
         self.scope = params.iter().map(|(name, _)| name.clone()).collect();
         let depth = self.taste.depth;
-        let body = match self.rng.chance(75) {
-            true => self.chainable(Inner::Leaf(Leaf::Nothing, Vec::new()), depth, true),
-            false => self.combinator(depth),
+        let inner = match self.rng.chance(75) {
+            true => self.structure(depth),
+            false => self.inner(depth),
         };
+        let body = self.chainable(inner, depth);
         Definition::Format { name, params, body }
     }
 
@@ -197,15 +198,11 @@ impl<'r> Maker<'r> {
 
     fn combinator(&mut self, depth: usize) -> Combinator {
         let inner = self.inner(depth);
-        self.chainable(inner, depth, false)
+        self.chainable(inner, depth)
     }
 
-    /// Gives an inner a chain, sometimes. A body's root is made a struct here.
-    fn chainable(&mut self, inner: Inner, depth: usize, root: bool) -> Combinator {
-        let inner = match root {
-            true => self.structure(depth),
-            false => inner,
-        };
+    /// Gives an inner a chain, sometimes.
+    fn chainable(&mut self, inner: Inner, depth: usize) -> Combinator {
         let liked = matches!(inner, Inner::Bytes(_) | Inner::Leaf(Leaf::Tail, _));
         let percent = self.taste.chain * if liked { 3 } else { 1 };
         let chain = match depth > 0 && self.fuel > 0 && self.rng.chance(percent) {
