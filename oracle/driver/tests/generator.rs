@@ -1,0 +1,84 @@
+//! The generator: the same again, every code, and nothing that splits the two
+//! readings.
+
+use driver::answer::{answer, Answer};
+use driver::cases::{case, short, KINDS};
+use driver::expand::Mode;
+use std::collections::BTreeMap;
+
+fn code(bytes: &[u8]) -> u8 {
+    answer(bytes, Mode::Plain)
+        .expect("both readings agree")
+        .code()
+}
+
+#[test]
+fn one_seed_one_stream() {
+    for number in 0..500 {
+        assert_eq!(case(5, number).bytes, case(5, number).bytes);
+    }
+    let differ = (0..100).filter(|n| case(5, *n).bytes != case(6, *n).bytes);
+    assert!(differ.count() > 90);
+}
+
+#[test]
+fn each_code_has_one_case_in_a_hundred() {
+    let mut codes: BTreeMap<u8, usize> = BTreeMap::new();
+    for number in 0..20_000 {
+        *codes.entry(code(&case(1, number).bytes)).or_default() += 1;
+    }
+    for wanted in [0, 2, 3, 4, 5, 6, 7, 8, 9, 10] {
+        let count = codes.get(&wanted).copied().unwrap_or(0);
+        assert!(count >= 200, "code {wanted}: {count} of 20000");
+    }
+}
+
+#[test]
+fn shares_are_of_a_thousand() {
+    assert_eq!(KINDS.iter().map(|(_, share)| share).sum::<usize>(), 1000);
+}
+
+#[test]
+fn short_strings_are_no_books_but_one() {
+    let mut count = 0;
+    for bytes in short::strings() {
+        let expected = if bytes == [0, 0] { 0 } else { 3 };
+        assert_eq!(code(&bytes), expected, "{bytes:?}");
+        count += 1;
+    }
+    assert_eq!(count, 1 + 256 + 65_536);
+}
+
+/// Every seventh, to keep the run short; `oracle short` streams all of them.
+#[test]
+fn short_books_split_no_readings() {
+    for bytes in short::books().step_by(7) {
+        assert!([0, 7, 8].contains(&code(&bytes)), "{bytes:?}");
+    }
+}
+
+#[test]
+fn nested_mode_splits_no_readings() {
+    for number in 0..3000 {
+        let bytes = case(9, number).bytes;
+        let plain = answer(&bytes, Mode::Plain).expect("both readings agree");
+        let nested = answer(&bytes, Mode::Nested).expect("both readings agree");
+        let early = matches!(plain, Answer::Refused(2..=6));
+        assert!(!early || plain == nested);
+    }
+}
+
+#[test]
+fn a_result_comes_back_unchanged() {
+    for number in 0..2000 {
+        if let Ok(Answer::Done(done)) = answer(&case(13, number).bytes, Mode::Plain) {
+            match answer(&done.book, Mode::Plain) {
+                Ok(Answer::Done(again)) => {
+                    assert_eq!(again.book, done.book);
+                    assert_eq!(again.lifted, 0);
+                }
+                other => panic!("case {number}: {other:?}"),
+            }
+        }
+    }
+}
