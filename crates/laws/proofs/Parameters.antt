@@ -1,13 +1,11 @@
 -- "Parameters: free root names, each once, in byte order.": those of every definition that is lifted.
 use mathlib.Core.List.{_∷_, List, _++_, []}
 use Rattle.definition.specs.Tree.{Definition, Name, Combinator, Param, format, constant, byte-order, macro}
-use Rattle.definition.specs.Contents.{book}
 use Rattle.definition.specs.Collect.{free}
 use Rattle.definition.specs.Lift.{Walk, full, State, start}
 use Rattle.laws.specs.Lists.{paramNames}
 use Rattle.laws.specs.Laws.{LiftedAscend, ParametersAscend, Ascending}
 use Rattle.laws.proofs.Steps.{so, yielded}
-use Rattle.laws.proofs.Utf8 as Utf8
 use Rattle.laws.proofs.Order.{sorted-ascends}
 use Rattle.laws.proofs.Lifted.{Lifted}
 use Rattle.laws.proofs.States.{Carried, states-all}

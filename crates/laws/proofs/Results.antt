@@ -23,7 +23,6 @@ use Rattle.laws.proofs.Steps.{Gives, refusal, value, so, gave, Yields, 
 use Rattle.laws.proofs.BookInverse.{i-book}
 use Rattle.laws.proofs.BookRoundTrip.{r-book}
 use Rattle.laws.proofs.Small.{book-small}
-use Rattle.laws.proofs.Utf8 as Utf8
 use Rattle.laws.proofs.Measure.{within-limits}
 use Rattle.laws.proofs.WalkGood.{result-fine}
 use Rattle.laws.proofs.ExpandGood.{expand-good}

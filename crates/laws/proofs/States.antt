@@ -22,11 +22,11 @@ module _ (course : Course) (R : State → State → Type 0) (carried : Carried c
   mutual
     unfolding walk
 
-    pub states : (c : Combinator) (n : Name) (b : List Param) (s : State) → Gives (λ d t. R s t) (walk course c n b s)
+    states : (c : Combinator) (n : Name) (b : List Param) (s : State) → Gives (λ d t. R s t) (walk course c n b s)
     states (plain i) n b s = then (statesI i n b s) _ λ j t r. value r
     states (chained i c) n b s = then (kid-states c (λ n b s. walk course c n b s) (λ n b s. states c n b s) (course .lifts c (s .defns)) n b s) _ λ d u q. then (statesI i n b u) _ λ j t r. value (carried .goes-on q r)
 
-    pub statesI : (i : Inner) (n : Name) (b : List Param) (s : State) → Gives (λ j t. R s t) (walkI course i n b s)
+    statesI : (i : Inner) (n : Name) (b : List Param) (s : State) → Gives (λ j t. R s t) (walkI course i n b s)
     statesI (leaf k x) n b s = value (carried .stays s)
     statesI (struct f) n b s = then (statesF f n b s) _ λ g t r. value r
     statesI (choice x k f) n b s = then (statesC f k 0 n b s) _ λ g t r. value r
@@ -35,12 +35,12 @@ module _ (course : Course) (R : State → State → Type 0) (carried : Carried c
     statesI (invocation m a) n b s = value (carried .stays s)
     statesI (macro-invocation m a) n b s = value (carried .stays s)
 
-    pub statesF : (f : Fields) (n : Name) (b : List Param) (s : State) → Gives (λ g t. R s t) (walkF course f n b s)
+    statesF : (f : Fields) (n : Name) (b : List Param) (s : State) → Gives (λ g t. R s t) (walkF course f n b s)
     statesF no-field n b s = value (carried .stays s)
     statesF (field k l c f) n b s = then (kid-states c (λ n b s. walk course c n b s) (λ n b s. states c n b s) (course .lifts c (s .defns)) (child n (segment l)) b s) _ λ d u q. then (statesF f n (bind k l d b) u) _ λ g t r. value (carried .goes-on q r)
     statesF (const l x f) n b s = then (statesF f n b s) _ λ g t r. value r
 
-    pub statesC : (f : Cases) (k : CaseKind) (i : ℕ) (n : Name) (b : List Param) (s : State) → Gives (λ g t. R s t) (walkC course f k i n b s)
+    statesC : (f : Cases) (k : CaseKind) (i : ℕ) (n : Name) (b : List Param) (s : State) → Gives (λ g t. R s t) (walkC course f k i n b s)
     statesC no-case k i n b s = value (carried .stays s)
     statesC (case l c f) k i n b s = then (kid-states c (λ n b s. walk course c n b s) (λ n b s. states c n b s) (course .lifts c (s .defns)) (child n (caseSegment k l i)) b s) _ λ d u q. then (statesC f k (suc i) n b u) _ λ g t r. value (carried .goes-on q r)
 
