@@ -7,7 +7,7 @@ use lib.Dec.{eqb}
 use borrow.Author.Tests.{eqb-true, eq-eqb}
 use Rattle.definition.specs.Tree.{Name}
 use Rattle.definition.specs.Names.{eqName, elem}
-use Rattle.laws.proofs.Tests.{yes-no, not-both}
+use Rattle.laws.proofs.Tests.{by-test, not-both}
 
 both : (a b : Bool) → cond a b false ≡ true → (a ≡ true) × (b ≡ true)
 both true b e = (refl, e)
@@ -32,15 +32,14 @@ eqName-refl (x ∷ xs) = simp (eq-eqb x x refl, eqName-refl xs)
 pub elem-in : (n : Name) (l : List Name) → elem n l ≡ true → List·Memᴰ n l
 unfolding elem
 elem-in n [] e = not-both false e refl
-elem-in n (m ∷ l) e = ⊎-elim
+elem-in n (m ∷ l) e = by-test (eqName n m)
     (λ p. List·Memᴰ·head (eqName-true n m p))
-    (λ (p : eqName n m ≡ false). List·Memᴰ·tail (elem-in n l (rw p at e)))
-    (yes-no (eqName n m))
+    (λ p. List·Memᴰ·tail (elem-in n l (rw p at e)))
 
 pub in-elem : (n : Name) (l : List Name) → List·Memᴰ n l → elem n l ≡ true
 unfolding elem
 in-elem n [] h = absurd (List·Memᴰ·not-nil h)
 in-elem n (m ∷ l) h = ⊎-elim
     (λ p. rw (← p, eqName-refl n))
-    (λ p. ⊎-elim (λ (q : eqName n m ≡ true). rw q) (λ (q : eqName n m ≡ false). rw (q, in-elem n l p)) (yes-no (eqName n m)))
+    (λ p. by-test (eqName n m) (λ q. rw q) (λ q. rw (q, in-elem n l p)))
     (List·Memᴰ·cases-cons h)

@@ -1,6 +1,5 @@
 -- "Parameters: free root names, each once, in byte order."
 use mathlib.Core.Path.{_≡_, refl, sym, _∙_}
-use mathlib.Core.Logic.{⊎-elim}
 use mathlib.Core.List.{List, [], _∷_}
 use mathlib.Core.Bool.{Bool, true, false, cond}
 use native.Mathlib.Nat.{lt-trans}
@@ -11,7 +10,7 @@ use Rattle.definition.specs.Tree.{Name}
 use Rattle.definition.specs.Names.{eqName, elem, before, insert, sorted}
 use Rattle.laws.specs.Lists.{Distinct}
 use Rattle.laws.specs.Laws.{Less, ends, smaller, equal, Ascending, SortedAscends, SortedHasMembers}
-use Rattle.laws.proofs.Tests.{yes-no, not-both}
+use Rattle.laws.proofs.Tests.{by-test, not-both}
 use Rattle.laws.proofs.Members.{eqName-true, elem-in, in-elem}
 
 -- the test says the order
@@ -20,10 +19,9 @@ unfolding before
 before-less [] [] e = not-both false e refl
 before-less [] (y ∷ b) e = ends
 before-less (x ∷ a) [] e = not-both false e refl
-before-less (x ∷ a) (y ∷ b) e = ⊎-elim
-    (λ (p : eqb x y ≡ true). rw (eqb-true x y p) (equal (before-less a b (rw p at e))))
-    (λ (p : eqb x y ≡ false). smaller (ltb-true x y (rw p at e)))
-    (yes-no (eqb x y))
+before-less (x ∷ a) (y ∷ b) e = by-test (eqb x y)
+    (λ p. rw (eqb-true x y p) (equal (before-less a b (rw p at e))))
+    (λ p. smaller (ltb-true x y (rw p at e)))
 
 -- of two names that differ one comes before the other
 not-before : (a b : Name) → eqName a b ≡ false → before a b ≡ false → Less b a
@@ -31,33 +29,28 @@ unfolding eqName before
 not-before [] [] e f = not-both true refl e
 not-before [] (y ∷ b) e f = not-both true refl f
 not-before (x ∷ a) [] e f = ends
-not-before (x ∷ a) (y ∷ b) e f = ⊎-elim
-    (λ (p : eqb x y ≡ true). rw (eqb-true x y p) (equal (not-before a b (rw p at e) (rw p at f))))
-    (λ (p : eqb x y ≡ false). smaller (omega (arith, eqb-false x y p, ltb-false x y (rw p at f))))
-    (yes-no (eqb x y))
+not-before (x ∷ a) (y ∷ b) e f = by-test (eqb x y)
+    (λ p. rw (eqb-true x y p) (equal (not-before a b (rw p at e) (rw p at f))))
+    (λ p. smaller (omega (arith, eqb-false x y p, ltb-false x y (rw p at f))))
 
 -- a name put into a list: what ascends behind m ascends behind it still
 insert-behind : (m n : Name) (l : List Name) → Ascending (m ∷ l) → Less m n → Ascending (m ∷ insert n l)
 unfolding insert
 insert-behind m n [] h p = (p, tt)
-insert-behind m n (x ∷ l) h p = ⊎-elim
-    (λ (q : eqName n x ≡ true). rw q h)
-    (λ (q : eqName n x ≡ false). ⊎-elim
-    (λ (r : before n x ≡ true). rw (q, r) (p, (before-less n x r, h .1)))
-    (λ (r : before n x ≡ false). rw (q, r) (h .0, insert-behind x n l (h .1) (not-before n x q r)))
-    (yes-no (before n x)))
-    (yes-no (eqName n x))
+insert-behind m n (x ∷ l) h p = by-test (eqName n x)
+    (λ q. rw q h)
+    (λ q. by-test (before n x)
+    (λ r. rw (q, r) (p, (before-less n x r, h .1)))
+    (λ r. rw (q, r) (h .0, insert-behind x n l (h .1) (not-before n x q r))))
 
 insert-ascends : (n : Name) (l : List Name) → Ascending l → Ascending (insert n l)
 unfolding insert
 insert-ascends n [] h = tt
-insert-ascends n (x ∷ l) h = ⊎-elim
-    (λ (q : eqName n x ≡ true). rw q h)
-    (λ (q : eqName n x ≡ false). ⊎-elim
-    (λ (r : before n x ≡ true). rw (q, r) (before-less n x r, h))
-    (λ (r : before n x ≡ false). rw (q, r) (insert-behind x n l h (not-before n x q r)))
-    (yes-no (before n x)))
-    (yes-no (eqName n x))
+insert-ascends n (x ∷ l) h = by-test (eqName n x)
+    (λ q. rw q h)
+    (λ q. by-test (before n x)
+    (λ r. rw (q, r) (before-less n x r, h))
+    (λ r. rw (q, r) (insert-behind x n l h (not-before n x q r))))
 
 pub sorted-ascends : SortedAscends
 unfolding sorted
@@ -78,13 +71,11 @@ elem-swap p m n l = by-tests (eqName p m) (eqName p n) (elem p l)
 elem-insert : (p n : Name) (l : List Name) → elem p (insert n l) ≡ elem p (n ∷ l)
 unfolding insert elem
 elem-insert p n [] = refl
-elem-insert p n (m ∷ l) = ⊎-elim
-    (λ (q : eqName n m ≡ true). let e = eqName-true n m q in rw (q, e) (twice (eqName p m) (elem p l)))
-    (λ (q : eqName n m ≡ false). ⊎-elim
-    (λ (r : before n m ≡ true). rw (q, r))
-    (λ (r : before n m ≡ false). rw (q, r, elem-insert p n l) (elem-swap p m n l))
-    (yes-no (before n m)))
-    (yes-no (eqName n m))
+elem-insert p n (m ∷ l) = by-test (eqName n m)
+    (λ q. let e = eqName-true n m q in rw (q, e) (twice (eqName p m) (elem p l)))
+    (λ q. by-test (before n m)
+    (λ r. rw (q, r))
+    (λ r. rw (q, r, elem-insert p n l) (elem-swap p m n l)))
   where
     twice : (a c : Bool) → cond a true c ≡ cond a true (cond a true c)
     twice true c = refl
@@ -112,7 +103,7 @@ irreflexive (x ∷ a) (smaller p) = omega arith
 irreflexive (x ∷ a) (equal p) = irreflexive a p
 
 less-apart : (a b : Name) → Less a b → eqName a b ≡ false
-less-apart a b p = ⊎-elim (λ (e : eqName a b ≡ true). let f = eqName-true a b e in absurd (irreflexive b (rw f at p))) (λ e. e) (yes-no (eqName a b))
+less-apart a b p = by-test (eqName a b) (λ e. let f = eqName-true a b e in absurd (irreflexive b (rw f at p))) (λ e. e)
 
 behind : (n : Name) (l : List Name) → Ascending (n ∷ l) → elem n l ≡ false
 unfolding elem

@@ -14,7 +14,7 @@ use Rattle.definition.specs.Tree.{Name, Shell, wrap, vec, option, array, CaseKi
 use Rattle.definition.specs.Read.{noDot, dotted, undotted}
 use Rattle.definition.specs.Names.{elem, letter, letters, segment, digits, decimal, child, caseSegment, shellSegment, numbered, firstFree, fresh}
 use Rattle.laws.specs.Book.{Bytes}
-use Rattle.laws.proofs.Tests.{yes-no, not-both, both-true, either}
+use Rattle.laws.proofs.Tests.{by-test, not-both, both-true, either}
 
 -- bytes of one-byte characters, '.' not among them
 abbrev pub Ascii : List ℕ → Type 0
@@ -48,10 +48,9 @@ chars-append (r ∷ rs) (b ∷ a) x p q = let w = both-true (inside r b) (charac
 dots-append : (a x : List ℕ) → noDot a ≡ true → noDot x ≡ true → noDot (a ++ x) ≡ true
 unfolding noDot
 dots-append [] x p q = q
-dots-append (b ∷ a) x p q = ⊎-elim
-    (λ (w : eqb b 46 ≡ true). not-both false (rw w at p) refl)
-    (λ (w : eqb b 46 ≡ false). rw w (dots-append a x (rw w at p) q))
-    (yes-no (eqb b 46))
+dots-append (b ∷ a) x p q = by-test (eqb b 46)
+    (λ w. not-both false (rw w at p) refl)
+    (λ w. rw w (dots-append a x (rw w at p) q))
 
 ascii-small : (n x : List ℕ) → Bytes n → Ascii x → Bytes (n ++ x)
 ascii-small [] [] b h = tt
@@ -71,14 +70,14 @@ joined n x p h =
 
 ascii-letter : (b : ℕ) → Ascii (letter b)
 unfolding letter
-ascii-letter b = ⊎-elim
-    (λ (p : (leb 65 b && leb b 90) ≡ true).
+ascii-letter b = by-test (leb 65 b && leb b 90)
+    (λ p.
     let w = both-true (leb 65 b) (leb b 90) p in
     let x = leb-true 65 b (w .0) in
     let y = leb-true b 90 (w .1) in
     rw p (one (b + 32) (omega arith) (λ e. omega arith)))
-    (λ (p : (leb 65 b && leb b 90) ≡ false). ⊎-elim
-    (λ (q : (leb 97 b && leb b 122 || leb 48 b && leb b 57) ≡ true). rw (p, q) (⊎-elim
+    (λ p. by-test (leb 97 b && leb b 122 || leb 48 b && leb b 57)
+    (λ q. rw (p, q) (⊎-elim
     (λ v. let w = both-true (leb 97 b) (leb b 122) v in
     let x = leb-true 97 b (w .0) in
     let y = leb-true b 122 (w .1) in
@@ -88,12 +87,9 @@ ascii-letter b = ⊎-elim
     let y = leb-true b 57 (w .1) in
     one b (omega arith) (λ e. omega arith))
     (either (leb 97 b && leb b 122) (leb 48 b && leb b 57) q)))
-    (λ (q : (leb 97 b && leb b 122 || leb 48 b && leb b 57) ≡ false). ⊎-elim
-    (λ (r : (leb 128 b && leb b 191) ≡ true). rw (p, q, r) tt)
-    (λ (r : (leb 128 b && leb b 191) ≡ false). rw (p, q, r) (refl, refl, tt))
-    (yes-no (leb 128 b && leb b 191)))
-    (yes-no (leb 97 b && leb b 122 || leb 48 b && leb b 57)))
-    (yes-no (leb 65 b && leb b 90))
+    (λ q. by-test (leb 128 b && leb b 191)
+    (λ r. rw (p, q, r) tt)
+    (λ r. rw (p, q, r) (refl, refl, tt))))
 
 ascii-letters : (s : List ℕ) → Ascii (letters s)
 unfolding letters
@@ -108,12 +104,11 @@ ascii-segment (b ∷ s) = ascii-letters (b ∷ s)
 ascii-digits : (k n : ℕ) (acc : List ℕ) → n ≤ k → Ascii acc → Ascii (digits k n acc)
 unfolding digits
 ascii-digits zero n acc h a = (lt-ltb (48 + n) 128 (omega arith), ne-eqb (48 + n) 46 (λ e. omega arith), a)
-ascii-digits (suc k) n acc h a = ⊎-elim
-    (λ (p : ltb n 10 ≡ true). let x = ltb-true n 10 p in rw p (lt-ltb (48 + n) 128 (omega arith), ne-eqb (48 + n) 46 (λ e. omega arith), a))
-    (λ (p : ltb n 10 ≡ false).
+ascii-digits (suc k) n acc h a = by-test (ltb n 10)
+    (λ p. let x = ltb-true n 10 p in rw p (lt-ltb (48 + n) 128 (omega arith), ne-eqb (48 + n) 46 (λ e. omega arith), a))
+    (λ p.
     let g : 10 ≤ n = ltb-false n 10 p in
     rw p (ascii-digits k (n / 10) ((48 + n % 10) ∷ acc) (omega arith) (lt-ltb (48 + n % 10) 128 (omega arith), ne-eqb (48 + n % 10) 46 (λ e. omega arith), a)))
-    (yes-no (ltb n 10))
 
 ascii-decimal : (n : ℕ) → Ascii (decimal n)
 unfolding decimal
@@ -151,14 +146,12 @@ numbered-plain base i p = joined base (95 ∷ decimal i) p (refl, refl, ascii-de
 first-plain : (base : Name) → Base base → (k i : ℕ) (taken : List Name) → Base (firstFree (numbered base) k i taken)
 unfolding firstFree
 first-plain base p zero i taken = numbered-plain base i p
-first-plain base p (suc k) i taken = ⊎-elim
-    (λ (q : elem (numbered base i) taken ≡ true). rw q (first-plain base p k (suc i) taken))
-    (λ (q : elem (numbered base i) taken ≡ false). rw q (numbered-plain base i p))
-    (yes-no (elem (numbered base i) taken))
+first-plain base p (suc k) i taken = by-test (elem (numbered base i) taken)
+    (λ q. rw q (first-plain base p k (suc i) taken))
+    (λ q. rw q (numbered-plain base i p))
 
 pub fresh-plain : (base : Name) (taken : List Name) → Base base → Base (fresh base taken)
 unfolding fresh
-fresh-plain base taken p = ⊎-elim
-    (λ (q : elem base taken ≡ true). rw q (first-plain base p (length taken) 0 taken))
-    (λ (q : elem base taken ≡ false). rw q p)
-    (yes-no (elem base taken))
+fresh-plain base taken p = by-test (elem base taken)
+    (λ q. rw q (first-plain base p (length taken) 0 taken))
+    (λ q. rw q p)

@@ -1,6 +1,5 @@
 -- Segments by bytes are segments by characters.
 use mathlib.Core.Path.{_≡_, refl}
-use mathlib.Core.Logic.{⊎-elim}
 use mathlib.Core.List.{[], _∷_}
 use mathlib.Core.Bool.{Bool, true, false, cond, _&&_, _||_}
 use Prim.Native.Nat.{ℕ, _+_, _/_, _%_, _≤_, _<_}
@@ -9,7 +8,7 @@ use lib.Dec.{leb, ltb}
 use borrow.Author.Tests.{ltb-true, ltb-false, le-leb, lt-leb}
 use Rattle.definition.specs.Names.{letter, letters}
 use Rattle.laws.specs.Laws.{sign, SegmentByCharacters}
-use Rattle.laws.proofs.Tests.{yes-no}
+use Rattle.laws.proofs.Tests.{by-test}
 use Rattle.laws.proofs.Utf8.{one, two, three, four}
 
 -- a byte that is a character, the first byte of a longer one, and the others
@@ -35,13 +34,10 @@ sign-other c h = rw (le-leb 65 c (omega arith), lt-leb c 90 (omega arith), le-le
 
 pub segment-by-characters : SegmentByCharacters
 unfolding letters
-segment-by-characters c h s = ⊎-elim
-    (λ (p : ltb c 128 ≡ true). let k = ltb-true c 128 p in rw (one c k, letter-one c k))
-    (λ (p : ltb c 128 ≡ false). let k = ltb-false c 128 p in rw (sign-other c k) (⊎-elim
-    (λ (q : ltb c 2048 ≡ true). rw (two c k (ltb-true c 2048 q), letter-first (192 + c / 64) (omega arith), letter-other (128 + c % 64) (omega arith) (omega arith)))
-    (λ (q : ltb c 2048 ≡ false). let l = ltb-false c 2048 q in ⊎-elim
-    (λ (r : ltb c 65536 ≡ true). rw (three c l (ltb-true c 65536 r), letter-first (224 + c / 4096) (omega arith), letter-other (128 + c / 64 % 64) (omega arith) (omega arith), letter-other (128 + c % 64) (omega arith) (omega arith)))
-    (λ (r : ltb c 65536 ≡ false). rw (four c (ltb-false c 65536 r), letter-first (240 + c / 262144) (omega arith), letter-other (128 + c / 4096 % 64) (omega arith) (omega arith), letter-other (128 + c / 64 % 64) (omega arith) (omega arith), letter-other (128 + c % 64) (omega arith) (omega arith)))
-    (yes-no (ltb c 65536)))
-    (yes-no (ltb c 2048))))
-    (yes-no (ltb c 128))
+segment-by-characters c h s = by-test (ltb c 128)
+    (λ p. let k = ltb-true c 128 p in rw (one c k, letter-one c k))
+    (λ p. let k = ltb-false c 128 p in rw (sign-other c k) (by-test (ltb c 2048)
+    (λ q. rw (two c k (ltb-true c 2048 q), letter-first (192 + c / 64) (omega arith), letter-other (128 + c % 64) (omega arith) (omega arith)))
+    (λ q. let l = ltb-false c 2048 q in by-test (ltb c 65536)
+    (λ r. rw (three c l (ltb-true c 65536 r), letter-first (224 + c / 4096) (omega arith), letter-other (128 + c / 64 % 64) (omega arith) (omega arith), letter-other (128 + c % 64) (omega arith) (omega arith)))
+    (λ r. rw (four c (ltb-false c 65536 r), letter-first (240 + c / 262144) (omega arith), letter-other (128 + c / 4096 % 64) (omega arith) (omega arith), letter-other (128 + c / 64 % 64) (omega arith) (omega arith), letter-other (128 + c % 64) (omega arith) (omega arith))))))

@@ -1,6 +1,6 @@
 -- Code 10 at a lift: the numbers that it tests are those of the walk stopped there. The walk and the stopped one go together up to that lift, and then the stopped one changes nothing more.
 use mathlib.Core.Path.{_≡_, refl, sym, _∙_}
-use mathlib.Core.Logic.{_⊎_, inl, inr, ⊎-elim}
+use mathlib.Core.Logic.{_⊎_, inl, inr}
 use mathlib.Core.List.{List, [], _∷_, _++_}
 use mathlib.Core.Bool.{Bool, true, false, not, _&&_}
 use Prim.Native.Nat.{ℕ, suc, _≤_, _<_}
@@ -16,7 +16,7 @@ use Rattle.definition.specs.Names.{sorted, fresh, child, segment, caseSegment, 
 use Rattle.definition.specs.Collect.{anonymous, free, leftover}
 use Rattle.definition.specs.Lift.{Course, State, Walk, binder, bound, typed, take, grow, measured, append, lift, childBy, bind, walk, walkI, walkF, walkC, walkAll, start, full}
 use Rattle.laws.specs.Laws.{stopped, limited, SumAtEachLift, MeasureIsSize, Left, Within, Over, Code10IsFirstOver}
-use Rattle.laws.proofs.Tests.{not-both, yes-no, both-true}
+use Rattle.laws.proofs.Tests.{by-test, not-both, both-true}
 use Rattle.laws.proofs.Steps.{no-ok, gave, value}
 use Rattle.laws.proofs.Lifted.{typed-says}
 use Rattle.laws.proofs.Measure.{measures}
@@ -139,10 +139,9 @@ module _ (within : ℕ → ℕ → Bool) (k : ℕ) where
 
     -- the first step made no more than k definitions, or more
     passed-by : {Begins : Type 0} {n : ℕ} {a : A} {t : State} → Went Begins n stop a t → Begins → n ≤ k → (Inside t → t .defns ≤ k → Passed (g (a, t))) → Passed (stop >>= g)
-    passed-by {t = t} w v p later = ⊎-elim
-        (λ (h : leb k (t .defns) ≡ true). on-passed (w .passed v p (leb-true k (t .defns) h)))
-        (λ (h : leb k (t .defns) ≡ false). let l = leb-false k (t .defns) h in rw (w .same (omega arith)) (later (w .inside v) (omega arith)))
-        (yes-no (leb k (t .defns)))
+    passed-by {t = t} w v p later = by-test (leb k (t .defns))
+        (λ h. on-passed (w .passed v p (leb-true k (t .defns) h)))
+        (λ h. let l = leb-false k (t .defns) h in rw (w .same (omega arith)) (later (w .inside v) (omega arith)))
 
   both : {A B Begins : Type 0} {n : ℕ} {m stop : Res State A} → Follows Begins n m stop → (f g : A × State → Res State B) → ((a : A) (t : State) → Follows (Inside t) (t .defns) (f (a, t)) (g (a, t)))
       → ((a : A) (t : State) → t .defns ≡ k → Ended t (g (a, t))) → Follows Begins n (m >>= f) (stop >>= g)
@@ -255,12 +254,12 @@ module _ (within : ℕ → ℕ → Bool) (k : ℕ) where
 
     kid-follows : (n : Name) (b : List Param) (s : State) → Follows (Inside s) (s .defns) (childBy whole (anonymous c) c inside n b s) (childBy (stopped k) (anonymous c && ltb (s .defns) k) c stop n b s)
     unfolding childBy
-    kid-follows n b s = by-test (anonymous c) (ltb (s .defns) k) refl
+    kid-follows n b s = by-tests (anonymous c) (ltb (s .defns) k) refl
       where
-        by-test : (x y : Bool) → ltb (s .defns) k ≡ y → Follows (Inside s) (s .defns) (childBy whole x c inside n b s) (childBy (stopped k) (x && y) c stop n b s)
-        by-test false y e = ih n b s
-        by-test true true e = earlier (lift-both n b s) (λ v. tt) (omega arith) (λ h. ltb-true (s .defns) k e)
-        by-test true false e = lift-past n b s (ltb-false (s .defns) k e)
+        by-tests : (x y : Bool) → ltb (s .defns) k ≡ y → Follows (Inside s) (s .defns) (childBy whole x c inside n b s) (childBy (stopped k) (x && y) c stop n b s)
+        by-tests false y e = ih n b s
+        by-tests true true e = earlier (lift-both n b s) (λ v. tt) (omega arith) (λ h. ltb-true (s .defns) k e)
+        by-tests true false e = lift-past n b s (ltb-false (s .defns) k e)
 
   kid : (c : Combinator) → ((n : Name) (b : List Param) (s : State) → Follows (Inside s) (s .defns) (walk (limited within) c n b s) (walk (stopped k) c n b s)) → (n : Name) (b : List Param) (s : State)
       → Follows (Inside s) (s .defns) (childBy (limited within) (anonymous c) c (λ n b s. walk (limited within) c n b s) n b s) (childBy (stopped k) (anonymous c && ltb (s .defns) k) c (λ n b s. walk (stopped k) c n b s) n b s)

@@ -10,6 +10,11 @@ pub yes-no : (b : Bool) → (b ≡ true) ⊎ (b ≡ false)
 yes-no true = inl refl
 yes-no false = inr refl
 
+-- by a test, with what it says
+pub by-test : {X : Type 0} (b : Bool) → (b ≡ true → X) → (b ≡ false → X) → X
+by-test true yes-it no-it = yes-it refl
+by-test false yes-it no-it = no-it refl
+
 pub not-both : {X : Type 0} (b : Bool) → b ≡ true → b ≡ false → X
 not-both b p q = let e : true ≡ false = cc in let z : _≡_ {A = ℕ} 0 1 = cc in absurd (omega arith)
 

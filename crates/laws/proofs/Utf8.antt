@@ -2,7 +2,7 @@
 use mathlib.Core.Path.{_≡_, refl, ap, _∙_, sym}
 use mathlib.Core.Logic.{_⊎_, inl, inr, ⊎-elim}
 use mathlib.Core.List.{List, [], _∷_, _++_}
-use mathlib.Core.Bool.{true, false, _&&_, cond}
+use mathlib.Core.Bool.{true, _&&_, cond}
 use Prim.Native.Nat.{ℕ, zero, suc, _+_, _*_, _-_, _/_, _%_, _≤_, _<_}
 use native.Mathlib.Nat.{not-suc-le-zero}
 use native.Mathlib.Omega.{arith}
@@ -11,7 +11,7 @@ use lib.ListN.{length, getD, drop}
 use borrow.Author.Tests.{ltb-true, ltb-false, leb-true, eqb-true, eqb-false, lt-ltb, le-ltb, le-leb, ne-eqb}
 use Rattle.definition.specs.Utf8.{scalar, encode, Utf8, none, more, Range, behind, characters, wellFormed}
 use Rattle.laws.specs.Laws.{TableSaysUtf8, OneEncoding}
-use Rattle.laws.proofs.Tests.{yes-no, both-true}
+use Rattle.laws.proofs.Tests.{by-test, both-true}
 
 -- a scalar value is no surrogate and at most 0x10FFFF
 module _ (c : ℕ) where
@@ -25,13 +25,12 @@ module _ (c : ℕ) where
 
   of-scalar : scalar c ≡ true → (c < 55296) ⊎ ((57344 ≤ c) × (c ≤ 1114111))
   unfolding scalar
-  of-scalar e = ⊎-elim
-      (λ (p : ltb c 55296 ≡ true). inl (ltb-true c 55296 p))
-      (λ (p : ltb c 55296 ≡ false).
+  of-scalar e = by-test (ltb c 55296)
+      (λ p. inl (ltb-true c 55296 p))
+      (λ p.
       let q : leb 57344 c && leb c 1114111 ≡ true = rw p at e in
       let w = both-true (leb 57344 c) (leb c 1114111) q in
       inr (leb-true 57344 c (w .0), leb-true c 1114111 (w .1)))
-      (yes-no (ltb c 55296))
 
   -- the four lengths
   pub one : c < 128 → encode c ≡ c ∷ []
@@ -115,56 +114,49 @@ module _ (c : ℕ) (s : List ℕ) where
 
   pass-3 : 2048 ≤ c → c < 65536 → (c < 55296) ⊎ (57344 ≤ c) → characters [] (encode c ++ s) ≡ characters [] s
   unfolding behind
-  pass-3 h g w = rw (three c h g, first (224 + c / 4096) (y ∷ z ∷ s)) (⊎-elim
-      (λ (p : ltb c 4096 ≡ true).
+  pass-3 h g w = rw (three c h g, first (224 + c / 4096) (y ∷ z ∷ s)) (by-test (ltb c 4096)
+      (λ p.
       let k = ltb-true c 4096 p in
       let e : 224 + c / 4096 ≡ 224 = omega arith in
       rw e (pass 160 191 y (tail ∷ []) (z ∷ s) (omega arith) (omega arith) ∙ last-1))
-      (λ (p : ltb c 4096 ≡ false).
+      (λ p.
       let k = ltb-false c 4096 p in
-      ⊎-elim
-      (λ (q : eqb (224 + c / 4096) 237 ≡ true).
+      by-test (eqb (224 + c / 4096) 237)
+      (λ q.
       let e = eqb-true (224 + c / 4096) 237 q in
       rw e (pass 128 159 y (tail ∷ []) (z ∷ s) (omega arith) (⊎-elim (λ (v : c < 55296). omega arith) (λ (v : 57344 ≤ c). absurd (omega arith)) w) ∙ last-1))
-      (λ (q : eqb (224 + c / 4096) 237 ≡ false). rw (row-3 (224 + c / 4096) (omega arith) (omega arith) (eqb-false (224 + c / 4096) 237 q)) last-2)
-      (yes-no (eqb (224 + c / 4096) 237)))
-      (yes-no (ltb c 4096)))
+      (λ q. rw (row-3 (224 + c / 4096) (omega arith) (omega arith) (eqb-false (224 + c / 4096) 237 q)) last-2)))
 
   pass-4 : 65536 ≤ c → c ≤ 1114111 → characters [] (encode c ++ s) ≡ characters [] s
   unfolding behind
-  pass-4 h g = rw (four c h, first (240 + c / 262144) (x ∷ y ∷ z ∷ s)) (⊎-elim
-      (λ (p : ltb c 262144 ≡ true).
+  pass-4 h g = rw (four c h, first (240 + c / 262144) (x ∷ y ∷ z ∷ s)) (by-test (ltb c 262144)
+      (λ p.
       let k = ltb-true c 262144 p in
       let e : 240 + c / 262144 ≡ 240 = omega arith in
       rw e (pass 144 191 x (tail ∷ tail ∷ []) (y ∷ z ∷ s) (omega arith) (omega arith) ∙ last-2))
-      (λ (p : ltb c 262144 ≡ false).
+      (λ p.
       let k = ltb-false c 262144 p in
-      ⊎-elim
-      (λ (q : ltb c 1048576 ≡ true).
+      by-test (ltb c 1048576)
+      (λ q.
       let k₂ = ltb-true c 1048576 q in
       rw (row-4 (240 + c / 262144) (omega arith) (omega arith)) (pass 128 191 x (tail ∷ tail ∷ []) (y ∷ z ∷ s) (omega arith) (omega arith) ∙ last-2))
-      (λ (q : ltb c 1048576 ≡ false).
+      (λ q.
       let k₂ = ltb-false c 1048576 q in
       let e : 240 + c / 262144 ≡ 244 = omega arith in
-      rw e (pass 128 143 x (tail ∷ tail ∷ []) (y ∷ z ∷ s) (omega arith) (omega arith) ∙ last-2))
-      (yes-no (ltb c 1048576)))
-      (yes-no (ltb c 262144)))
+      rw e (pass 128 143 x (tail ∷ tail ∷ []) (y ∷ z ∷ s) (omega arith) (omega arith) ∙ last-2))))
 
   passes : scalar c ≡ true → characters [] (encode c ++ s) ≡ characters [] s
   passes h =
       let w = of-scalar c h in
       let most : c ≤ 1114111 = ⊎-elim (λ (v : c < 55296). omega arith) (λ (v : (57344 ≤ c) × (c ≤ 1114111)). v .1) w in
       let apart : (c < 55296) ⊎ (57344 ≤ c) = ⊎-elim (λ (v : c < 55296). inl v) (λ (v : (57344 ≤ c) × (c ≤ 1114111)). inr (v .0)) w in
-      ⊎-elim
-      (λ (p : ltb c 128 ≡ true). let k = ltb-true c 128 p in rw (one c k, first c s, row-1 c k))
-      (λ (p : ltb c 128 ≡ false). ⊎-elim
-      (λ (q : ltb c 2048 ≡ true). pass-2 (ltb-false c 128 p) (ltb-true c 2048 q))
-      (λ (q : ltb c 2048 ≡ false). ⊎-elim
-      (λ (r : ltb c 65536 ≡ true). pass-3 (ltb-false c 2048 q) (ltb-true c 65536 r) apart)
-      (λ (r : ltb c 65536 ≡ false). pass-4 (ltb-false c 65536 r) most)
-      (yes-no (ltb c 65536)))
-      (yes-no (ltb c 2048)))
-      (yes-no (ltb c 128))
+      by-test (ltb c 128)
+      (λ p. let k = ltb-true c 128 p in rw (one c k, first c s, row-1 c k))
+      (λ p. by-test (ltb c 2048)
+      (λ q. pass-2 (ltb-false c 128 p) (ltb-true c 2048 q))
+      (λ q. by-test (ltb c 65536)
+      (λ r. pass-3 (ltb-false c 2048 q) (ltb-true c 65536 r) apart)
+      (λ r. pass-4 (ltb-false c 65536 r) most)))
 
 utf8-passes : {s : List ℕ} → Utf8 s → wellFormed s ≡ true
 unfolding wellFormed characters
@@ -195,25 +187,23 @@ module _ (s : List ℕ) (u : Utf8 s) (b x : ℕ) (x-low : 128 ≤ x) (x-high : x
     make-3 : 224 ≤ b → b < 240 → (b ≡ 224 → 160 ≤ x) → (b ≡ 237 → x ≤ 159) → Utf8 (b ∷ x ∷ y ∷ s)
     make-3 h g few sur =
         let c = (b - 224) * 4096 + (x - 128) * 64 + (y - 128) in
-        let k : 2048 ≤ c = ⊎-elim (λ (t : eqb b 224 ≡ true). let v = eqb-true b 224 t in let w = few v in omega arith) (λ (t : eqb b 224 ≡ false). let v = eqb-false b 224 t in omega arith) (yes-no (eqb b 224)) in
+        let k : 2048 ≤ c = by-test (eqb b 224) (λ t. let v = eqb-true b 224 t in let w = few v in omega arith) (λ t. let v = eqb-false b 224 t in omega arith) in
         let p : 224 + c / 4096 ≡ b = omega arith in
         let q : 128 + c / 64 % 64 ≡ x = omega arith in
         let r : 128 + c % 64 ≡ y = omega arith in
         let e : encode c ≡ b ∷ x ∷ y ∷ [] = rw (three c k (omega arith), p, q, r) in
-        let d : scalar c ≡ true = ⊎-elim
-        (λ (t : ltb b 237 ≡ true). let v = ltb-true b 237 t in low-scalar c (omega arith))
-        (λ (t : ltb b 237 ≡ false). let v = ltb-false b 237 t in ⊎-elim
-        (λ (t₂ : eqb b 237 ≡ true). let v₂ = eqb-true b 237 t₂ in let w = sur v₂ in low-scalar c (omega arith))
-        (λ (t₂ : eqb b 237 ≡ false). let v₂ = eqb-false b 237 t₂ in high-scalar c (omega arith) (omega arith))
-        (yes-no (eqb b 237)))
-        (yes-no (ltb b 237)) in
+        let d : scalar c ≡ true = by-test (ltb b 237)
+        (λ t. let v = ltb-true b 237 t in low-scalar c (omega arith))
+        (λ t. let v = ltb-false b 237 t in by-test (eqb b 237)
+        (λ t₂. let v₂ = eqb-true b 237 t₂ in let w = sur v₂ in low-scalar c (omega arith))
+        (λ t₂. let v₂ = eqb-false b 237 t₂ in high-scalar c (omega arith) (omega arith))) in
         rw e at (more c d u)
 
     make-4 : (z : ℕ) → 128 ≤ z → z ≤ 191 → 240 ≤ b → b ≤ 244 → (b ≡ 240 → 144 ≤ x) → (b ≡ 244 → x ≤ 143) → Utf8 (b ∷ x ∷ y ∷ z ∷ s)
     make-4 z z-low z-high h g few most =
         let c = (b - 240) * 262144 + (x - 128) * 4096 + (y - 128) * 64 + (z - 128) in
-        let k : 65536 ≤ c = ⊎-elim (λ (t : eqb b 240 ≡ true). let v = eqb-true b 240 t in let w = few v in omega arith) (λ (t : eqb b 240 ≡ false). let v = eqb-false b 240 t in omega arith) (yes-no (eqb b 240)) in
-        let k₂ : c ≤ 1114111 = ⊎-elim (λ (t : eqb b 244 ≡ true). let v = eqb-true b 244 t in let w = most v in omega arith) (λ (t : eqb b 244 ≡ false). let v = eqb-false b 244 t in omega arith) (yes-no (eqb b 244)) in
+        let k : 65536 ≤ c = by-test (eqb b 240) (λ t. let v = eqb-true b 240 t in let w = few v in omega arith) (λ t. let v = eqb-false b 240 t in omega arith) in
+        let k₂ : c ≤ 1114111 = by-test (eqb b 244) (λ t. let v = eqb-true b 244 t in let w = most v in omega arith) (λ t. let v = eqb-false b 244 t in omega arith) in
         let o : 240 + c / 262144 ≡ b = omega arith in
         let p : 128 + c / 4096 % 64 ≡ x = omega arith in
         let q : 128 + c / 64 % 64 ≡ y = omega arith in
@@ -245,34 +235,25 @@ module _ (k : ℕ) (ih : (s : List ℕ) → length s ≤ k → characters [] s �
 
   begun : (b : ℕ) (s : List ℕ) → length s ≤ k → characters (behind b) s ≡ true → Utf8 (b ∷ s)
   unfolding behind
-  begun b s n e = ⊎-elim
-      (λ (p : ltb b 128 ≡ true). let v = ltb-true b 128 p in rw (one b v) at (more b (low-scalar b (omega arith)) (ih s n (rw p at e))))
-      (λ (p : ltb b 128 ≡ false). ⊎-elim
-      (λ (q : ltb b 194 ≡ true). never b s (rw (p, q) at e))
-      (λ (q : ltb b 194 ≡ false). let l = ltb-false b 194 q in ⊎-elim
-      (λ (r : ltb b 224 ≡ true). begun-1 b s n l (ltb-true b 224 r) (rw (p, q, r) at e))
-      (λ (r : ltb b 224 ≡ false). let l₂ = ltb-false b 224 r in ⊎-elim
-      (λ (t : eqb b 224 ≡ true). let v = eqb-true b 224 t in begun-2 160 191 b s n (omega arith) (omega arith) l₂ (omega arith) (λ w. omega arith) (λ w. absurd (omega (arith, v, w))) (rw (p, q, r, t) at e))
-      (λ (t : eqb b 224 ≡ false). let v = eqb-false b 224 t in ⊎-elim
-      (λ (t₂ : eqb b 237 ≡ true). let v₂ = eqb-true b 237 t₂ in begun-2 128 159 b s n (omega arith) (omega arith) l₂ (omega arith) (λ w. absurd (v w)) (λ w. omega arith) (rw (p, q, r, t, t₂) at e))
-      (λ (t₂ : eqb b 237 ≡ false). let v₂ = eqb-false b 237 t₂ in ⊎-elim
-      (λ (t₃ : ltb b 240 ≡ true). begun-2 128 191 b s n (omega arith) (omega arith) l₂ (ltb-true b 240 t₃) (λ w. absurd (v w)) (λ w. absurd (v₂ w)) (rw (p, q, r, t, t₂, t₃) at e))
-      (λ (t₃ : ltb b 240 ≡ false). let l₃ = ltb-false b 240 t₃ in ⊎-elim
-      (λ (t₄ : eqb b 240 ≡ true). let v₄ = eqb-true b 240 t₄ in begun-3 144 191 b s n (omega arith) (omega arith) l₃ (omega arith) (λ w. omega arith) (λ w. absurd (omega (arith, v₄, w))) (rw (p, q, r, t, t₂, t₃, t₄) at e))
-      (λ (t₄ : eqb b 240 ≡ false). let v₄ = eqb-false b 240 t₄ in ⊎-elim
-      (λ (t₅ : ltb b 244 ≡ true). let v₅ = ltb-true b 244 t₅ in begun-3 128 191 b s n (omega arith) (omega arith) l₃ (omega arith) (λ w. absurd (v₄ w)) (λ w. absurd (omega (arith, v₅, w))) (rw (p, q, r, t, t₂, t₃, t₄, t₅) at e))
-      (λ (t₅ : ltb b 244 ≡ false). ⊎-elim
-      (λ (t₆ : eqb b 244 ≡ true). let v₆ = eqb-true b 244 t₆ in begun-3 128 143 b s n (omega arith) (omega arith) l₃ (omega arith) (λ w. absurd (v₄ w)) (λ w. omega arith) (rw (p, q, r, t, t₂, t₃, t₄, t₅, t₆) at e))
-      (λ (t₆ : eqb b 244 ≡ false). never b s (rw (p, q, r, t, t₂, t₃, t₄, t₅, t₆) at e))
-      (yes-no (eqb b 244)))
-      (yes-no (ltb b 244)))
-      (yes-no (eqb b 240)))
-      (yes-no (ltb b 240)))
-      (yes-no (eqb b 237)))
-      (yes-no (eqb b 224)))
-      (yes-no (ltb b 224)))
-      (yes-no (ltb b 194)))
-      (yes-no (ltb b 128))
+  begun b s n e = by-test (ltb b 128)
+      (λ p. let v = ltb-true b 128 p in rw (one b v) at (more b (low-scalar b (omega arith)) (ih s n (rw p at e))))
+      (λ p. by-test (ltb b 194)
+      (λ q. never b s (rw (p, q) at e))
+      (λ q. let l = ltb-false b 194 q in by-test (ltb b 224)
+      (λ r. begun-1 b s n l (ltb-true b 224 r) (rw (p, q, r) at e))
+      (λ r. let l₂ = ltb-false b 224 r in by-test (eqb b 224)
+      (λ t. let v = eqb-true b 224 t in begun-2 160 191 b s n (omega arith) (omega arith) l₂ (omega arith) (λ w. omega arith) (λ w. absurd (omega (arith, v, w))) (rw (p, q, r, t) at e))
+      (λ t. let v = eqb-false b 224 t in by-test (eqb b 237)
+      (λ t₂. let v₂ = eqb-true b 237 t₂ in begun-2 128 159 b s n (omega arith) (omega arith) l₂ (omega arith) (λ w. absurd (v w)) (λ w. omega arith) (rw (p, q, r, t, t₂) at e))
+      (λ t₂. let v₂ = eqb-false b 237 t₂ in by-test (ltb b 240)
+      (λ t₃. begun-2 128 191 b s n (omega arith) (omega arith) l₂ (ltb-true b 240 t₃) (λ w. absurd (v w)) (λ w. absurd (v₂ w)) (rw (p, q, r, t, t₂, t₃) at e))
+      (λ t₃. let l₃ = ltb-false b 240 t₃ in by-test (eqb b 240)
+      (λ t₄. let v₄ = eqb-true b 240 t₄ in begun-3 144 191 b s n (omega arith) (omega arith) l₃ (omega arith) (λ w. omega arith) (λ w. absurd (omega (arith, v₄, w))) (rw (p, q, r, t, t₂, t₃, t₄) at e))
+      (λ t₄. let v₄ = eqb-false b 240 t₄ in by-test (ltb b 244)
+      (λ t₅. let v₅ = ltb-true b 244 t₅ in begun-3 128 191 b s n (omega arith) (omega arith) l₃ (omega arith) (λ w. absurd (v₄ w)) (λ w. absurd (omega (arith, v₅, w))) (rw (p, q, r, t, t₂, t₃, t₄, t₅) at e))
+      (λ t₅. by-test (eqb b 244)
+      (λ t₆. let v₆ = eqb-true b 244 t₆ in begun-3 128 143 b s n (omega arith) (omega arith) l₃ (omega arith) (λ w. absurd (v₄ w)) (λ w. omega arith) (rw (p, q, r, t, t₂, t₃, t₄, t₅, t₆) at e))
+      (λ t₆. never b s (rw (p, q, r, t, t₂, t₃, t₄, t₅, t₆) at e))))))))))
 
   turn : (s : List ℕ) → length s ≤ suc k → characters [] s ≡ true → Utf8 s
   unfolding characters
@@ -309,23 +290,20 @@ rest (b ∷ s) = cond (ltb b 128) s (cond (ltb b 224) (drop 1 s) (cond (ltb b 24
 
 decoded : (c : ℕ) (s : List ℕ) → scalar c ≡ true → (front (encode c ++ s) ≡ c) × (rest (encode c ++ s) ≡ s)
 unfolding front rest
-decoded c s h = ⊎-elim
-    (λ (p : ltb c 128 ≡ true). rw (one c (ltb-true c 128 p), p) (refl, refl))
-    (λ (p : ltb c 128 ≡ false). let k = ltb-false c 128 p in ⊎-elim
-    (λ (q : ltb c 2048 ≡ true).
+decoded c s h = by-test (ltb c 128)
+    (λ p. rw (one c (ltb-true c 128 p), p) (refl, refl))
+    (λ p. let k = ltb-false c 128 p in by-test (ltb c 2048)
+    (λ q.
     let l = ltb-true c 2048 q in
     rw (two c k l, le-ltb (192 + c / 64) 128 (omega arith), lt-ltb (192 + c / 64) 224 (omega arith)) (omega arith, refl))
-    (λ (q : ltb c 2048 ≡ false). let l = ltb-false c 2048 q in ⊎-elim
-    (λ (r : ltb c 65536 ≡ true).
+    (λ q. let l = ltb-false c 2048 q in by-test (ltb c 65536)
+    (λ r.
     let m = ltb-true c 65536 r in
     rw (three c l m, le-ltb (224 + c / 4096) 128 (omega arith), le-ltb (224 + c / 4096) 224 (omega arith), lt-ltb (224 + c / 4096) 240 (omega arith)) (omega arith, refl))
-    (λ (r : ltb c 65536 ≡ false).
+    (λ r.
     let a : c / 4096 ≡ c / 64 / 64 = omega arith in
     let b : c / 262144 ≡ c / 4096 / 64 = omega arith in
-    rw (four c (ltb-false c 65536 r), le-ltb (240 + c / 262144) 128 (omega arith), le-ltb (240 + c / 262144) 224 (omega arith), le-ltb (240 + c / 262144) 240 (omega arith)) (omega arith, refl))
-    (yes-no (ltb c 65536)))
-    (yes-no (ltb c 2048)))
-    (yes-no (ltb c 128))
+    rw (four c (ltb-false c 65536 r), le-ltb (240 + c / 262144) 128 (omega arith), le-ltb (240 + c / 262144) 224 (omega arith), le-ltb (240 + c / 262144) 240 (omega arith)) (omega arith, refl))))
 
 pub one-encoding : OneEncoding
 one-encoding c d h g s t e =

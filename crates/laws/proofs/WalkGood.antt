@@ -1,6 +1,5 @@
 -- What the walk leaves a book can hold: names are plain and short, and levels are few.
 use mathlib.Core.Path.{_≡_}
-use mathlib.Core.Logic.{⊎-elim}
 use mathlib.Core.List.{List, [], _∷_, _++_}
 use mathlib.Core.Bool.{Bool, true, false}
 use Prim.Native.Nat.{ℕ, suc, _≤_}
@@ -14,7 +13,7 @@ use Rattle.definition.specs.Macros.{innerOf}
 use Rattle.definition.specs.Lift.{Course, State, Walk, binder, childBy, bind, walk, walkI, walkF, walkC, walkAll, start}
 use Rattle.laws.specs.Book.{Named, AllNamed, Good, GoodI, GoodF, GoodC, GoodP, GoodAll}
 use Rattle.laws.specs.Lists.{paramNames}
-use Rattle.laws.proofs.Tests.{yes-no, both-true}
+use Rattle.laws.proofs.Tests.{by-test, both-true}
 use Rattle.laws.proofs.Steps.{Gives, value, then, so, gave}
 use Rattle.laws.proofs.Members.{eqName-true}
 use Rattle.laws.proofs.Levels.{levels-append, good-append}
@@ -49,14 +48,13 @@ good-fine (p ∷ ps) g h = (record { named = g .0; good = g .1 .0; deep = omega 
 binder-fine : (bs : List Param) (n : Name) (i : Inner) → Fine bs → binder bs n ≡ just i → FineType n i
 unfolding binder
 binder-fine [] n i f e = let z : _≡_ {A = ℕ} 0 1 = cc in absurd (omega arith)
-binder-fine (p ∷ ps) n i f e = ⊎-elim
-    (λ (q : eqName (p .name) n ≡ true).
+binder-fine (p ∷ ps) n i f e = by-test (eqName (p .name) n)
+    (λ q.
     let a : just (p .type) ≡ just i = rw q at e in
     let b : p .type ≡ i = cc in
     let c : p .name ≡ n = eqName-true (p .name) n q in
     rw (← b, ← c) (f .0))
-    (λ (q : eqName (p .name) n ≡ false). binder-fine ps n i (f .1) (rw q at e))
-    (yes-no (eqName (p .name) n))
+    (λ q. binder-fine ps n i (f .1) (rw q at e))
 
 bound-fine : (bs ps : List Param) → Fine bs → Bound bs ps → Fine ps
 bound-fine bs [] f b = tt
