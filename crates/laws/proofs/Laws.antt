@@ -3,7 +3,7 @@ use Rattle.laws.specs.Laws.{Laws}
 use Rattle.laws.proofs.Utf8.{table-says-utf8, one-encoding}
 use Rattle.laws.proofs.Segment.{segment-by-characters}
 use Rattle.laws.proofs.FreshName.{fresh-is-first-free, candidates-differ}
-use Rattle.laws.proofs.Order.{sorted-ascends, sorted-has-members}
+use Rattle.laws.proofs.Order.{byte-order, sorted-ascends, sorted-has-members}
 use Rattle.laws.proofs.Growth.{lifts-grow}
 use Rattle.laws.proofs.Stopped.{measure-is-size, sum-at-each-lift, code10-is-first-over}
 use Rattle.laws.proofs.Results.{written-is-read, read-is-written, expanded-is-book, result-is-book}
@@ -20,6 +20,7 @@ laws = record {
   segment-by-characters = segment-by-characters;
   fresh-is-first-free = fresh-is-first-free;
   candidates-differ = candidates-differ;
+  byte-order = byte-order;
   sorted-ascends = sorted-ascends;
   sorted-has-members = sorted-has-members;
   parameters-ascend = parameters-ascend;

@@ -1,15 +1,16 @@
 -- "Parameters: free root names, each once, in byte order."
 use mathlib.Core.Path.{_≡_, refl, sym, _∙_}
+use mathlib.Core.Logic.{_⊎_, inl, inr, ⊎-elim}
 use mathlib.Core.List.{List, [], _∷_}
 use mathlib.Core.Bool.{Bool, true, false, cond}
 use native.Mathlib.Nat.{lt-trans}
 use native.Mathlib.Omega.{arith}
-use lib.Dec.{eqb}
+use lib.Dec.{eqb, ltb}
 use borrow.Author.Tests.{eqb-true, eqb-false, ltb-true, ltb-false}
 use Rattle.definition.specs.Tree.{Name}
 use Rattle.definition.specs.Names.{eqName, elem, before, insert, sorted}
 use Rattle.laws.specs.Lists.{Distinct}
-use Rattle.laws.specs.Laws.{Less, ends, smaller, equal, Ascending, SortedAscends, SortedHasMembers}
+use Rattle.laws.specs.Laws.{ByteOrder, Less, ends, smaller, equal, Ascending, SortedAscends, SortedHasMembers}
 use Rattle.laws.proofs.Tests.{by-test, not-both}
 use Rattle.laws.proofs.Members.{eqName-true, elem-in, in-elem}
 
@@ -101,6 +102,17 @@ passes (equal p) (equal q) = equal (passes p q)
 irreflexive : (a : Name) → Less a a → ⊥
 irreflexive (x ∷ a) (smaller p) = omega arith
 irreflexive (x ∷ a) (equal p) = irreflexive a p
+
+total : (a b : Name) → (a ≡ b → ⊥) → Less a b ⊎ Less b a
+total [] [] h = absurd (h refl)
+total [] (y ∷ b) h = inl ends
+total (x ∷ a) [] h = inr ends
+total (x ∷ a) (y ∷ b) h = by-test (eqb x y)
+    (λ p. let e = eqb-true x y p in rw e (⊎-elim (λ w. inl (equal w)) (λ w. inr (equal w)) (total a b (λ q. h (cc)))))
+    (λ p. let e = eqb-false x y p in by-test (ltb x y) (λ q. inl (smaller (ltb-true x y q))) (λ q. inr (smaller (omega (arith, ltb-false x y q)))))
+
+pub byte-order : ByteOrder
+byte-order = record { irreflexive = irreflexive; transitive = λ a b c p q. passes p q; total = total }
 
 less-apart : (a b : Name) → Less a b → eqName a b ≡ false
 less-apart a b p = by-test (eqName a b) (λ e. let f = eqName-true a b e in absurd (irreflexive b (rw f at p))) (λ e. e)

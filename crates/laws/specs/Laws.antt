@@ -93,6 +93,12 @@ pub data Less : Name → Name → Type 0 where
   smaller : {a b : ℕ} {s t : Name} → a < b → Less (a ∷ s) (b ∷ t)
   equal : {b : ℕ} {s t : Name} → Less s t → Less (b ∷ s) (b ∷ t)
 
+-- it is an order: of two names that differ exactly one comes first
+pub record ByteOrder : Type 0 where
+  pub irreflexive : (a : Name) → Less a a → ⊥
+  pub transitive : (a b c : Name) → Less a b → Less b c → Less a c
+  pub total : (a b : Name) → (a ≡ b → ⊥) → Less a b ⊎ Less b a
+
 abbrev pub Ascending : List Name → Type 0
 Ascending [] = Unit {0}
 Ascending (n ∷ []) = Unit {0}
@@ -180,6 +186,7 @@ pub record Laws : Type 0 where
   pub segment-by-characters : SegmentByCharacters
   pub fresh-is-first-free : FreshIsFirstFree
   pub candidates-differ : CandidatesDiffer
+  pub byte-order : ByteOrder
   pub sorted-ascends : SortedAscends
   pub sorted-has-members : SortedHasMembers
   pub parameters-ascend : ParametersAscend
