@@ -2,19 +2,19 @@
 -- Assumes nothing.
 use mathlib.Core.Path.{_≡_, refl, sym, ap, _∙_, subst}
 use mathlib.Core.Logic.{_⊎_, inl, inr, ⊎-elim}
-use mathlib.Core.List.{List, [], _∷_, _++_}
-use mathlib.Core.Bool.{Bool, true, false}
-use Prim.Native.Nat.{ℕ, zero, suc, _+_, _-_, _≤_, _<_, min}
+use mathlib.Core.List.{List}
+use mathlib.Core.Bool.{true, false}
+use Prim.Native.Nat.{ℕ, _+_, _-_, _≤_, _<_}
 use native.Mathlib.Omega.{arith}
-use native.Mathlib.Nat.{eq-or-lt-of-le, le-refl, zero-add}
+use native.Mathlib.Nat.{zero-add}
 use lib.Dec.{eqb}
 use borrow.Author.Tests.{eqb-true, eqb-false}
 use Rattle.lookup.proofs.Names.{yes-no}
-use lib.ListN.{length, take, drop, getD, set, length-take, length-set, take-append-drop}
+use lib.ListN.{length, take, getD, set, length-set, take-append-drop}
 use lib.Seq.{length-take-le, getD-set-same, getD-set-other}
 use Rattle.definition.specs.Tree.{Name}
-use Rattle.definition.specs.Names.{elem, decimal, numbered, fresh}
-use Rattle.writer.specs.Buf.{put, after, Wrote}
+use Rattle.definition.specs.Names.{elem, numbered, fresh}
+use Rattle.writer.specs.Buf.{after, Wrote}
 use Rattle.writer.proofs.Put.{put-fits, within}
 use Rattle.writer.proofs.Wrote.{glue}
 use Rattle.names.specs.Name.{Held}

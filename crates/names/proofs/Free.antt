@@ -2,25 +2,25 @@
 -- Assumes nothing.
 use mathlib.Core.Path.{_≡_, refl, sym, ap, _∙_, subst}
 use mathlib.Core.Logic.{⊎-elim}
-use mathlib.Core.List.{List, [], _∷_, _++_}
-use mathlib.Core.Bool.{Bool, true, false, not}
-use Prim.Native.Nat.{ℕ, zero, suc, _+_, _-_, _/_, _%_, _≤_, _<_, min}
+use mathlib.Core.List.{List, _∷_}
+use mathlib.Core.Bool.{true, false, not}
+use Prim.Native.Nat.{ℕ, zero, suc, _+_, _-_, _/_, _≤_, _<_}
 use native.Mathlib.Omega.{arith}
 use native.Mathlib.Nat.{eq-or-lt-of-le, le-refl}
 use lib.Dec.{eqb}
 use borrow.Author.Tests.{eq-eqb, ne-eqb}
-use lib.ListN.{length, take, getD, set, length-append, length-take, length-set}
-use lib.Seq.{take-nil, take-all, getD-set-same, getD-set-other}
+use lib.ListN.{length, take, length-append, length-take}
+use lib.Seq.{take-nil, take-all}
 use Rattle.definition.specs.Tree.{Name}
-use Rattle.definition.specs.Names.{eqName, elem, decimal, child, numbered, firstFree, fresh}
+use Rattle.definition.specs.Names.{elem, decimal, child, numbered, firstFree, fresh}
 use Rattle.writer.specs.Buf.{put, after, Wrote}
-use Rattle.writer.proofs.Put.{put-over, put-nil, take-put, length-put, within}
-use Rattle.writer.proofs.Wrote.{place-is, same-length, wrote-none}
+use Rattle.writer.proofs.Put.{put-over, take-put, within}
+use Rattle.writer.proofs.Wrote.{same-length}
 use Rattle.names.specs.Name.{Held, Child}
-use Rattle.names.specs.Taken.{row, taken, Table, Hints, Found, Tells, FirstFree, Fresh}
+use Rattle.names.specs.Taken.{taken, Table, Found, Tells, FirstFree}
 use Rattle.names.proofs.Held.{held-whole, grown}
 use Rattle.names.proofs.Decimal.{decimal-small, decimal-large}
-use Rattle.names.proofs.Rows.{found-not, found-is, found-name, long-free, length-taken}
+use Rattle.names.proofs.Rows.{found-not, found-is, long-free}
 
 -- ---- a larger number has no fewer digits
 some-digit : (n : ℕ) → 1 ≤ length (decimal n)

@@ -46,6 +46,10 @@ pub record Packed (names places : List ℕ) (n end : ℕ) : Type 0 where
   pub room : end ≤ length names
   pub inside : (i : ℕ) → i < n → getD places i 0 + 1 + getD names (getD places i 0) 0 ≤ end
 
+-- where the answer is no, none of the first n rows has the hash
+pub record Hashed (hashes : List ℕ) (n hash : ℕ) (r : Bool) : Type 0 where
+  pub none : r ≡ false → (j : ℕ) → j < n → getD hashes j 0 ≡ hash → ⊥
+
 -- the first row of a name, or n
 pub record Found (name : Name) (names places : List ℕ) (n r : ℕ) : Type 0 where
   pub bound : r ≤ n

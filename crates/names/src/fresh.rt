@@ -10,11 +10,12 @@ ghost use lib.ListN.{length, getD, set};
 ghost use Rattle.definition.specs.Names.{eqName};
 ghost use Rattle.writer.specs.Buf.{put, nameBytes};
 ghost use Rattle.names.specs.Name.{Held};
-ghost use Rattle.names.specs.Taken.{row, taken, hashOf, Table, Hints, Packed, Found, Tells, FirstFree, Fresh, Took};
+ghost use Rattle.names.specs.Taken.{row, taken, hashOf, Table, Hints, Packed, Hashed, Found, Tells, FirstFree, Fresh, Took};
 
-pub struct Free {
-    pub number: usize,
-    pub len: usize,
+// The number that is free, and the length of the name.
+struct Free {
+    number: usize,
+    len: usize,
 }
 
 fn name_hash(name: &[u8]) -> u16
@@ -27,6 +28,24 @@ fn name_hash(name: &[u8]) -> u16
         i += 1;
     }
     h as u16
+}
+
+// Whether a row has this hash. The loop has no way out in its middle, so that it is made of vector instructions: of a name that is free,
+// which most are, nothing else is looked at.
+fn has_hash(hashes: &[u16], n: usize, hash: u16) -> bool
+    requires { ⌜ n ≤ length (now hashes) ⌝ }
+    ensures { λ r. ⌜ Hashed (now (hashes .entry)) n hash r ⌝ }
+{
+    let mut seen = false;
+    let mut i = 0;
+    while i < n {
+        let h = hashes[i];
+        i += 1;
+        if h == hash {
+            seen = true;
+        }
+    }
+    seen
 }
 
 // Whether a row's name is this one, whose hash is given.
@@ -47,6 +66,9 @@ pub fn find_name(name: &[u8], names: &[u8], places: &[u16], hashes: &[u16], n: u
     ensures { λ r. ⌜ Found (now (name .entry)) (now (names .entry)) (now (places .entry)) n r ⌝ }
 {
     let hash = name_hash(name);
+    if !has_hash(hashes, n, hash) {
+        return n;
+    }
     let mut i = 0;
     while i < n {
         if row_is(name, hash, names, places, hashes, i) {
@@ -81,13 +103,13 @@ fn first_free(
     requires { ⌜ Table (now names) (now places) (now hashes) n × (255 ≤ length (now path)) × (at ≤ length (now path)) × (first ≤ n) ⌝ }
     ensures { λ r. ⌜ FirstFree (now (path .entry)) at (now (names .entry)) (now (places .entry)) n first (now (path .exit)) (r .number) (r .len) ⌝ }
 {
-    let mut i = first;
-    while i < n {
-        let len = crate::numbered_name(i, path, at);
+    let mut number = first;
+    while number < n {
+        let len = crate::numbered_name(number, path, at);
         if is_free(&path[..], len, names, places, hashes, n) {
-            return Free { number: i, len };
+            return Free { number, len };
         }
-        i += 1;
+        number += 1;
     }
     let len = crate::numbered_name(n, path, at);
     Free { number: n, len }
