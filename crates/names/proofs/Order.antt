@@ -12,7 +12,7 @@ use Rattle.definition.specs.Tree.{Name}
 use Rattle.definition.specs.Names.{elem, numbered, firstFree, fresh}
 use Rattle.writer.proofs.Put.{within}
 use Rattle.names.specs.Name.{Held}
-use Rattle.names.specs.Taken.{Table, Hints, Packed}
+use Rattle.names.specs.Taken.{Store, Table, Hints, Packed}
 
 -- The first free name goes by which names are taken and by how many, in whatever order
 module _ (a b : List Name) (same : (x : Name) → elem x a ≡ elem x b) where
@@ -33,12 +33,12 @@ code-nine d at name h e = ⊎-elim
     (within (length name) 255)
 
 -- before any name is taken
-module _ (names places hashes hints : List ℕ) where
+module _ (names : Store) (places hashes hints : List ℕ) where
   pub no-table : Table names places hashes 0
   no-table = record { places-long = omega arith; hashes-long = omega arith; hash = λ i h. absurd (omega arith); short = λ i h. absurd (omega arith) }
 
   pub no-hints : Hints names places hints 0
   no-hints = record { hints-long = omega arith; low = λ i h. absurd (omega arith); tried = λ i j h k. absurd (omega arith) }
 
-  pub none-packed : Packed names places 0 0
+  pub none-packed : Packed (names .made) places 0 0
   none-packed = record { room = omega arith; inside = λ i h. absurd (omega arith) }

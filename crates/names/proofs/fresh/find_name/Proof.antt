@@ -1,6 +1,6 @@
 -- `names::fresh::find_name` meets its contract.
 -- Assumes nothing.
-use Rattle.names.specs.Taken.{row, hashOf}
+use Rattle.names.specs.Taken.{both, row, hashOf}
 use Rattle.definition.specs.Names.{eqName}
 use Prim.Native.Nat.{ℕ, _≤_, _<_, _-_}
 use mathlib.Core.Bool.{false}
@@ -13,16 +13,16 @@ use Rattle.names.proofs.fresh.find_name.Statement.{statement}
 use Rattle.names.proofs.fresh.find_name.Tie as tie
 
 abbrev Inv-loop : tie.InvT-loop
-Inv-loop name names places hashes n hash i₀ i = (i ≤ n) × (hash ≡ hashOf name) × ((j : ℕ) → j < i → eqName name (row names places j) ≡ false)
+Inv-loop name book made places hashes n hash i₀ i = (i ≤ n) × (hash ≡ hashOf name) × ((j : ℕ) → j < i → eqName name (row (both book made) places j) ≡ false)
 
 abbrev μ-loop : tie.MeasureT-loop
-μ-loop name names places hashes n hash i₀ i = n - i
+μ-loop name book made places hashes n hash i₀ i = n - i
 
 has-hash-requires : tie.Need-has-hash-requires Inv-loop μ-loop
-has-hash-requires c κs = c .before .before .before .before .before .pre .hashes-long
+has-hash-requires c κs = c .before .before .before .before .before .before .pre .hashes-long
 
 returns : tie.Need-returns Inv-loop μ-loop
-returns c = no-row _ (c .before .before .before .before .before .before .before .pre) (c .before .before .name-hash .ensures) (c .before .has-hash .ensures) (not-true _ (c .if1 .taken))
+returns c = no-row _ (c .before .before .before .before .before .before .before .before .pre) (c .before .before .name-hash .ensures) (c .before .has-hash .ensures) (not-true _ (c .if1 .taken))
 
 loop-holds : tie.Need-loop-holds Inv-loop μ-loop
 loop-holds c = (omega arith, c .before .before .name-hash .ensures, none-yet _ _ _)
@@ -30,7 +30,7 @@ loop-holds c = (omega arith, c .before .before .name-hash .ensures, none-yet _ _
 row-is-requires : tie.Need-row-is-requires Inv-loop μ-loop
 row-is-requires c κs =
     let l = c .before .loop in
-    let t = c .before .before .before .before .before .before .before .before .before .pre in
+    let t = c .before .before .before .before .before .before .before .before .before .before .pre in
     (l .inv .1, let a = t .places-long in omega arith, let a = t .hashes-long in omega arith, t .hash (l .i) (c .loop-test .taken))
 
 returns-2 : tie.Need-returns-2 Inv-loop μ-loop

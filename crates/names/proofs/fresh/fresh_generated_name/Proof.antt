@@ -8,26 +8,26 @@ use Rattle.names.proofs.fresh.fresh_generated_name.Statement.{statement
 use Rattle.names.proofs.fresh.fresh_generated_name.Tie as tie
 
 returns : tie.Need-returns
-returns c = let p = c .before .before .before .before .before .before .pre in (chosen-long (p .0) (p .2) (c .if1 .taken), p .1)
+returns c = let p = c .before .before .before .before .before .before .before .pre in (chosen-long (p .0) (p .2) (c .if1 .taken), p .1)
 
 slice-aggregate-find-name : tie.Need-slice-aggregate-find-name
 slice-aggregate-find-name c = simp length-take (omega arith)
 
 returns-2 : tie.Need-returns-2
-returns-2 c = (chosen-base (c .before .find-name .ensures) (c .if2 .taken) (omega arith), c .before .before .before .before .before .before .before .before .before .pre .1)
+returns-2 c = (chosen-base (c .before .find-name .ensures) (c .if2 .taken) (omega arith), c .before .before .before .before .before .before .before .before .before .before .pre .1)
 
 cast-first : tie.Need-cast-first
 cast-first c = omega (arith, c .slice-known3 .given (c .before .before .find-name .result))
 
 first-free-requires : tie.Need-first-free-requires
 first-free-requires c κs =
-    let p = c .before .before .before .before .before .before .before .before .before .before .before .pre in
+    let p = c .before .before .before .before .before .before .before .before .before .before .before .before .pre in
     let f = c .before .before .before .find-name .ensures .bound in
     (p .0, p .2, omega arith, p .1 .low _ (omega arith))
 
 returns-3 : tie.Need-returns-3
 returns-3 c =
-    let p = c .before .before .before .before .before .before .before .before .before .before .before .before .before .before .pre in
+    let p = c .before .before .before .before .before .before .before .before .before .before .before .before .before .before .before .pre in
     let f = c .before .before .before .before .before .before .find-name .ensures in
     let b = f .bound in
     let w = c .before .before .first-free .ensures in

@@ -8,7 +8,7 @@ use Rattle.names.proofs.fresh.is_free.Statement.{statement}
 use Rattle.names.proofs.fresh.is_free.Tie as tie
 
 returns : tie.Need-returns
-returns c = let p = c .before .before .before .before .before .pre in tells-long (p .0) (p .1) (c .if1 .taken)
+returns c = let p = c .before .before .before .before .before .before .pre in tells-long (p .0) (p .1) (c .if1 .taken)
 
 slice-aggregate-find-name : tie.Need-slice-aggregate-find-name
 slice-aggregate-find-name c = simp length-take (omega arith)

@@ -11,13 +11,14 @@ returns : tie.Need-returns
 returns c =
     let s = c .before .before .before .before .before .before .before .before .before .before in
     let p = s .pre in
-    took _ _ _ _ _ _ _ (p .0 .0) (p .0 .1) (p .0 .2) (p .1 .0) (p .1 .1) (p .1 .3) (p .1 .4) (p .1 .5) (c .before .before .before .put-name .ensures) refl (ap (set (s .args .hashes .now) (s .args .n)) (c .name-hash .ensures)) refl
+    took _ _ _ _ _ _ _ (p .0) (p .1) (p .3) (p .4) (p .5) (c .before .before .before .put-name .ensures) refl (ap (set (s .args .hashes .now) (s .args .n)) (c .name-hash .ensures)) refl
 
 pub take-name-spec : {M : Type 1} → statement M
 take-name-spec =
     tie.close
     (tie.spec
     (λ c κs. search needs)
+    (λ c. search needs)
     (λ c. search needs)
     (λ c. search needs)
     (λ c. search needs)
