@@ -171,6 +171,23 @@ pub fn fresh_generated_name<'a>(
     free.len
 }
 
+// A row: a name's place, its hash, and a hint that says nothing yet.
+fn set_row(
+    places: &mut [u16],
+    hashes: &mut [u16],
+    hints: &mut [u16],
+    n: usize,
+    place: u16,
+    hash: u16,
+)
+    requires { ⌜ (n < length (now places)) × (n < length (now hashes)) × (n < length (now hints)) ⌝ }
+    ensures { λ _. ⌜ (now (places .exit) ≡ set (now (places .entry)) n place) × (now (hashes .exit) ≡ set (now (hashes .entry)) n hash) × (now (hints .exit) ≡ set (now (hints .entry)) n 0) ⌝ }
+{
+    places[n] = place;
+    hashes[n] = hash;
+    hints[n] = 0;
+}
+
 // Takes a generated name: it goes to place `end` of the generated names, and gets row n. Gives the place after it.
 pub fn take_name(
     name: &[u8],
@@ -185,9 +202,14 @@ pub fn take_name(
     ensures { λ r. ⌜ Took (now (name .entry)) (now (made .entry)) end (now (places .entry)) (now (hashes .entry)) (now (hints .entry)) n (now (made .exit)) (now (places .exit)) (now (hashes .exit)) (now (hints .exit)) r ⌝ }
 {
     let next = put_name(name, made, end);
-    places[n] = (32768 + end) as u16;
-    hashes[n] = name_hash(name);
-    hints[n] = 0;
+    set_row(
+        places,
+        hashes,
+        hints,
+        n,
+        (32768 + end) as u16,
+        name_hash(name),
+    );
     next
 }
 
@@ -203,7 +225,12 @@ pub fn take_source_name(
     requires { ⌜ (at < 32768) × (n < length (now places)) × (n < length (now hashes)) × (n < length (now hints)) ⌝ }
     ensures { λ _. ⌜ Listed (now (book .entry)) at (now (places .entry)) (now (hashes .entry)) (now (hints .entry)) n (now (places .exit)) (now (hashes .exit)) (now (hints .exit)) ⌝ }
 {
-    places[n] = at as u16;
-    hashes[n] = name_hash(name_at(book, at));
-    hints[n] = 0;
+    set_row(
+        places,
+        hashes,
+        hints,
+        n,
+        at as u16,
+        name_hash(name_at(book, at)),
+    );
 }

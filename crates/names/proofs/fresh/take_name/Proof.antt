@@ -2,16 +2,18 @@
 -- Assumes nothing.
 use lib.ListN.{set}
 use Rattle.names.proofs.Take.{took}
-use mathlib.Core.Path.{refl, ap}
+use mathlib.Core.Path.{ap, _∙_}
 use borrow.Author.Needs.{needs}
 use Rattle.names.proofs.fresh.take_name.Statement.{statement}
 use Rattle.names.proofs.fresh.take_name.Tie as tie
 
 returns : tie.Need-returns
 returns c =
-    let s = c .before .before .before .before .before .before .before .before .before .before in
+    let s = c .before .before .before .before .before .before .before .before .before .before .before .before .before .before .before .before .before .before .before .before in
     let p = s .pre in
-    took _ _ _ _ _ _ _ (p .0) (p .1) (p .3) (p .4) (p .5) (c .before .before .before .put-name .ensures) refl (ap (set (s .args .hashes .now) (s .args .n)) (c .name-hash .ensures)) refl
+    let q = c .before .before .before .before .before .before .set-row .ensures in
+    took _ _ _ _ _ _ _ (p .0) (p .1) (p .3) (p .4) (p .5) (c .before .before .before .before .before .before .before .before .before .before .before .before .before .put-name .ensures) (q .0)
+    (q .1 ∙ ap (set (s .args .hashes .now) (s .args .n)) (c .before .before .before .before .before .before .before .name-hash .ensures)) (q .2)
 
 pub take-name-spec : {M : Type 1} → statement M
 take-name-spec =
@@ -20,13 +22,8 @@ take-name-spec =
     (λ c κs. search needs)
     (λ c. search needs)
     (λ c. search needs)
-    (λ c. search needs)
-    (λ c. search needs)
     (λ c κs. search needs)
-    (λ c. search needs)
-    (λ c. search needs)
-    (λ c. search needs)
-    (λ c. search needs)
+    (λ c κs. search needs)
     (λ c. search needs)
     (λ c. search needs)
     (λ c. search needs)
