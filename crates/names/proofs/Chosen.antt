@@ -19,7 +19,7 @@ use Rattle.writer.proofs.Put.{put-fits, within}
 use Rattle.writer.proofs.Wrote.{glue}
 use Rattle.names.specs.Name.{Held}
 use Rattle.names.specs.Taken.{Store, row, taken, Table, Hints, Found, FirstFree, Fresh}
-use Rattle.names.proofs.Held.{held-whole}
+use Rattle.names.proofs.Held.{held-whole, stays}
 use Rattle.names.proofs.Free.{fresh-base, fresh-number, held-new}
 use Rattle.names.proofs.Rows.{found-not, found-is, found-name, long-free, length-taken}
 
@@ -41,6 +41,7 @@ chosen-base {d} {at} {names} {places} {n} f e h =
       within = λ k. rw q (stood d at h);
       beyond = λ k. absurd (omega arith);
       named = λ base g. subst (λ (b : Name). Held d at (fresh b (taken names places n))) (held-whole g h) (rw q (subst (λ (b : Name). Held d at b) (sym (held-whole g h)) g));
+      kept = refl;
     }
 
 -- a base that has no room is free, and stays too long
@@ -52,6 +53,7 @@ chosen-long {d} {at} {names} {places} {hashes} {n} t h k = record {
       let z = g .place in
       let e : at ≡ length d + 1 = omega arith in
       rw (fresh-base base (taken names places n) (long-free base t (omega arith))) (subst (λ (m : ℕ). Held d m base) e g);
+  kept = refl;
 }
 
 module _ {d : List ℕ} {at : ℕ} {names : Store} {places hints : List ℕ} {n r : ℕ} {d′ : List ℕ} {k len : ℕ} (h : Hints names places hints n) (f : Found (take at d) names places n r) (less : r < n)
@@ -77,6 +79,7 @@ module _ {d : List ℕ} {at : ℕ} {names : Store} {places hints : List ℕ} {n 
         within = λ q. v;
         beyond = λ q. absurd (omega arith);
         named = λ base g. subst (λ (b : Name). Held d′ len (fresh b (taken names places n))) (held-whole g m) (held-new v);
+        kept = stays (w .wrote);
       }
 
   -- and the hint may say so from now on

@@ -86,6 +86,7 @@ pub record Fresh (d : List ℕ) (at : ℕ) (names : Store) (places : List ℕ) (
   pub within : at ≤ length d → Wrote d 0 (fresh (take at d) (taken names places n)) d′ r
   pub beyond : length d < at → (r ≡ suc (length d)) × (d′ ≡ d)
   pub named : (base : Name) → Held d at base → Held d′ r (fresh base (taken names places n))
+  pub kept : take at d′ ≡ take at d
 
 -- a name more
 pub record Grown (name : Name) (names : Store) (places hashes hints : List ℕ) (n : ℕ) (names′ : Store) (places′ hashes′ hints′ : List ℕ) : Type 0 where
