@@ -1,16 +1,17 @@
 -- A name in a buffer that grows by a write.
 -- Assumes nothing.
-use mathlib.Core.Path.{_≡_, refl, sym, ap, _∙_}
+use mathlib.Core.Path.{_≡_, sym, ap, _∙_}
 use mathlib.Core.Logic.{⊎-elim}
-use mathlib.Core.List.{List, [], _∷_, _++_, append-nil, append-assoc}
+use mathlib.Core.List.{List, [], _∷_, _++_, append-nil}
 use Prim.Native.Nat.{ℕ, suc, _+_, _-_, _≤_, _<_, min}
+use native.Mathlib.Nat.{le-refl}
 use native.Mathlib.Omega.{arith}
-use lib.ListN.{length, take, drop, length-append, length-take, drop-of-length-le}
-use lib.Seq.{take-all, take-append-le, take-append-add}
+use lib.ListN.{length, take, drop, length-append, drop-of-length-le}
+use lib.Seq.{take-take, take-all, take-append-le, take-append-add}
 use Rattle.definition.specs.Tree.{Name}
 use Rattle.definition.specs.Names.{child}
 use Rattle.writer.specs.Buf.{put, Wrote}
-use Rattle.writer.proofs.Put.{length-put, put-past, take-written, within}
+use Rattle.writer.proofs.Put.{put-past, take-put, take-written, within}
 use Rattle.writer.proofs.Wrote.{place-is, same-length}
 use Rattle.names.specs.Name.{Held, Child}
 
@@ -60,3 +61,13 @@ module _ {d : List ℕ} {at : ℕ} {name : Name} (h : Held d at name) where
 pub extend : {d : List ℕ} {at : ℕ} {seg : Name} {d′ : List ℕ} {r : ℕ} → Wrote d at (95 ∷ seg) d′ r → Child d at seg d′ r
 unfolding child
 extend w = record { wrote = w; named = λ name h. grown h w }
+
+-- ---- the way back: a node's name stays where it is while names grow behind it
+pub held-back : {d : List ℕ} {at : ℕ} {name : Name} → Held d at name → {d′ : List ℕ} → length d′ ≡ length d → take at d′ ≡ take at d → Held d′ at name
+held-back h e k = record { place = rw e (h .place); bytes = rw e (k ∙ h .bytes) }
+
+pub stays : {d : List ℕ} {at : ℕ} {p d′ : List ℕ} {r : ℕ} → Wrote d at p d′ r → take at d′ ≡ take at d
+stays {d} {at} {p} w = ap (take at) (w .holds) ∙ take-put d at p at (le-refl at)
+
+pub take-less : (d d′ : List ℕ) (a at : ℕ) → a ≤ at → take at d′ ≡ take at d → take a d′ ≡ take a d
+take-less d d′ a at h e = sym (take-take a at d′ h) ∙ ap (take a) e ∙ take-take a at d h
