@@ -1,0 +1,4 @@
+pub mod Bind
+pub mod Table
+pub mod Rows
+pub mod Laws
