@@ -2,3 +2,4 @@ pub mod Bind
 pub mod Table
 pub mod Rows
 pub mod Laws
+pub mod Judge

@@ -8,11 +8,18 @@ ghost use mathlib.Core.Path.{_≡_};
 ghost use mathlib.Core.Bool.{true, false};
 ghost use Prim.Native.Nat.{ℕ, _+_};
 ghost use lib.ListN.{length, drop};
-ghost use Rattle.definition.specs.Read.{combinator as combinatorOf, arg, items as itemsOf, fields as fieldsOf, cases as casesOf, inners, namesBy, len, selector as selectorOf, label as labelOf, params as paramsOf, definition, Tag, isStruct, isWrap, isChoice, isArray, isMacroInvocation, isInvocation, Reader};
+ghost use Rattle.definition.specs.Read.{combinator as combinatorOf, arg, items as itemsOf, fields as fieldsOf, cases as casesOf, inners, namesBy, len, selector as selectorOf, label as labelOf, params as paramsOf, definition as definitionOf, Tag, isStruct, isWrap, isChoice, isArray, isMacroInvocation, isInvocation, Reader};
 ghost use Rattle.definition.specs.Tree.{Combinator, Inner, isFormat, isConstant, isMacro};
 ghost use Rattle.cursor.specs.Ends.{Ends};
 ghost use Rattle.cursor.specs.Item.{tested};
 ghost use Rattle.reader.specs.Rows.{counted, Leads, tagOf, caseKindOf, itemsAt};
+ghost use Rattle.reader.specs.Verdict.{ofKind, bodyVerdict};
+
+// What a judgement says: nothing is wrong, or the first fault.
+pub enum Verdict {
+    Sound,
+    Unsound(Fault),
+}
 
 // A count, and as many names.
 fn names(s: &[u8], c: Cursor, dots: bool) -> Walked
@@ -277,5 +284,109 @@ fn macro_invocation(s: &[u8], c: Cursor, levels: usize) -> Walked
     match c.name(s, false) {
         Walked::Refused(f) => Walked::Refused(f),
         Walked::Past(d) => arguments(s, d, levels),
+    }
+}
+
+// A parameter of a format: a name and its type.
+fn param(s: &[u8], c: Cursor) -> Walked
+    ensures { λ r. ⌜ Leads (now (s .entry)) (c .at) r paramsOf ⌝ }
+{
+    match c.name(s, false) {
+        Walked::Refused(f) => Walked::Refused(f),
+        Walked::Past(d) => inner(s, d, 64),
+    }
+}
+
+// A count, and as many parameters.
+fn params(s: &[u8], c: Cursor) -> Walked
+    ensures { λ r. ⌜ Ends (now (s .entry)) (c .at) r (counted paramsOf (drop (c .at) (now (s .entry)))) ⌝ }
+{
+    match c.u16(s) {
+        NumberStep::NoNumber(f) => Walked::Refused(f),
+        NumberStep::Number(n, e) => {
+            let mut left = n;
+            let mut here = e;
+            while 0 < left {
+                match param(s, here) {
+                    Walked::Refused(f) => {
+                        return Walked::Refused(f);
+                    }
+                    Walked::Past(d) => {
+                        here = d;
+                    }
+                }
+                left -= 1;
+            }
+            Walked::Past(here)
+        }
+    }
+}
+
+fn format(s: &[u8], c: Cursor) -> Walked
+    ensures { λ r. ⌜ Ends (now (s .entry)) (c .at) r (definitionOf isFormat (drop (c .at) (now (s .entry)))) ⌝ }
+{
+    match c.name(s, false) {
+        Walked::Refused(f) => Walked::Refused(f),
+        Walked::Past(d) => match params(s, d) {
+            Walked::Refused(f) => Walked::Refused(f),
+            Walked::Past(e) => combinator(s, e, 64),
+        },
+    }
+}
+
+fn constant(s: &[u8], c: Cursor) -> Walked
+    ensures { λ r. ⌜ Ends (now (s .entry)) (c .at) r (definitionOf isConstant (drop (c .at) (now (s .entry)))) ⌝ }
+{
+    match c.name(s, false) {
+        Walked::Refused(f) => Walked::Refused(f),
+        Walked::Past(d) => d.text(s),
+    }
+}
+
+fn macro_body(s: &[u8], c: Cursor) -> Walked
+    ensures { λ r. ⌜ Ends (now (s .entry)) (c .at) r (definitionOf isMacro (drop (c .at) (now (s .entry)))) ⌝ }
+{
+    match c.name(s, false) {
+        Walked::Refused(f) => Walked::Refused(f),
+        Walked::Past(d) => match names(s, d, false) {
+            Walked::Refused(f) => Walked::Refused(f),
+            Walked::Past(e) => combinator(s, e, 64),
+        },
+    }
+}
+
+// A definition of a kind, from the cursor on.
+pub fn definition(s: &[u8], c: Cursor, kind: u8) -> Walked
+    ensures { λ r. ⌜ Ends (now (s .entry)) (c .at) r (ofKind kind (drop (c .at) (now (s .entry)))) ⌝ }
+{
+    let at = c.at;
+    match kind {
+        1 => format(s, c),
+        2 => constant(s, c),
+        3 => c.text(s),
+        4 => macro_body(s, c),
+        _ => Walked::Refused(Fault { code: 3, at: at }),
+    }
+}
+
+// One body alone: the bytes from a place up to another, read as a definition of a kind that fills them.
+pub fn body(s: &[u8], kind: u8, from: usize, to: usize) -> Verdict
+    ensures { λ r. ⌜ r ≡ bodyVerdict kind from to (now (s .entry)) ⌝ }
+{
+    if s.len() < to {
+        return Verdict::Unsound(Fault { code: 3, at: from });
+    }
+    if to < from {
+        return Verdict::Unsound(Fault { code: 3, at: from });
+    }
+    match definition(&s[..to], Cursor { at: from }, kind) {
+        Walked::Refused(f) => Verdict::Unsound(f),
+        Walked::Past(c) => {
+            let end = c.at;
+            if end < to {
+                return Verdict::Unsound(Fault { code: 3, at: end });
+            }
+            Verdict::Sound
+        }
     }
 }
