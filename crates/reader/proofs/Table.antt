@@ -26,7 +26,7 @@ either-by : (a b : ℕ) (t : Bool) → leb a b ≡ t → (a ≤ b) ⊎ (b < a)
 either-by a b true e = inl (leb-true a b e)
 either-by a b false e = inr (leb-false a b e)
 
-either : (a b : ℕ) → (a ≤ b) ⊎ (b < a)
+pub either : (a b : ℕ) → (a ≤ b) ⊎ (b < a)
 either a b = either-by a b (leb a b) refl
 
 -- a table with an entry for each number from low to high, and for no other
