@@ -9,7 +9,7 @@ ghost use mathlib.Core.Path.{_≡_};
 ghost use Prim.Native.Nat.{_+_, _*_, _≤_, _<_};
 ghost use lib.ListN.{length, drop, getD};
 ghost use Rattle.definition.specs.Contents.{entry as entryOf, count as countOf, book as bookOf};
-ghost use Rattle.cursor.specs.Ends.{Ends, Took, ofNumber};
+ghost use Rattle.cursor.specs.Ends.{Walks, Takes, ofNumber};
 ghost use Rattle.reader.specs.Verdict.{verdict};
 ghost use Rattle.book.specs.Table.{Found, rowOf, Holds, Tabled};
 
@@ -73,7 +73,7 @@ pub fn entry(s: &[u8], c: Cursor, want: usize, more: u8) -> EntryStep
 
 // How many entries there are.
 fn count(s: &[u8]) -> NumberStep
-    ensures { λ r. ⌜ Took (now (s .entry)) 0 (ofNumber r) (countOf (now (s .entry))) ⌝ }
+    ensures { λ r. ⌜ Takes (now (s .entry)) 0 (ofNumber r) countOf ⌝ }
 {
     let top = Cursor { at: 0 };
     match top.u16(s) {
@@ -90,7 +90,7 @@ fn count(s: &[u8]) -> NumberStep
 // The entries whole: each body starts where the one before ends, and the last ends with the book.
 fn row(s: &[u8], n: usize, more: u8) -> Walked
     requires { ⌜ (n ≤ 512) × (2 ≤ length (now s)) ⌝ }
-    ensures { λ r. ⌜ Ends (now (s .entry)) 2 r (rowOf (6 + more) (now (s .entry)) n (2 + (6 + more) * n) (drop 2 (now (s .entry)))) ⌝ }
+    ensures { λ r. ⌜ Walks (now (s .entry)) 2 r (rowOf (6 + more) (now (s .entry)) n (2 + (6 + more) * n)) ⌝ }
 {
     let width = 6 + wide(more);
     let mut left = n;
@@ -141,8 +141,8 @@ fn bodies(s: &[u8], n: usize, more: u8) -> Verdict
         let fifth = here + 4;
         let end = want + two(s, fifth);
         match reader::body(s, kind, want, end) {
-            Verdict::Unsound(f) => {
-                return Verdict::Unsound(f);
+            Verdict::Refused(f) => {
+                return Verdict::Refused(f);
             }
             Verdict::Sound => {
                 here += width;
@@ -159,7 +159,7 @@ pub fn book(s: &[u8], more: u8) -> Verdict
     ensures { λ r. ⌜ r ≡ verdict (length (now (s .entry))) (bookOf (6 + more) (now (s .entry))) ⌝ }
 {
     match contents(s, more) {
-        NumberStep::NoNumber(f) => Verdict::Unsound(f),
+        NumberStep::NoNumber(f) => Verdict::Refused(f),
         NumberStep::Number(n, _) => bodies(s, n, more),
     }
 }

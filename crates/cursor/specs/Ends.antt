@@ -5,6 +5,7 @@ use Prim.Native.Nat.{ℕ, _+_, _-_}
 use lib.ListN.{length, take, drop}
 use Rattle.definition.specs.Code.{Code, number}
 use Rattle.definition.specs.Res.{Res, bad, ok}
+use Rattle.definition.specs.Read.{Reader}
 use Rattle.cursor.specs.declared.Cursor.{Cursor}
 use Rattle.cursor.specs.declared.Fault.{Fault}
 use Rattle.cursor.specs.declared.ByteStep.{ByteStep}
@@ -66,3 +67,13 @@ EndsBy {A} s p (Refused f) m = Fails s p f m
 
 pub record Ends {A : Type 0} (s : List ℕ) (p : ℕ) (r : Walked) (m : Res (List ℕ) A) : Type 0 where
   pub told : EndsBy s p r m
+
+-- the same of a reader that starts at p
+abbrev pub Takes : List ℕ → ℕ → Step → Reader ℕ → Type 0
+Takes s p r read = Took s p r (read (drop p s))
+
+abbrev pub Cuts : List ℕ → ℕ → ℕ → Walked → Reader (List ℕ) → Type 0
+Cuts s p from r read = Part s p from r (read (drop p s))
+
+abbrev pub Walks : {A : Type 0} → List ℕ → ℕ → Walked → Reader A → Type 0
+Walks s p r read = Ends s p r (read (drop p s))

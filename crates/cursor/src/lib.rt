@@ -2,10 +2,9 @@
 ghost use mathlib.Core.Path.{_≡_};
 ghost use mathlib.Core.List.{List, _∷_};
 ghost use Prim.Native.Nat.{ℕ, _+_, _<_};
-ghost use lib.ListN.{drop};
 ghost use Rattle.definition.specs.Utf8.{behind, characters, wellFormed};
 ghost use Rattle.definition.specs.Read.{byte as byteOf, u16 as u16Of, text as textOf, nameBy, noDot};
-ghost use Rattle.cursor.specs.Ends.{Took, Part, ofByte, ofNumber};
+ghost use Rattle.cursor.specs.Ends.{Takes, Cuts, ofByte, ofNumber};
 ghost use Rattle.cursor.specs.Item.{among as amongOf, tested};
 ghost use Rattle.cursor.specs.Ranges.{ranges};
 
@@ -54,33 +53,73 @@ pub fn lead(b: u8) -> Awaits
     ensures { λ r. ⌜ behind b ≡ ranges r ⌝ }
 {
     if b < 0x80 {
-        return Awaits { left: 0, low: 0x80, high: 0xBF };
+        return Awaits {
+            left: 0,
+            low: 0x80,
+            high: 0xBF,
+        };
     }
     if b < 0xC2 {
-        return Awaits { left: 1, low: 1, high: 0 };
+        return Awaits {
+            left: 1,
+            low: 1,
+            high: 0,
+        };
     }
     if b < 0xE0 {
-        return Awaits { left: 1, low: 0x80, high: 0xBF };
+        return Awaits {
+            left: 1,
+            low: 0x80,
+            high: 0xBF,
+        };
     }
     if b == 0xE0 {
-        return Awaits { left: 2, low: 0xA0, high: 0xBF };
+        return Awaits {
+            left: 2,
+            low: 0xA0,
+            high: 0xBF,
+        };
     }
     if b == 0xED {
-        return Awaits { left: 2, low: 0x80, high: 0x9F };
+        return Awaits {
+            left: 2,
+            low: 0x80,
+            high: 0x9F,
+        };
     }
     if b < 0xF0 {
-        return Awaits { left: 2, low: 0x80, high: 0xBF };
+        return Awaits {
+            left: 2,
+            low: 0x80,
+            high: 0xBF,
+        };
     }
     if b == 0xF0 {
-        return Awaits { left: 3, low: 0x90, high: 0xBF };
+        return Awaits {
+            left: 3,
+            low: 0x90,
+            high: 0xBF,
+        };
     }
     if b < 0xF4 {
-        return Awaits { left: 3, low: 0x80, high: 0xBF };
+        return Awaits {
+            left: 3,
+            low: 0x80,
+            high: 0xBF,
+        };
     }
     if b == 0xF4 {
-        return Awaits { left: 3, low: 0x80, high: 0x8F };
+        return Awaits {
+            left: 3,
+            low: 0x80,
+            high: 0x8F,
+        };
     }
-    Awaits { left: 1, low: 1, high: 0 }
+    Awaits {
+        left: 1,
+        low: 1,
+        high: 0,
+    }
 }
 
 // One byte further: the first of a character, or one that the character wants.
@@ -92,18 +131,34 @@ pub fn next(a: Awaits, b: u8) -> Awaits
         return lead(b);
     }
     if b < a.low {
-        return Awaits { left: 1, low: 1, high: 0 };
+        return Awaits {
+            left: 1,
+            low: 1,
+            high: 0,
+        };
     }
     if a.high < b {
-        return Awaits { left: 1, low: 1, high: 0 };
+        return Awaits {
+            left: 1,
+            low: 1,
+            high: 0,
+        };
     }
-    Awaits { left: left - 1, low: 0x80, high: 0xBF }
+    Awaits {
+        left: left - 1,
+        low: 0x80,
+        high: 0xBF,
+    }
 }
 
 pub fn utf8(t: &[u8]) -> bool
     ensures { λ r. ⌜ r ≡ wellFormed (now (t .entry)) ⌝ }
 {
-    let mut state = Awaits { left: 0, low: 0x80, high: 0xBF };
+    let mut state = Awaits {
+        left: 0,
+        low: 0x80,
+        high: 0xBF,
+    };
     let mut i = 0;
     while i < t.len() {
         state = next(state, t[i]);
@@ -140,7 +195,7 @@ pub fn is_name(t: &[u8], dots: bool) -> bool
 
 impl Cursor {
     pub fn byte(self, s: &[u8]) -> ByteStep
-        ensures { λ r. ⌜ Took (now (s .entry)) (self .at) (ofByte r) (byteOf (drop (self .at) (now (s .entry)))) ⌝ }
+        ensures { λ r. ⌜ Takes (now (s .entry)) (self .at) (ofByte r) byteOf ⌝ }
     {
         let at = self.at;
         if s.len() <= at {
@@ -151,7 +206,7 @@ impl Cursor {
 
     // A byte from low to high: a kind, a tag or a flag.
     pub fn among(self, s: &[u8], low: u8, high: u8) -> ByteStep
-        ensures { λ r. ⌜ Took (now (s .entry)) (self .at) (ofByte r) (amongOf low high (drop (self .at) (now (s .entry)))) ⌝ }
+        ensures { λ r. ⌜ Takes (now (s .entry)) (self .at) (ofByte r) (amongOf low high) ⌝ }
     {
         let at = self.at;
         match self.byte(s) {
@@ -169,7 +224,7 @@ impl Cursor {
     }
 
     pub fn u16(self, s: &[u8]) -> NumberStep
-        ensures { λ r. ⌜ Took (now (s .entry)) (self .at) (ofNumber r) (u16Of (drop (self .at) (now (s .entry)))) ⌝ }
+        ensures { λ r. ⌜ Takes (now (s .entry)) (self .at) (ofNumber r) u16Of ⌝ }
     {
         let at = self.at;
         if s.len() <= at {
@@ -188,7 +243,7 @@ impl Cursor {
 
     // A text; its bytes are those from two behind the cursor up to the next one.
     pub fn text(self, s: &[u8]) -> Walked
-        ensures { λ r. ⌜ Part (now (s .entry)) (self .at) (self .at + 2) r (textOf (drop (self .at) (now (s .entry)))) ⌝ }
+        ensures { λ r. ⌜ Cuts (now (s .entry)) (self .at) (self .at + 2) r textOf ⌝ }
     {
         let at = self.at;
         match self.u16(s) {
@@ -206,7 +261,7 @@ impl Cursor {
 
     // A name; its bytes are those from one behind the cursor up to the next one.
     pub fn name(self, s: &[u8], dots: bool) -> Walked
-        ensures { λ r. ⌜ Part (now (s .entry)) (self .at) (self .at + 1) r (nameBy (tested dots) (drop (self .at) (now (s .entry)))) ⌝ }
+        ensures { λ r. ⌜ Cuts (now (s .entry)) (self .at) (self .at + 1) r (nameBy (tested dots)) ⌝ }
     {
         let at = self.at;
         if s.len() <= at {

@@ -5,12 +5,9 @@ use cursor::Fault;
 use cursor::NumberStep;
 use cursor::Walked;
 ghost use mathlib.Core.Path.{_≡_};
-ghost use mathlib.Core.Bool.{true, false};
-ghost use Prim.Native.Nat.{ℕ, _+_};
-ghost use lib.ListN.{length, drop};
-ghost use Rattle.definition.specs.Read.{combinator as combinatorOf, arg, items as itemsOf, fields as fieldsOf, cases as casesOf, inners, namesBy, len, selector as selectorOf, label as labelOf, params as paramsOf, definition as definitionOf, Tag, isStruct, isWrap, isChoice, isArray, isMacroInvocation, isInvocation, Reader};
+ghost use Rattle.definition.specs.Read.{combinator as combinatorOf, arg, items as itemsOf, fields as fieldsOf, cases as casesOf, inners, namesBy, len, selector as selectorOf, label as labelOf, params as paramsOf, definition as definitionOf, isStruct, isWrap, isChoice, isArray, isMacroInvocation, isInvocation, Reader};
 ghost use Rattle.definition.specs.Tree.{Combinator, Inner, isFormat, isConstant, isMacro};
-ghost use Rattle.cursor.specs.Ends.{Ends};
+ghost use Rattle.cursor.specs.Ends.{Walks};
 ghost use Rattle.cursor.specs.Item.{tested};
 ghost use Rattle.reader.specs.Rows.{counted, Leads, tagOf, caseKindOf, itemsAt};
 ghost use Rattle.reader.specs.Verdict.{ofKind, bodyVerdict};
@@ -18,12 +15,12 @@ ghost use Rattle.reader.specs.Verdict.{ofKind, bodyVerdict};
 // What a judgement says: nothing is wrong, or the first fault.
 pub enum Verdict {
     Sound,
-    Unsound(Fault),
+    Refused(Fault),
 }
 
 // A count, and as many names.
 fn names(s: &[u8], c: Cursor, dots: bool) -> Walked
-    ensures { λ r. ⌜ Ends (now (s .entry)) (c .at) r (counted (namesBy (tested dots)) (drop (c .at) (now (s .entry)))) ⌝ }
+    ensures { λ r. ⌜ Walks (now (s .entry)) (c .at) r (counted (namesBy (tested dots))) ⌝ }
 {
     match c.u16(s) {
         NumberStep::NoNumber(f) => Walked::Refused(f),
@@ -48,7 +45,7 @@ fn names(s: &[u8], c: Cursor, dots: bool) -> Walked
 
 // The selector of a choice: none, or a name.
 fn selector(s: &[u8], c: Cursor) -> Walked
-    ensures { λ r. ⌜ Ends (now (s .entry)) (c .at) r (selectorOf (drop (c .at) (now (s .entry)))) ⌝ }
+    ensures { λ r. ⌜ Walks (now (s .entry)) (c .at) r selectorOf ⌝ }
 {
     match c.among(s, 0, 1) {
         ByteStep::NoByte(f) => Walked::Refused(f),
@@ -63,7 +60,7 @@ fn selector(s: &[u8], c: Cursor) -> Walked
 
 // What stands before a case's combinator: a label in Enums, else a text.
 fn label(s: &[u8], c: Cursor, kind: u8) -> Walked
-    ensures { λ r. ⌜ Ends (now (s .entry)) (c .at) r (labelOf (caseKindOf kind) (drop (c .at) (now (s .entry)))) ⌝ }
+    ensures { λ r. ⌜ Walks (now (s .entry)) (c .at) r (labelOf (caseKindOf kind)) ⌝ }
 {
     if kind == 1 {
         return c.name(s, false);
@@ -73,7 +70,7 @@ fn label(s: &[u8], c: Cursor, kind: u8) -> Walked
 
 // A length: root names and a text.
 fn length_past(s: &[u8], c: Cursor) -> Walked
-    ensures { λ r. ⌜ Ends (now (s .entry)) (c .at) r (len (drop (c .at) (now (s .entry)))) ⌝ }
+    ensures { λ r. ⌜ Walks (now (s .entry)) (c .at) r len ⌝ }
 {
     match names(s, c, false) {
         Walked::Refused(f) => Walked::Refused(f),
@@ -83,7 +80,7 @@ fn length_past(s: &[u8], c: Cursor) -> Walked
 
 // A call: a name and arguments.
 fn invocation(s: &[u8], c: Cursor) -> Walked
-    ensures { λ r. ⌜ ((c′ : Reader Combinator) (a : Reader Inner) → Ends (now (s .entry)) (c .at) r (itemsOf c′ a isInvocation (drop (c .at) (now (s .entry))))) ⌝ }
+    ensures { λ r. ⌜ ((c′ : Reader Combinator) (a : Reader Inner) → Walks (now (s .entry)) (c .at) r (itemsOf c′ a isInvocation)) ⌝ }
 {
     match c.name(s, false) {
         Walked::Refused(f) => Walked::Refused(f),
@@ -93,7 +90,7 @@ fn invocation(s: &[u8], c: Cursor) -> Walked
 
 // A combinator, with so many levels left: an inner, and a chain or none.
 pub fn combinator(s: &[u8], c: Cursor, levels: usize) -> Walked
-    ensures { λ r. ⌜ Ends (now (s .entry)) (c .at) r (combinatorOf levels (drop (c .at) (now (s .entry)))) ⌝ }
+    ensures { λ r. ⌜ Walks (now (s .entry)) (c .at) r (combinatorOf levels) ⌝ }
 {
     match inner(s, c, levels) {
         Walked::Refused(f) => Walked::Refused(f),
@@ -111,7 +108,7 @@ pub fn combinator(s: &[u8], c: Cursor, levels: usize) -> Walked
 
 // A tag and its items: an unknown tag is 3 before its level is tested.
 pub fn inner(s: &[u8], c: Cursor, levels: usize) -> Walked
-    ensures { λ r. ⌜ Ends (now (s .entry)) (c .at) r (arg levels (drop (c .at) (now (s .entry)))) ⌝ }
+    ensures { λ r. ⌜ Walks (now (s .entry)) (c .at) r (arg levels) ⌝ }
 {
     let at = c.at;
     match c.among(s, 1, 16) {
@@ -127,7 +124,7 @@ pub fn inner(s: &[u8], c: Cursor, levels: usize) -> Walked
 
 // What stands behind a tag; `levels` are those left for what is inside.
 fn items(s: &[u8], c: Cursor, tag: u8, levels: usize) -> Walked
-    ensures { λ r. ⌜ Ends (now (s .entry)) (c .at) r (itemsAt levels (tagOf tag) (drop (c .at) (now (s .entry)))) ⌝ }
+    ensures { λ r. ⌜ Walks (now (s .entry)) (c .at) r (itemsAt levels (tagOf tag)) ⌝ }
 {
     match tag {
         4 => fields(s, c, levels),
@@ -162,7 +159,7 @@ fn field(s: &[u8], c: Cursor, levels: usize) -> Walked
 
 // A struct: a count, and as many fields.
 fn fields(s: &[u8], c: Cursor, levels: usize) -> Walked
-    ensures { λ r. ⌜ Ends (now (s .entry)) (c .at) r (itemsAt levels isStruct (drop (c .at) (now (s .entry)))) ⌝ }
+    ensures { λ r. ⌜ Walks (now (s .entry)) (c .at) r (itemsAt levels isStruct) ⌝ }
 {
     match c.u16(s) {
         NumberStep::NoNumber(f) => Walked::Refused(f),
@@ -186,7 +183,7 @@ fn fields(s: &[u8], c: Cursor, levels: usize) -> Walked
 }
 
 fn wrap(s: &[u8], c: Cursor, levels: usize) -> Walked
-    ensures { λ r. ⌜ Ends (now (s .entry)) (c .at) r (itemsAt levels isWrap (drop (c .at) (now (s .entry)))) ⌝ }
+    ensures { λ r. ⌜ Walks (now (s .entry)) (c .at) r (itemsAt levels isWrap) ⌝ }
 {
     match c.text(s) {
         Walked::Refused(f) => Walked::Refused(f),
@@ -208,7 +205,7 @@ fn case(s: &[u8], c: Cursor, kind: u8, levels: usize) -> Walked
 
 // A count, and as many cases.
 fn cases(s: &[u8], c: Cursor, kind: u8, levels: usize) -> Walked
-    ensures { λ r. ⌜ Ends (now (s .entry)) (c .at) r (counted (casesOf (combinatorOf levels) (caseKindOf kind)) (drop (c .at) (now (s .entry)))) ⌝ }
+    ensures { λ r. ⌜ Walks (now (s .entry)) (c .at) r (counted (casesOf (combinatorOf levels) (caseKindOf kind))) ⌝ }
 {
     match c.u16(s) {
         NumberStep::NoNumber(f) => Walked::Refused(f),
@@ -232,7 +229,7 @@ fn cases(s: &[u8], c: Cursor, kind: u8, levels: usize) -> Walked
 }
 
 fn choice(s: &[u8], c: Cursor, levels: usize) -> Walked
-    ensures { λ r. ⌜ Ends (now (s .entry)) (c .at) r (itemsAt levels isChoice (drop (c .at) (now (s .entry)))) ⌝ }
+    ensures { λ r. ⌜ Walks (now (s .entry)) (c .at) r (itemsAt levels isChoice) ⌝ }
 {
     match selector(s, c) {
         Walked::Refused(f) => Walked::Refused(f),
@@ -244,7 +241,7 @@ fn choice(s: &[u8], c: Cursor, levels: usize) -> Walked
 }
 
 fn array(s: &[u8], c: Cursor, levels: usize) -> Walked
-    ensures { λ r. ⌜ Ends (now (s .entry)) (c .at) r (itemsAt levels isArray (drop (c .at) (now (s .entry)))) ⌝ }
+    ensures { λ r. ⌜ Walks (now (s .entry)) (c .at) r (itemsAt levels isArray) ⌝ }
 {
     match length_past(s, c) {
         Walked::Refused(f) => Walked::Refused(f),
@@ -254,7 +251,7 @@ fn array(s: &[u8], c: Cursor, levels: usize) -> Walked
 
 // A count, and as many inners.
 fn arguments(s: &[u8], c: Cursor, levels: usize) -> Walked
-    ensures { λ r. ⌜ Ends (now (s .entry)) (c .at) r (counted (inners (arg levels)) (drop (c .at) (now (s .entry)))) ⌝ }
+    ensures { λ r. ⌜ Walks (now (s .entry)) (c .at) r (counted (inners (arg levels))) ⌝ }
 {
     match c.u16(s) {
         NumberStep::NoNumber(f) => Walked::Refused(f),
@@ -279,7 +276,7 @@ fn arguments(s: &[u8], c: Cursor, levels: usize) -> Walked
 
 // A macro call: a name and arguments.
 fn macro_invocation(s: &[u8], c: Cursor, levels: usize) -> Walked
-    ensures { λ r. ⌜ Ends (now (s .entry)) (c .at) r (itemsAt levels isMacroInvocation (drop (c .at) (now (s .entry)))) ⌝ }
+    ensures { λ r. ⌜ Walks (now (s .entry)) (c .at) r (itemsAt levels isMacroInvocation) ⌝ }
 {
     match c.name(s, false) {
         Walked::Refused(f) => Walked::Refused(f),
@@ -299,7 +296,7 @@ fn param(s: &[u8], c: Cursor) -> Walked
 
 // A count, and as many parameters.
 fn params(s: &[u8], c: Cursor) -> Walked
-    ensures { λ r. ⌜ Ends (now (s .entry)) (c .at) r (counted paramsOf (drop (c .at) (now (s .entry)))) ⌝ }
+    ensures { λ r. ⌜ Walks (now (s .entry)) (c .at) r (counted paramsOf) ⌝ }
 {
     match c.u16(s) {
         NumberStep::NoNumber(f) => Walked::Refused(f),
@@ -323,7 +320,7 @@ fn params(s: &[u8], c: Cursor) -> Walked
 }
 
 fn format(s: &[u8], c: Cursor) -> Walked
-    ensures { λ r. ⌜ Ends (now (s .entry)) (c .at) r (definitionOf isFormat (drop (c .at) (now (s .entry)))) ⌝ }
+    ensures { λ r. ⌜ Walks (now (s .entry)) (c .at) r (definitionOf isFormat) ⌝ }
 {
     match c.name(s, false) {
         Walked::Refused(f) => Walked::Refused(f),
@@ -335,7 +332,7 @@ fn format(s: &[u8], c: Cursor) -> Walked
 }
 
 fn constant(s: &[u8], c: Cursor) -> Walked
-    ensures { λ r. ⌜ Ends (now (s .entry)) (c .at) r (definitionOf isConstant (drop (c .at) (now (s .entry)))) ⌝ }
+    ensures { λ r. ⌜ Walks (now (s .entry)) (c .at) r (definitionOf isConstant) ⌝ }
 {
     match c.name(s, false) {
         Walked::Refused(f) => Walked::Refused(f),
@@ -344,7 +341,7 @@ fn constant(s: &[u8], c: Cursor) -> Walked
 }
 
 fn macro_body(s: &[u8], c: Cursor) -> Walked
-    ensures { λ r. ⌜ Ends (now (s .entry)) (c .at) r (definitionOf isMacro (drop (c .at) (now (s .entry)))) ⌝ }
+    ensures { λ r. ⌜ Walks (now (s .entry)) (c .at) r (definitionOf isMacro) ⌝ }
 {
     match c.name(s, false) {
         Walked::Refused(f) => Walked::Refused(f),
@@ -357,7 +354,7 @@ fn macro_body(s: &[u8], c: Cursor) -> Walked
 
 // A definition of a kind, from the cursor on.
 pub fn definition(s: &[u8], c: Cursor, kind: u8) -> Walked
-    ensures { λ r. ⌜ Ends (now (s .entry)) (c .at) r (ofKind kind (drop (c .at) (now (s .entry)))) ⌝ }
+    ensures { λ r. ⌜ Walks (now (s .entry)) (c .at) r (ofKind kind) ⌝ }
 {
     let at = c.at;
     match kind {
@@ -374,17 +371,17 @@ pub fn body(s: &[u8], kind: u8, from: usize, to: usize) -> Verdict
     ensures { λ r. ⌜ r ≡ bodyVerdict kind from to (now (s .entry)) ⌝ }
 {
     if s.len() < to {
-        return Verdict::Unsound(Fault { code: 3, at: from });
+        return Verdict::Refused(Fault { code: 3, at: from });
     }
     if to < from {
-        return Verdict::Unsound(Fault { code: 3, at: from });
+        return Verdict::Refused(Fault { code: 3, at: from });
     }
     match definition(&s[..to], Cursor { at: from }, kind) {
-        Walked::Refused(f) => Verdict::Unsound(f),
+        Walked::Refused(f) => Verdict::Refused(f),
         Walked::Past(c) => {
             let end = c.at;
             if end < to {
-                return Verdict::Unsound(Fault { code: 3, at: end });
+                return Verdict::Refused(Fault { code: 3, at: end });
             }
             Verdict::Sound
         }
