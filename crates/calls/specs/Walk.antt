@@ -167,3 +167,9 @@ argumentsAt k s w m = many (argumentAt k s) s w m
 
 abbrev pub macroAt : ℕ → List ℕ → ℕ → Step
 macroAt k s at w m = macroBy (argumentAt k s) s at w m
+
+-- an inner, gone over with nothing recorded
+unfoldable pub skipAt : ℕ → List ℕ → Step
+skipAt k s w m =
+    let g = innerAt k s (silent w (w .at) (length m + 1)) m in
+    (back w (g .0), g .1)
