@@ -1,7 +1,8 @@
+mod Bools
 pub mod Splits
 pub mod Written
 pub mod Expanded
-pub mod Level
-pub mod Steps
-pub mod Over
+mod Level
+mod Steps
+mod Over
 pub mod Link

@@ -3,7 +3,7 @@
 use mathlib.Core.List.{List, [], _∷_, _++_, append-nil}
 use mathlib.Core.Bool.{Bool, _&&_}
 use mathlib.Core.Path.{_≡_, refl, sym, ap, _∙_}
-use Prim.Native.Nat.{ℕ, zero, suc, _+_, _-_, _≤_, min, max}
+use Prim.Native.Nat.{ℕ, zero, suc, _+_, _-_, _≤_, min}
 use native.Mathlib.Nat.{not-suc-le-zero}
 use native.Mathlib.Omega.{arith}
 use lib.ListN.{length}
@@ -14,17 +14,17 @@ use Rattle.definition.specs.Collect.{bytesOrTail}
 use Rattle.definition.specs.Bodies.{chainsOk, chainsOkI, chainsOkF, chainsOkC}
 use Rattle.seek.specs.At.{byteAt, pastAt, namePast, textPast, lengthPast}
 use Rattle.seek.specs.Here.{Here}
-use Rattle.seek.proofs.Here.{place, byte-here, next-here, number-past, name-here, text-here, len-here}
-use Rattle.writer.specs.Buf.{put, Wrote}
+use Rattle.seek.proofs.Here.{place, next-here, number-past, name-here, text-here, len-here}
 use Rattle.writer.proofs.Put.{put-past}
 use Rattle.writer.proofs.Wrote.{place-is, place-fits}
 use Rattle.calls.specs.declared.Walk.{Walk}
 use Rattle.calls.specs.Walk.{walk, moved, entered, silent, back, State, callAt, selectorPast, labelPast, times, fieldAt, caseBy, caseAt, wrapBy, arrayBy, macroBy, combinatorAt, argumentAt, innerAt, skipAt}
-use Rattle.calls.specs.Pieces.{Piece, raw, call, macro-call, pieces, piecesI, piecesF, piecesC, places}
+use Rattle.calls.specs.Pieces.{Piece, call, macro-call, pieces, piecesI, piecesF, piecesC, places}
 use Rattle.calls.specs.Walked.{Walked, Skipped}
+use Rattle.calls.proofs.Bools.{and-assoc}
 use Rattle.calls.proofs.Splits.{s-name, s-text, s-len, s-selector, s-label, s-comb, s-inner}
 use Rattle.calls.proofs.Steps.{selector-here, label-here, call-here, stands, many-is, field-is, const-is, choice-is, inner-4, inner-5, inner-7, inner-8, inner-9, inner-10, inner-12, inner-15, inner-16, inner-leaf, chained-is, tail-plain, tail-chain, combinator-suc, argument-suc, times-zero, times-suc}
-use Rattle.calls.proofs.Over.{and-assoc, deepest, Over, stay, skip, enter, shut, up, chain, then, mark}
+use Rattle.calls.proofs.Over.{deepest, Over, stay, skip, enter, shut, up, chain, then, mark}
 
 call-pair : (n : Name) (a : List Name) (p : ℕ) (ps : List Piece) → places p (call n a ∷ ps) ≡ p ∷ (p + length (wInner (invocation n a) [])) ∷ places (p + length (wInner (invocation n a) [])) ps
 unfolding places

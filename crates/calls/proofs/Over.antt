@@ -1,37 +1,23 @@
 -- A walk over some pieces, and such walks one after the other.
 -- Assumes nothing.
 use mathlib.Core.List.{List, [], _∷_, _++_, append-assoc}
-use mathlib.Core.Bool.{Bool, true, false, _&&_}
+use mathlib.Core.Bool.{Bool, true, _&&_}
 use mathlib.Core.Path.{_≡_, refl, sym, ap, _∙_}
-use Prim.Native.Nat.{ℕ, zero, suc, _+_, _-_, _%_, _≤_, min, max}
+use Prim.Native.Nat.{ℕ, suc, _+_, _-_, _%_, _≤_, min, max}
 use native.Mathlib.Omega.{arith}
 use lib.ListN.{length}
-use Rattle.definition.specs.Tree.{Name, Inner, invocation, macro-invocation, Inners}
+use Rattle.definition.specs.Tree.{Inner}
 use Rattle.definition.specs.Write.{wInner}
 use Rattle.seek.specs.Here.{Here}
-use Rattle.seek.proofs.Here.{place, here-length}
-use Rattle.writer.specs.Buf.{put, after, Wrote}
-use Rattle.writer.proofs.Put.{put-nil, put-past}
+use Rattle.seek.proofs.Here.{place}
+use Rattle.writer.specs.Buf.{after, Wrote}
+use Rattle.writer.proofs.Put.{put-nil}
 use Rattle.writer.proofs.Wrote.{glue, place-is, same-length}
 use Rattle.calls.specs.declared.Walk.{Walk}
 use Rattle.calls.specs.Walk.{walk, moved, entered, State, pairOf, markAt}
-use Rattle.calls.specs.Pieces.{Piece, raw, call, macro-call, places}
+use Rattle.calls.specs.Pieces.{Piece, raw, places}
 use Rattle.calls.proofs.Splits.{s-inner}
-
-pub and-assoc : (x y z : Bool) → (x && y) && z ≡ x && (y && z)
-and-assoc true y z = refl
-and-assoc false y z = refl
-
-and-true : (b : Bool) → b ≡ b && true
-and-true true = refl
-and-true false = refl
-
-and-turn : (x y z : Bool) → (x && y) && z ≡ x && (z && y)
-and-turn true true true = refl
-and-turn true true false = refl
-and-turn true false true = refl
-and-turn true false false = refl
-and-turn false y z = refl
+use Rattle.calls.proofs.Bools.{and-true, and-comm, and-assoc}
 
 max-sub : (k d d′ : ℕ) → min (k - d) (k - d′) ≡ k - max d d′
 max-sub k d d′ = omega arith
@@ -60,7 +46,7 @@ pub record Over (s : List ℕ) (k : ℕ) (f : List Piece → List Piece) (d : �
 module _ {s : List ℕ} {k : ℕ} where
   -- nothing
   pub stay : {z : List ℕ} {w : Walk} {m : List ℕ} → Here s (w .at) z → w .left ≤ k → Over s k (λ ps. ps) 0 true z w m (w, m)
-  stay {z} {w} {m} h l = record { rest = h; left = omega arith; plain = and-true (w .plain); found = []; marks = λ b. wrote-none m (w .n) b; splits = λ ps. refl }
+  stay {z} {w} {m} h l = record { rest = h; left = omega arith; plain = sym (and-true (w .plain)); found = []; marks = λ b. wrote-none m (w .n) b; splits = λ ps. refl }
 
   module _ {f : List Piece → List Piece} {d : ℕ} {ok : Bool} {z : List ℕ} {w : Walk} {m : List ℕ} {g : State} where
     -- bytes in front
@@ -79,7 +65,7 @@ module _ {s : List ℕ} {k : ℕ} where
 
     -- a chain that stands on what was gone over
     pub chain : (b : Bool) → Over s k f d ok z w m g → Over s k f d (b && ok) z w m (walk (g .0 .at) (g .0 .n) (g .0 .left) (g .0 .plain && b), g .1)
-    chain b o = record { rest = o .rest; left = o .left; plain = rw (o .plain) (and-turn (w .plain) ok b); found = o .found; marks = o .marks; splits = o .splits }
+    chain b o = record { rest = o .rest; left = o .left; plain = rw (o .plain) (and-assoc (w .plain) ok b ∙ ap (λ (x : Bool). w .plain && x) (and-comm ok b)); found = o .found; marks = o .marks; splits = o .splits }
 
     -- one walk after the other
     pub then : {f′ : List Piece → List Piece} {d′ : ℕ} {ok′ : Bool} {y : List ℕ} {g′ : State} → Over s k f d ok z w m g → Over s k f′ d′ ok′ y (g .0) (g .1) g′ → Over s k (λ ps. f (f′ ps)) (max d d′) (ok && ok′) y w m g′
@@ -112,7 +98,7 @@ module _ {s : List ℕ} {k : ℕ} where
         record {
           rest = q;
           left = l;
-          plain = pl ∙ and-true (w .plain);
+          plain = pl ∙ sym (and-true (w .plain));
           found = pairOf (w .at) e;
           marks = λ t. rw n (record { place = refl; holds = refl });
           splits = λ ps. pair (w .at) ps ∙ rw (a, b, c);

@@ -1,19 +1,18 @@
 -- One step of the walk, where it is known what stands at its place.
 -- Assumes nothing.
-use mathlib.Core.List.{List, [], _∷_, _++_}
+use mathlib.Core.List.{List, _∷_}
 use mathlib.Core.Bool.{Bool, true, false, _&&_}
-use mathlib.Core.Path.{_≡_, refl, sym, ap, _∙_}
-use Prim.Native.Nat.{ℕ, zero, suc, _+_}
-use lib.Dec.{eqb}
-use lib.ListN.{length}
-use Rattle.definition.specs.Tree.{Name, Leaf, constraint-int, constraint-enum, bits, enum, tail, nothing, never, Len, Shell, wrap, vec, option, array, Selector, none, by, CaseKind, enums, ints, arrays, FieldKind, ordinary, dependent, Combinator, Inner, leaf, struct, choice, shell, bytes, invocation, macro-invocation}
-use Rattle.definition.specs.Write.{wU16, wName, wText, wList, wLen, wSelector, caseByte, wLabel, leafTag, fieldByte, wOpen, wShut, wCombinator, wInner}
+use mathlib.Core.Path.{_≡_, refl}
+use Prim.Native.Nat.{ℕ, suc}
+use Rattle.definition.specs.Tree.{Name, Leaf, constraint-int, constraint-enum, bits, enum, tail, nothing, never, wrap, vec, option, array, Selector, none, by, CaseKind, enums, ints, arrays, FieldKind, ordinary, dependent, Inner, leaf, struct, choice, shell, bytes, invocation, macro-invocation}
+use Rattle.definition.specs.Write.{wU16, wName, wList, wSelector, caseByte, wLabel, leafTag, fieldByte, wOpen, wInner}
 use Rattle.definition.specs.Collect.{bytesOrTail, isTail}
-use Rattle.seek.specs.At.{byteAt, pastAt, numberAt, namePast, textPast, namesPast, lengthPast}
+use Rattle.seek.specs.At.{byteAt, pastAt, namePast, textPast, lengthPast}
 use Rattle.seek.specs.Here.{Here}
-use Rattle.seek.proofs.Here.{byte-here, next-here, number-here, number-past, name-here, text-here, list-here, len-here}
+use Rattle.seek.proofs.Here.{byte-here, next-here, number-here, name-here, text-here, list-here}
 use Rattle.calls.specs.declared.Walk.{Walk}
-use Rattle.calls.specs.Walk.{pick, walk, moved, entered, silent, back, standsOn, chainedTo, State, Step, markAt, textOrLength, selectorPast, labelPast, callPast, callAt, times, many, fieldBy, wrapBy, caseBy, choiceBy, arrayBy, macroBy, innerBy, tailBy, combinatorBy, argumentBy, combinatorAt, argumentAt, innerAt}
+use Rattle.calls.specs.Walk.{walk, moved, entered, standsOn, chainedTo, State, Step, textOrLength, selectorPast, labelPast, callPast, callAt, times, many, fieldBy, wrapBy, caseBy, choiceBy, arrayBy, macroBy, innerBy, tailBy, combinatorBy, argumentBy, combinatorAt, argumentAt, innerAt}
+use Rattle.calls.proofs.Bools.{and-true, and-false}
 
 module _ {s : List ℕ} {p : ℕ} where
   pub selector-here : (x : Selector) {z : List ℕ} → Here s p (wSelector x z) → Here s (selectorPast s p) z
@@ -121,14 +120,6 @@ module _ (s : List ℕ) (w : Walk) (m : List ℕ) where
       inner-leaf tail z h = rw (byte-here h)
       inner-leaf nothing z h = rw (byte-here h)
       inner-leaf never z h = rw (byte-here h)
-
-and-true : (b : Bool) → b && true ≡ b
-and-true true = refl
-and-true false = refl
-
-and-false : (b : Bool) → b && false ≡ false
-and-false true = refl
-and-false false = refl
 
 -- the flag of a chain
 pub chained-is : (w : Walk) (tag : ℕ) (b : Bool) → standsOn tag ≡ b → chainedTo w tag ≡ walk (w .at) (w .n) (w .left) (w .plain && b)

@@ -9,11 +9,10 @@ use seek::past;
 use seek::text_past;
 ghost use mathlib.Core.Path.{_≡_};
 ghost use mathlib.Core.List.{[], _∷_};
-ghost use mathlib.Core.Bool.{Bool};
 ghost use Prim.Native.Nat.{_+_, min};
 ghost use lib.ListN.{length};
 ghost use Rattle.writer.specs.Buf.{Wrote};
-ghost use Rattle.calls.specs.Walk.{moved, entered, standsOn, chainedTo, silent, back, callPast, textOrLength, selectorPast, labelPast, markAt, callAt, combinatorAt, innerAt, fieldsAt, fieldAt, wrapAt, choiceAt, casesAt, caseAt, arrayAt, macroAt, argumentsAt, argumentAt, skipAt};
+ghost use Rattle.calls.specs.Walk.{moved, entered, standsOn, chainedTo, silent, back, textOrLength, selectorPast, labelPast, markAt, callAt, combinatorAt, innerAt, fieldsAt, fieldAt, wrapAt, choiceAt, casesAt, caseAt, arrayAt, macroAt, argumentsAt, argumentAt, skipAt};
 
 // Where the walk stands: its place, how many numbers are recorded, the fewest levels that were left on the way, and whether
 // every chain so far stands on Bytes or Tail.

@@ -1,3 +1,5 @@
+-- `calls::skip_inner` meets its contract.
+-- Assumes nothing.
 use mathlib.Core.Path.{refl}
 use Rattle.calls.specs.Walk.{skipAt}
 use borrow.Author.Needs.{needs}
