@@ -1,0 +1,159 @@
+// Replays the recorded answers of the Rust, data/ (its page there says how they were made and laid out), and counts for each
+// code the answers that are the recorded ones and those that are not.
+use libc::STDOUT_FILENO;
+use reader::Verdict;
+use seek::byte;
+use seek::number;
+use seek::past;
+ghost use mathlib.Core.Path.{_≡_};
+ghost use Prim.Native.Nat.{_≤_};
+ghost use lib.ListN.{length};
+
+// How many answers were right and wrong, by code.
+pub struct Tally {
+    pub right: [u64; 16],
+    pub wrong: [u64; 16],
+}
+
+// A record: where its book stands, the code of `elaborate`, and the next record.
+pub struct Case {
+    pub from: usize,
+    pub to: usize,
+    pub code: u8,
+    pub next: usize,
+}
+
+// The bytes from a place up to another, as far as there are any.
+fn part(s: &[u8], from: usize, to: usize) -> &[u8] {
+    if s.len() < to {
+        return &s[..0];
+    }
+    if to < from {
+        return &s[..0];
+    }
+    &s[from..to]
+}
+
+// Behind bytes that are recorded like this: where they are, u32 length (no book has more than two bytes' worth), and the bytes if they
+// follow.
+fn recorded_past(s: &[u8], at: usize) -> usize {
+    let elsewhere = byte(s, at);
+    let length_at = past(s, at, 1);
+    let n = number(s, length_at) as usize;
+    let bytes_at = past(s, length_at, 4);
+    if elsewhere == 0 {
+        return past(s, bytes_at, n);
+    }
+    bytes_at
+}
+
+fn case_at(s: &[u8], at: usize) -> Case {
+    let n = number(s, at) as usize;
+    let from = past(s, at, 2);
+    let to = past(s, from, n);
+    let code = byte(s, to);
+    let result_at = past(s, to, 5);
+    let premise_at = recorded_past(s, result_at);
+    let expanded_at = past(s, premise_at, 2);
+    let next = recorded_past(s, expanded_at);
+    Case {
+        from,
+        to,
+        code,
+        next,
+    }
+}
+
+// Whether reading gives this book the recorded code; a book that is refused later reads without fault.
+fn reads_as(book: &[u8], code: u8) -> bool {
+    if code == 2 {
+        return 16384 < book.len();
+    }
+    let found = match book::read(book) {
+        Verdict::Sound => 0,
+        Verdict::Refused(f) => f.code,
+    };
+    if code < 6 {
+        return found == code;
+    }
+    found == 0
+}
+
+fn counted(t: Tally, code: u8, good: bool) -> Tally {
+    let mut u = t;
+    if 16 <= code {
+        return u;
+    }
+    let i = code as usize;
+    if good {
+        u.right[i] = std::num::wrapping_add_u64(u.right[i], 1);
+    } else {
+        u.wrong[i] = std::num::wrapping_add_u64(u.wrong[i], 1);
+    }
+    u
+}
+
+// All records of one file.
+fn replay(s: &[u8], t: Tally) -> Tally {
+    let n = number(s, 0);
+    let mut u = t;
+    let mut at = past(s, 0, 2);
+    let mut left = n;
+    while 0 < left {
+        let c = case_at(s, at);
+        let code = c.code;
+        let good = reads_as(part(s, c.from, c.to), code);
+        u = counted(u, code, good);
+        at = c.next;
+        left -= 1;
+    }
+    u
+}
+
+// The `ensures` gives only the length: so no proof ever looks at the list.
+fn buffer() -> [u8; 400000]
+    ensures { λ r. ⌜ 400000 ≡ length r ⌝ }
+{
+    [0; 400000]
+}
+
+fn file(path: &[u8], t: Tally) -> Tally {
+    let fd = os::open_read(path);
+    if fd < 0 {
+        os::fail(path);
+        return t;
+    }
+    let mut s = buffer();
+    let n = io::read_full(fd, &mut s);
+    libc::close(fd);
+    replay(&s[..n], t)
+}
+
+fn print(code: u8, right: u64, wrong: u64) {
+    io::write_all(STDOUT_FILENO, b"reading, code ");
+    io::print_decimal(STDOUT_FILENO, code as u64);
+    io::write_all(STDOUT_FILENO, b": ");
+    io::print_decimal(STDOUT_FILENO, right);
+    io::write_all(STDOUT_FILENO, b" as recorded, ");
+    io::print_decimal(STDOUT_FILENO, wrong);
+    io::write_all(STDOUT_FILENO, b" different\n");
+}
+
+fn main() {
+    let mut t = Tally {
+        right: [0; 16],
+        wrong: [0; 16],
+    };
+    t = file(b"cases-0.bin", t);
+    t = file(b"cases-1.bin", t);
+    t = file(b"cases-2.bin", t);
+    t = file(b"cases-3.bin", t);
+    // 1 speaks of the work area: no record has it
+    print(0, t.right[0], t.wrong[0]);
+    let mut code: u8 = 2;
+    while code < 11 {
+        let i = code as usize;
+        print(code, t.right[i], t.wrong[i]);
+        code += 1;
+    }
+}
