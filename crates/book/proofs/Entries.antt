@@ -174,6 +174,7 @@ module _ (s : List ℕ) (p want more : ℕ) where
                 told = record {
                   value = value s p want more h (k .0) (k .1);
                   gives = rw u (at-ok s p want more h (k .0) (k .1) (rw (eq-eqb (getD s (p + 1) 0) 0 b, eq-eqb (offset s p) want (sym e ∙ w), ← z, le-leb (want + n) (length s) f)));
+                  byte = refl;
                   kinded = k .1;
                   sized = ap (λ x. want + x) z;
                   fits = f;

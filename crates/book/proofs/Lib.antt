@@ -2,3 +2,4 @@ pub mod Entries
 pub mod Rows
 pub mod Going
 pub mod Whole
+pub mod Only

@@ -20,6 +20,7 @@ use Rattle.book.specs.declared.EntryStep.the-variants.{Entry as Found-en
 -- an entry that was read: its kind's byte, where its body ends, and where it ends itself
 pub record Told (s : List ℕ) (p want width : ℕ) (kind end : ℕ) (c : Cursor) (m : Res (List ℕ) Entry) : Type 0 where
   pub value : Entry
+  pub byte : kind ≡ getD s p 0
   pub gives : m ≡ ok value (drop (c .at) s)
   pub kinded : getD kinds kind absent ≡ just (value .kind)
   pub sized : end ≡ want + value .size
