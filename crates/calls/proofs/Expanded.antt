@@ -13,7 +13,7 @@ use Rattle.definition.specs.Out.{Out, refused, done, _>>=_, given}
 use Rattle.definition.specs.Names.{eqName}
 use Rattle.definition.specs.Size.{size, levels}
 use Rattle.definition.specs.Macros.{Macro, subst, limited, instance, innerOf, expandBy, expandMacro, expand, expandI, expandF, expandC}
-use Rattle.calls.specs.Pieces.{Piece, raw, pieces, piecesI, piecesF, piecesC, expanded}
+use Rattle.calls.specs.Pieces.{Piece, raw, pieces, piecesI, piecesF, piecesC, rewritten, expanded}
 use Rattle.calls.proofs.Splits.{s-name, s-text, s-len, s-selector, s-label, s-open, s-shut}
 
 -- a value, or code 6
@@ -162,7 +162,7 @@ chain (done j) (done d) (done r) g h = refl
 
 module _ (ms : List Macro) where
   mutual
-    unfolding wU16 wCombinator pieces expanded expand
+    unfolding wU16 wCombinator pieces rewritten expand
 
     pub expanded-is : (c : Combinator) (ps : List Piece) (r : List ℕ) → expanded ms (pieces c ps) r ≡ onto wCombinator (expand c ms) (expanded ms ps r)
     expanded-is (plain i) ps r = expanded-isI i (raw (0 ∷ []) ∷ ps) r ∙ single (expandI i ms) (expanded ms ps r)
@@ -207,5 +207,5 @@ module _ (ms : List Macro) where
 
   -- a whole combinator
   pub expansion : (c : Combinator) (r : List ℕ) → expanded ms (pieces c []) r ≡ (expand c ms >>= λ d. done (wCombinator d r))
-  unfolding expanded
+  unfolding rewritten
   expansion c r = expanded-is c [] r

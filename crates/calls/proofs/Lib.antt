@@ -6,3 +6,4 @@ mod Level
 mod Steps
 mod Over
 pub mod Link
+pub mod Spliced

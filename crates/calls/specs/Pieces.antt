@@ -57,19 +57,24 @@ written f (macro-call n a ∷ ps) r = wInner (macro-invocation n a) (written f p
 abbrev pub replaced : Name → Inner → Name → List Name → Inner
 replaced p a n xs = same a (invocation n xs) (eqName n p)
 
--- macro rule 3: "A known invocation is replaced by the macro body's inner."
-unfoldable pub expanded : List Macro → List Piece → List ℕ → Out (List ℕ)
-expanded ms [] r = done r
-expanded ms (raw b ∷ ps) r = do
-  t ← expanded ms ps r
+-- the same where an inner may be refused
+unfoldable pub rewritten : (Name → List Name → Out Inner) → (Name → Inners → Out Inner) → List Piece → List ℕ → Out (List ℕ)
+rewritten f g [] r = done r
+rewritten f g (raw b ∷ ps) r = do
+  t ← rewritten f g ps r
   done (b ++ t)
-expanded ms (call n a ∷ ps) r = do
-  t ← expanded ms ps r
-  done (wInner (invocation n a) t)
-expanded ms (macro-call n a ∷ ps) r = do
-  i ← expandMacro ms n a
-  t ← expanded ms ps r
+rewritten f g (call n a ∷ ps) r = do
+  i ← f n a
+  t ← rewritten f g ps r
   done (wInner i t)
+rewritten f g (macro-call n a ∷ ps) r = do
+  i ← g n a
+  t ← rewritten f g ps r
+  done (wInner i t)
+
+-- macro rule 3: "A known invocation is replaced by the macro body's inner."
+abbrev pub expanded : List Macro → List Piece → List ℕ → Out (List ℕ)
+expanded ms ps r = rewritten (λ n a. done (invocation n a)) (expandMacro ms) ps r
 
 -- every called name passes a test
 unfoldable pub every : (Name → Bool) → List Piece → Bool

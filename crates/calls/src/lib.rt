@@ -354,6 +354,6 @@ pub fn skip_inner(s: &[u8], w: Walk, levels: usize, marks: &mut [u16]) -> Walk
 {
     let at = w.at;
     let v = silent(w, at, marks.len() + 1);
-    let u = inner(s, v, levels, marks);
-    back(w, u)
+    let r = inner(s, v, levels, marks);
+    back(w, r)
 }

@@ -29,6 +29,9 @@ past-here {s} {p} b {z} h =
       reach = omega arith;
     }
 
+pub behind : {s : List ℕ} {p : ℕ} (b : List ℕ) {z : List ℕ} → Here s p (b ++ z) → Here s (p + length b) z
+behind b h = let q = past-here b h in rw (← (place b h q)) q
+
 module _ {s : List ℕ} {p : ℕ} where
   pub byte-here : {x : ℕ} {z : List ℕ} → Here s p (x ∷ z) → byteAt s p ≡ x
   unfolding byteAt
