@@ -16,7 +16,7 @@ fn main() {
         println!("cargo:rerun-if-changed={}", source.display());
         let rattle = fs::read_to_string(&source)
             .unwrap_or_else(|e| panic!("the Rattle source of crate {name} can't be read: {e}"));
-        text += &format!("pub mod {name} {{\n{}}}\n", rust(&rattle));
+        text += &format!("pub mod {name} {{\nuse super::*;\n{}}}\n", rust(&rattle));
     }
     fs::write(out, text).unwrap();
 }
