@@ -267,3 +267,7 @@ module _ (s : List ℕ) (short : length s ≤ 65535) where
       let o = still (overI i k h (silent w (w .at) (length m + 1)) m z e) (omega arith) in
       let e′ : Here s (w .at) (wInner i [] ++ z) = rw (← (s-inner i [] z)) e in
       record { place = place (wInner i []) e′ (o .rest); rest = o .rest; deep = o .left; chains = refl; count = refl; marks = o .same }
+
+-- how deep it is, told by a walk that began with all its levels left
+pub measured : {s : List ℕ} {c : Combinator} {k : ℕ} {z : List ℕ} {w : Walk} {m : List ℕ} {g : Walk} {l : List ℕ} → Walked s c k z w m g l → w .left ≡ k → levels c ≤ k → k - g .left ≡ levels c
+measured v e h = omega (arith, v .deep)
