@@ -3,12 +3,12 @@
 -- Assumes nothing.
 use mathlib.Core.List.{List}
 use mathlib.Core.Bool.{Bool, true, false}
-use Prim.Native.Nat.{ℕ, suc, _+_, _≤_, max}
+use Prim.Native.Nat.{ℕ, _+_, _≤_}
 use native.Mathlib.Omega.{arith}
 use Rattle.definition.specs.Tree.{Name, Combinator, plain, chained, Inner, leaf, struct, choice, shell, bytes, invocation, macro-invocation, Fields, no-field, field, const, Cases, no-case, case, Inners}
 use Rattle.definition.specs.Size.{levels, levelsI, levelsF, levelsC, levelsA}
 use Rattle.definition.specs.Names.{eqName}
-use Rattle.definition.specs.Out.{Out, refused, done, _>>=_}
+use Rattle.definition.specs.Out.{done, _>>=_}
 use Rattle.definition.specs.Macros.{Macro, same, subst, substI, substF, substC, expandMacro, expand, expandI, expandF, expandC}
 use Rattle.calls.proofs.Expanded.{All, then}
 

@@ -1,12 +1,12 @@
 -- How much room the marks of a combinator take: half as many numbers as it has bytes are enough.
 -- Assumes nothing.
 use mathlib.Core.Path.{_≡_, ap, _∙_}
-use mathlib.Core.List.{List, [], _∷_, _++_}
-use Prim.Native.Nat.{ℕ, suc, _+_, _*_, _≤_}
+use mathlib.Core.List.{List, [], _∷_}
+use Prim.Native.Nat.{ℕ, _+_, _*_, _≤_}
 use native.Mathlib.Omega.{arith}
 use lib.ListN.{length, length-append}
 use Rattle.definition.specs.Tree.{Name, Combinator, Inner, invocation, macro-invocation, Inners}
-use Rattle.definition.specs.Write.{wU16, wName, wList, wCombinator, wInner}
+use Rattle.definition.specs.Write.{wU16, wName, wList, wInner}
 use Rattle.definition.specs.Size.{size}
 use Rattle.calls.specs.Pieces.{Piece, raw, call, macro-call, pieces, places, written}
 use Rattle.calls.proofs.Splits.{s-inner}

@@ -5,13 +5,9 @@ use mathlib.Core.Bool.{Bool, true, false}
 use Prim.Native.Nat.{ℕ, zero, suc, _+_, _%_, min}
 use lib.Dec.{eqb}
 use lib.ListN.{length}
-use Rattle.seek.specs.At.{byteAt, pastAt, numberAt, namePast, textPast, namesPast, lengthPast}
+use Rattle.seek.specs.At.{byteAt, pastAt, numberAt, namePast, textPast, listPast, lengthPast, selectorPast, labelPast, pick}
 use Rattle.writer.specs.Buf.{put, after}
 use Rattle.calls.specs.declared.Walk.{Walk}
-
-abbrev pub pick : {A : Type 0} → Bool → A → A → A
-pick true a b = a
-pick false a b = b
 
 abbrev pub walk : ℕ → ℕ → ℕ → Bool → Walk
 walk at n left plain = record { at = at; n = n; left = left; plain = plain }
@@ -51,18 +47,8 @@ markAt w at end m = (walk end (after m (w .n) (pairOf at end)) (w .left) (w .pla
 unfoldable pub textOrLength : List ℕ → ℕ → ℕ → ℕ
 textOrLength s at tag = pick (eqb tag 10) (lengthPast s at) (textPast s at)
 
-unfoldable pub selectorPast : List ℕ → ℕ → ℕ
-selectorPast s at = pick (eqb (byteAt s at) 1) (namePast s (pastAt s at 1)) (pastAt s at 1)
-
-unfoldable pub labelPast : List ℕ → ℕ → ℕ → ℕ
-labelPast s at kind = pick (eqb kind 1) (namePast s at) (textPast s at)
-
--- the place behind a name and as many names as the count behind it says
-unfoldable pub callPast : List ℕ → ℕ → ℕ
-callPast s at = namesPast s (numberAt s (namePast s at)) (pastAt s (namePast s at) 2)
-
 unfoldable pub callAt : List ℕ → Walk → ℕ → List ℕ → State
-callAt s w at m = markAt w at (callPast s (w .at)) m
+callAt s w at m = markAt w at (listPast s (namePast s (w .at))) m
 
 -- a step, so often
 unfoldable pub times : Step → ℕ → Step
