@@ -12,15 +12,19 @@ use Rattle.calls.specs.declared.Walk.{Walk}
 abbrev pub walk : ℕ → ℕ → ℕ → Bool → Walk
 walk at n left plain = record { at = at; n = n; left = left; plain = plain }
 
+-- the same walk at another place
 abbrev pub moved : Walk → ℕ → Walk
 moved w a = walk a (w .n) (w .left) (w .plain)
 
+-- and with so many levels left there
 abbrev pub entered : Walk → ℕ → ℕ → Walk
 entered w a levels = walk a (w .n) (min (w .left) levels) (w .plain)
 
+-- and with another count of marks: one past the end of the row records nothing
 abbrev pub silent : Walk → ℕ → ℕ → Walk
 silent w a n = walk a n (w .left) (w .plain)
 
+-- the walk w behind what u went over with nothing recorded
 abbrev pub back : Walk → Walk → Walk
 back w u = walk (u .at) (w .n) (u .left) (w .plain)
 
@@ -38,12 +42,14 @@ State = Walk × List ℕ
 abbrev pub Step : Type 0
 Step = Walk → List ℕ → State
 
+-- what is recorded of a call: its place and its end, as far as two bytes tell
 abbrev pub pairOf : ℕ → ℕ → List ℕ
 pairOf at end = at % 65536 ∷ end % 65536 ∷ []
 
 unfoldable pub markAt : Walk → ℕ → ℕ → List ℕ → State
 markAt w at end m = (walk end (after m (w .n) (pairOf at end)) (w .left) (w .plain), put m (w .n) (pairOf at end))
 
+-- "10 Bytes: length"; the other inners that hold no combinator: text
 unfoldable pub textOrLength : List ℕ → ℕ → ℕ → ℕ
 textOrLength s at tag = pick (eqb tag 10) (lengthPast s at) (textPast s at)
 
