@@ -75,12 +75,12 @@ module _ (ms : List Macro) where
     growsC (case l c f) = both (expand c ms) (λ d. expandC f ms >>= λ g. done (case l d g)) (grows c) (λ d. both (expandC f ms) (λ g. done (case l d g)) (growsC f) (λ g. tt))
 
 -- what holds of a value, where there is one
-abbrev All : {A : Type 0} → (A → Type 0) → Out A → Type 0
+abbrev pub All : {A : Type 0} → (A → Type 0) → Out A → Type 0
 All P (refused k) = Unit {0}
 All P (done x) = P x
 
 module _ {A B : Type 0} (P : A → Type 0) (Q : B → Type 0) where
-  then : (o : Out A) (f : A → Out B) → All P o → ((x : A) → P x → All Q (f x)) → All Q (o >>= f)
+  pub then : (o : Out A) (f : A → Out B) → All P o → ((x : A) → P x → All Q (f x)) → All Q (o >>= f)
   then (refused k) f h g = tt
   then (done x) f h g = g x h
 

@@ -7,3 +7,5 @@ mod Steps
 mod Over
 pub mod Link
 pub mod Spliced
+pub mod Deeper
+pub mod Room

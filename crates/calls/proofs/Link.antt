@@ -12,18 +12,18 @@ use Rattle.definition.specs.Write.{wU16, wName, wText, wLen, wList, wSelector, 
 use Rattle.definition.specs.Size.{size, levels, levelsI, levelsF, levelsC, levelsA}
 use Rattle.definition.specs.Collect.{bytesOrTail}
 use Rattle.definition.specs.Bodies.{chainsOk, chainsOkI, chainsOkF, chainsOkC}
-use Rattle.seek.specs.At.{byteAt, pastAt, namePast, textPast, lengthPast}
+use Rattle.seek.specs.At.{byteAt, pastAt, namePast, textPast, lengthPast, selectorPast, labelPast}
 use Rattle.seek.specs.Here.{Here}
-use Rattle.seek.proofs.Here.{place, next-here, number-past, name-here, text-here, len-here}
+use Rattle.seek.proofs.Here.{place, next-here, number-past, name-here, text-here, list-here, len-here, selector-here, label-here}
 use Rattle.writer.proofs.Put.{put-past}
 use Rattle.writer.proofs.Wrote.{place-is, place-fits}
 use Rattle.calls.specs.declared.Walk.{Walk}
-use Rattle.calls.specs.Walk.{walk, moved, entered, silent, back, State, callAt, selectorPast, labelPast, times, fieldAt, caseBy, caseAt, wrapBy, arrayBy, macroBy, combinatorAt, argumentAt, innerAt, skipAt}
+use Rattle.calls.specs.Walk.{walk, moved, entered, silent, back, State, callAt, times, fieldAt, caseBy, caseAt, wrapBy, arrayBy, macroBy, combinatorAt, argumentAt, innerAt, skipAt}
 use Rattle.calls.specs.Pieces.{Piece, call, macro-call, pieces, piecesI, piecesF, piecesC, places}
 use Rattle.calls.specs.Walked.{Walked, Skipped}
 use Rattle.calls.proofs.Bools.{and-assoc}
 use Rattle.calls.proofs.Splits.{s-name, s-text, s-len, s-selector, s-label, s-comb, s-inner}
-use Rattle.calls.proofs.Steps.{selector-here, label-here, call-here, stands, many-is, field-is, const-is, choice-is, inner-4, inner-5, inner-7, inner-8, inner-9, inner-10, inner-12, inner-15, inner-16, inner-leaf, chained-is, tail-plain, tail-chain, combinator-suc, argument-suc, times-zero, times-suc}
+use Rattle.calls.proofs.Steps.{stands, many-is, field-is, const-is, choice-is, inner-4, inner-5, inner-7, inner-8, inner-9, inner-10, inner-12, inner-15, inner-16, inner-leaf, chained-is, tail-plain, tail-chain, combinator-suc, argument-suc, times-zero, times-suc}
 use Rattle.calls.proofs.Over.{deepest, Over, stay, skip, enter, shut, up, chain, then, mark}
 
 call-pair : (n : Name) (a : List Name) (p : ℕ) (ps : List Piece) → places p (call n a ∷ ps) ≡ p ∷ (p + length (wInner (invocation n a) [])) ∷ places (p + length (wInner (invocation n a) [])) ps
@@ -200,7 +200,7 @@ module _ (s : List ℕ) (short : length s ≤ 65535) where
   call-walks n a k h w m z e =
       let v = entered w (pastAt s (w .at) 1) k in
       rw (inner-15 s w m (combinatorAt k s) (argumentAt k s) k (wName n (wList wName a z)) e)
-      (mark v (invocation n a) (call n a) (call-pair n a) short e (call-here n a (next-here e)) refl refl (omega arith))
+      (mark v (invocation n a) (call n a) (call-pair n a) short e (list-here a (name-here n (next-here e))) refl refl (omega arith))
 
   macro-walks : (n : Name) (a : Inners) → WalksA s a → WalksI s (macro-invocation n a)
   unfolding wInner piecesI levelsI chainsOkI macroBy
@@ -267,3 +267,7 @@ module _ (s : List ℕ) (short : length s ≤ 65535) where
       let o = still (overI i k h (silent w (w .at) (length m + 1)) m z e) (omega arith) in
       let e′ : Here s (w .at) (wInner i [] ++ z) = rw (← (s-inner i [] z)) e in
       record { place = place (wInner i []) e′ (o .rest); rest = o .rest; deep = o .left; chains = refl; count = refl; marks = o .same }
+
+-- how deep it is, told by a walk that began with all its levels left
+pub measured : {s : List ℕ} {c : Combinator} {k : ℕ} {z : List ℕ} {w : Walk} {m : List ℕ} {g : Walk} {l : List ℕ} → Walked s c k z w m g l → w .left ≡ k → levels c ≤ k → k - g .left ≡ levels c
+measured v e h = omega (arith, v .deep)

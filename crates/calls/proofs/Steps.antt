@@ -4,32 +4,17 @@ use mathlib.Core.List.{List, _∷_}
 use mathlib.Core.Bool.{Bool, true, false, _&&_}
 use mathlib.Core.Path.{_≡_, refl}
 use Prim.Native.Nat.{ℕ, suc}
-use Rattle.definition.specs.Tree.{Name, Leaf, constraint-int, constraint-enum, bits, enum, tail, nothing, never, wrap, vec, option, array, Selector, none, by, CaseKind, enums, ints, arrays, FieldKind, ordinary, dependent, Inner, leaf, struct, choice, shell, bytes, invocation, macro-invocation}
-use Rattle.definition.specs.Write.{wU16, wName, wList, wSelector, caseByte, wLabel, leafTag, fieldByte, wOpen, wInner}
+use Rattle.definition.specs.Tree.{Leaf, constraint-int, constraint-enum, bits, enum, tail, nothing, never, wrap, vec, option, array, Selector, CaseKind, FieldKind, ordinary, dependent, Inner, leaf, struct, choice, shell, bytes, invocation, macro-invocation}
+use Rattle.definition.specs.Write.{wU16, wSelector, caseByte, leafTag, fieldByte, wOpen, wInner}
 use Rattle.definition.specs.Collect.{bytesOrTail, isTail}
-use Rattle.seek.specs.At.{byteAt, pastAt, namePast, textPast, lengthPast}
+use Rattle.seek.specs.At.{byteAt, pastAt, namePast, textPast, lengthPast, selectorPast}
 use Rattle.seek.specs.Here.{Here}
-use Rattle.seek.proofs.Here.{byte-here, next-here, number-here, name-here, text-here, list-here}
+use Rattle.seek.proofs.Here.{byte-here, number-here, selector-here}
 use Rattle.calls.specs.declared.Walk.{Walk}
-use Rattle.calls.specs.Walk.{walk, moved, entered, standsOn, chainedTo, State, Step, textOrLength, selectorPast, labelPast, callPast, callAt, times, many, fieldBy, wrapBy, caseBy, choiceBy, arrayBy, macroBy, innerBy, tailBy, combinatorBy, argumentBy, combinatorAt, argumentAt, innerAt}
+use Rattle.calls.specs.Walk.{walk, moved, entered, standsOn, chainedTo, State, Step, textOrLength, callAt, times, many, fieldBy, wrapBy, caseBy, choiceBy, arrayBy, macroBy, innerBy, tailBy, combinatorBy, argumentBy, combinatorAt, argumentAt, innerAt}
 use Rattle.calls.proofs.Bools.{and-true, and-false}
 
 module _ {s : List ℕ} {p : ℕ} where
-  pub selector-here : (x : Selector) {z : List ℕ} → Here s p (wSelector x z) → Here s (selectorPast s p) z
-  unfolding wSelector selectorPast
-  selector-here none h = rw (byte-here h) (next-here h)
-  selector-here (by n) h = rw (byte-here h) (name-here n (next-here h))
-
-  pub label-here : (k : CaseKind) (l : List ℕ) {z : List ℕ} → Here s p (wLabel k l z) → Here s (labelPast s p (caseByte k)) z
-  unfolding wLabel labelPast caseByte
-  label-here enums l h = name-here l h
-  label-here ints l h = text-here l h
-  label-here arrays l h = text-here l h
-
-  pub call-here : (n : Name) (xs : List Name) {z : List ℕ} → Here s p (wName n (wList wName xs z)) → Here s (callPast s p) z
-  unfolding callPast
-  call-here n xs h = list-here xs (name-here n h)
-
   -- a chain's test looks at the tag
   pub stands : (i : Inner) (z : List ℕ) → Here s p (wInner i z) → standsOn (byteAt s p) ≡ bytesOrTail i
   unfolding standsOn bytesOrTail isTail wInner wOpen leafTag

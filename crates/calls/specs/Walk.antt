@@ -5,26 +5,26 @@ use mathlib.Core.Bool.{Bool, true, false}
 use Prim.Native.Nat.{ℕ, zero, suc, _+_, _%_, min}
 use lib.Dec.{eqb}
 use lib.ListN.{length}
-use Rattle.seek.specs.At.{byteAt, pastAt, numberAt, namePast, textPast, namesPast, lengthPast}
+use Rattle.seek.specs.At.{byteAt, pastAt, numberAt, namePast, textPast, listPast, lengthPast, selectorPast, labelPast, pick}
 use Rattle.writer.specs.Buf.{put, after}
 use Rattle.calls.specs.declared.Walk.{Walk}
-
-abbrev pub pick : {A : Type 0} → Bool → A → A → A
-pick true a b = a
-pick false a b = b
 
 abbrev pub walk : ℕ → ℕ → ℕ → Bool → Walk
 walk at n left plain = record { at = at; n = n; left = left; plain = plain }
 
+-- the same walk at another place
 abbrev pub moved : Walk → ℕ → Walk
 moved w a = walk a (w .n) (w .left) (w .plain)
 
+-- and with so many levels left there
 abbrev pub entered : Walk → ℕ → ℕ → Walk
 entered w a levels = walk a (w .n) (min (w .left) levels) (w .plain)
 
+-- and with another count of marks: one past the end of the row records nothing
 abbrev pub silent : Walk → ℕ → ℕ → Walk
 silent w a n = walk a n (w .left) (w .plain)
 
+-- the walk w behind what u went over with nothing recorded
 abbrev pub back : Walk → Walk → Walk
 back w u = walk (u .at) (w .n) (u .left) (w .plain)
 
@@ -42,27 +42,19 @@ State = Walk × List ℕ
 abbrev pub Step : Type 0
 Step = Walk → List ℕ → State
 
+-- what is recorded of a call: its place and its end, as far as two bytes tell
 abbrev pub pairOf : ℕ → ℕ → List ℕ
 pairOf at end = at % 65536 ∷ end % 65536 ∷ []
 
 unfoldable pub markAt : Walk → ℕ → ℕ → List ℕ → State
 markAt w at end m = (walk end (after m (w .n) (pairOf at end)) (w .left) (w .plain), put m (w .n) (pairOf at end))
 
+-- "10 Bytes: length"; the other inners that hold no combinator: text
 unfoldable pub textOrLength : List ℕ → ℕ → ℕ → ℕ
 textOrLength s at tag = pick (eqb tag 10) (lengthPast s at) (textPast s at)
 
-unfoldable pub selectorPast : List ℕ → ℕ → ℕ
-selectorPast s at = pick (eqb (byteAt s at) 1) (namePast s (pastAt s at 1)) (pastAt s at 1)
-
-unfoldable pub labelPast : List ℕ → ℕ → ℕ → ℕ
-labelPast s at kind = pick (eqb kind 1) (namePast s at) (textPast s at)
-
--- the place behind a name and as many names as the count behind it says
-unfoldable pub callPast : List ℕ → ℕ → ℕ
-callPast s at = namesPast s (numberAt s (namePast s at)) (pastAt s (namePast s at) 2)
-
 unfoldable pub callAt : List ℕ → Walk → ℕ → List ℕ → State
-callAt s w at m = markAt w at (callPast s (w .at)) m
+callAt s w at m = markAt w at (listPast s (namePast s (w .at))) m
 
 -- a step, so often
 unfoldable pub times : Step → ℕ → Step

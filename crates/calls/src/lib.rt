@@ -1,18 +1,20 @@
 // The walker over the calls and chains of a combinator, by position over validated bytes. It goes over all of the combinator in layout order and
 // records where each Invocation and MacroInvocation stands that is at a walked position: not those inside macro arguments.
 use seek::byte;
+use seek::label_past;
 use seek::length_past;
+use seek::list_past;
 use seek::name_past;
-use seek::names_past;
 use seek::number;
 use seek::past;
+use seek::selector_past;
 use seek::text_past;
 ghost use mathlib.Core.Path.{_≡_};
 ghost use mathlib.Core.List.{[], _∷_};
 ghost use Prim.Native.Nat.{_+_, min};
 ghost use lib.ListN.{length};
 ghost use Rattle.writer.specs.Buf.{Wrote};
-ghost use Rattle.calls.specs.Walk.{moved, entered, standsOn, chainedTo, silent, back, textOrLength, selectorPast, labelPast, markAt, callAt, combinatorAt, innerAt, fieldsAt, fieldAt, wrapAt, choiceAt, casesAt, caseAt, arrayAt, macroAt, argumentsAt, argumentAt, skipAt};
+ghost use Rattle.calls.specs.Walk.{moved, entered, standsOn, chainedTo, silent, back, textOrLength, markAt, callAt, combinatorAt, innerAt, fieldsAt, fieldAt, wrapAt, choiceAt, casesAt, caseAt, arrayAt, macroAt, argumentsAt, argumentAt, skipAt};
 
 // Where the walk stands: its place, how many numbers are recorded, the fewest levels that were left on the way, and whether
 // every chain so far stands on Bytes or Tail.
@@ -144,35 +146,13 @@ fn text_or_length(s: &[u8], at: usize, tag: u8) -> usize
     text_past(s, at)
 }
 
-fn selector_past(s: &[u8], at: usize) -> usize
-    ensures { λ r. ⌜ r ≡ selectorPast (now (s .entry)) at ⌝ }
-{
-    let more = byte(s, at);
-    let a = past(s, at, 1);
-    if more == 1 {
-        return name_past(s, a);
-    }
-    a
-}
-
-fn label_past(s: &[u8], at: usize, kind: u8) -> usize
-    ensures { λ r. ⌜ r ≡ labelPast (now (s .entry)) at kind ⌝ }
-{
-    if kind == 1 {
-        return name_past(s, at);
-    }
-    text_past(s, at)
-}
-
 // An Invocation whose tag stands at `at`; the walk stands behind the tag.
 fn call(s: &[u8], w: Walk, at: usize, marks: &mut [u16]) -> Walk
     ensures { λ r. ⌜ (r ≡ callAt (now (s .entry)) w at (now (marks .entry)) .0) × (now (marks .exit) ≡ callAt (now (s .entry)) w at (now (marks .entry)) .1) ⌝ }
 {
     let a = w.at;
     let b = name_past(s, a);
-    let k = number(s, b);
-    let d = past(s, b, 2);
-    let e = names_past(s, d, k);
+    let e = list_past(s, b);
     mark(w, at, e, marks)
 }
 

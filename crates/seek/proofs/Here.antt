@@ -7,9 +7,9 @@ use native.Mathlib.Nat.{add-zero, add-comm, div-add-mod'}
 use native.Mathlib.Omega.{arith}
 use lib.ListN.{length, getD, drop, length-append, length-drop}
 use lib.Seq.{drop-drop, drop-append-seam, getD-drop}
-use Rattle.definition.specs.Tree.{Name, Text, Len}
-use Rattle.definition.specs.Write.{wU16, wName, wText, wAll, wList, wLen}
-use Rattle.seek.specs.At.{byteAt, pastAt, numberAt, namePast, textPast, namesPast, lengthPast}
+use Rattle.definition.specs.Tree.{Name, Text, Len, Selector, none, by, CaseKind, enums, ints, arrays}
+use Rattle.definition.specs.Write.{wU16, wName, wText, wAll, wList, wLen, wSelector, caseByte, wLabel}
+use Rattle.seek.specs.At.{byteAt, pastAt, numberAt, namePast, textPast, namesPast, listPast, lengthPast, selectorPast, labelPast}
 use Rattle.seek.specs.Here.{Here}
 
 pub here-length : {s : List ℕ} {p : ℕ} {l : List ℕ} → Here s p l → p + length l ≡ length s
@@ -63,11 +63,21 @@ unfolding wAll namesPast
 names-here [] h = h
 names-here (n ∷ ns) h = names-here ns (name-here n h)
 
--- a count and as many names
-pub list-here : {s : List ℕ} {p : ℕ} (ns : List Name) {z : List ℕ} → Here s p (wList wName ns z) → Here s (namesPast s (numberAt s p) (pastAt s p 2)) z
-unfolding wList
+pub list-here : {s : List ℕ} {p : ℕ} (ns : List Name) {z : List ℕ} → Here s p (wList wName ns z) → Here s (listPast s p) z
+unfolding wList listPast
 list-here ns {z} h = rw (number-here (length ns) (wAll wName ns z) h) (names-here ns (number-past (length ns) h))
 
 pub len-here : {s : List ℕ} {p : ℕ} (l : Len) {z : List ℕ} → Here s p (wLen l z) → Here s (lengthPast s p) z
 unfolding wLen lengthPast
 len-here l h = text-here (l .text) (list-here (l .roots) h)
+
+pub selector-here : {s : List ℕ} {p : ℕ} (x : Selector) {z : List ℕ} → Here s p (wSelector x z) → Here s (selectorPast s p) z
+unfolding wSelector selectorPast
+selector-here none h = rw (byte-here h) (next-here h)
+selector-here (by n) h = rw (byte-here h) (name-here n (next-here h))
+
+pub label-here : {s : List ℕ} {p : ℕ} (k : CaseKind) (l : List ℕ) {z : List ℕ} → Here s p (wLabel k l z) → Here s (labelPast s p (caseByte k)) z
+unfolding wLabel labelPast caseByte
+label-here enums l h = name-here l h
+label-here ints l h = text-here l h
+label-here arrays l h = text-here l h

@@ -1,6 +1,6 @@
 // Going over validated bytes by position. Every function is total: past the end a byte is 0, and no place lies past the end.
 ghost use mathlib.Core.Path.{_≡_};
-ghost use Rattle.seek.specs.At.{byteAt, pastAt, numberAt, namePast, textPast, namesPast, lengthPast};
+ghost use Rattle.seek.specs.At.{byteAt, pastAt, numberAt, namePast, textPast, namesPast, listPast, lengthPast, selectorPast, labelPast};
 
 // The byte at a place.
 pub fn byte(s: &[u8], at: usize) -> u8
@@ -67,12 +67,41 @@ pub fn names_past(s: &[u8], at: usize, count: u16) -> usize
     here
 }
 
+// The place behind a count and as many names.
+pub fn list_past(s: &[u8], at: usize) -> usize
+    ensures { λ r. ⌜ r ≡ listPast (now (s .entry)) at ⌝ }
+{
+    let n = number(s, at);
+    let first = past(s, at, 2);
+    names_past(s, first, n)
+}
+
 // The place behind a length: a count, as many names and a text.
 pub fn length_past(s: &[u8], at: usize) -> usize
     ensures { λ r. ⌜ r ≡ lengthPast (now (s .entry)) at ⌝ }
 {
-    let n = number(s, at);
-    let first = past(s, at, 2);
-    let end = names_past(s, first, n);
+    let end = list_past(s, at);
     text_past(s, end)
+}
+
+// The place behind a choice's selector: byte 0, or 1 and a name.
+pub fn selector_past(s: &[u8], at: usize) -> usize
+    ensures { λ r. ⌜ r ≡ selectorPast (now (s .entry)) at ⌝ }
+{
+    let more = byte(s, at);
+    let a = past(s, at, 1);
+    if more == 1 {
+        return name_past(s, a);
+    }
+    a
+}
+
+// The place behind what stands before a case's combinator: a label in Enums, else a text.
+pub fn label_past(s: &[u8], at: usize, kind: u8) -> usize
+    ensures { λ r. ⌜ r ≡ labelPast (now (s .entry)) at kind ⌝ }
+{
+    if kind == 1 {
+        return name_past(s, at);
+    }
+    text_past(s, at)
 }

@@ -51,17 +51,17 @@ use Rattle.calls.proofs.back.Reads as back-reads
 use Rattle.calls.proofs.call.Reads as call-reads
 use Rattle.calls.proofs.chained_to.Reads as chained-to-reads
 use Rattle.calls.proofs.entered.Reads as entered-reads
-use Rattle.calls.proofs.label_past.Reads as label-past-reads
 use Rattle.calls.proofs.mark.Reads as mark-reads
 use Rattle.calls.proofs.moved.Reads as moved-reads
-use Rattle.calls.proofs.selector_past.Reads as selector-past-reads
 use Rattle.calls.proofs.silent.Reads as silent-reads
 use Rattle.calls.proofs.text_or_length.Reads as text-or-length-reads
 use Rattle.seek.proofs.byte.Reads as byte-reads
+use Rattle.seek.proofs.label_past.Reads as label-past-reads
 use Rattle.seek.proofs.length_past.Reads as length-past-reads
 use Rattle.seek.proofs.name_past.Reads as name-past-reads
 use Rattle.seek.proofs.number.Reads as number-reads
 use Rattle.seek.proofs.past.Reads as past-reads
+use Rattle.seek.proofs.selector_past.Reads as selector-past-reads
 use Rattle.seek.proofs.text_past.Reads as text-past-reads
 use Rattle.calls.proofs.+argument+arguments+array+case+cases+choice+combinator+field+fields+inner+macro_call+wrap.{
   statement,

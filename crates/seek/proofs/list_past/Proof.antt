@@ -1,0 +1,27 @@
+-- `seek::list_past` meets its contract.
+-- Assumes nothing.
+use Rattle.seek.specs.At.{listPast}
+use borrow.Author.Needs.{needs}
+use Rattle.seek.proofs.list_past.Statement.{statement}
+use Rattle.seek.proofs.list_past.Tie as tie
+use Rattle.seek.proofs.list_past.Reads as reads
+use Rattle.seek.proofs.list_past.Lts as lts
+use Rattle.seek.proofs.names_past.Reads as names-past-reads
+use Rattle.seek.proofs.number.Reads as number-reads
+use Rattle.seek.proofs.past.Reads as past-reads
+
+number-requires : tie.Need-number-requires
+number-requires c κs = search needs
+
+past-requires : tie.Need-past-requires
+past-requires c κs = search needs
+
+names-past-requires : tie.Need-names-past-requires
+names-past-requires c κs = search needs
+
+returns : tie.Need-returns
+unfolding listPast
+returns c = rw (← (c .before .before .number .ensures), ← (c .before .past .ensures)) (c .names-past .ensures)
+
+pub list-past-spec : {M : Type 1} → statement M
+list-past-spec = tie.close (tie.spec number-requires past-requires names-past-requires returns)
