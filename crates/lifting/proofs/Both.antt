@@ -28,3 +28,20 @@ module _ {S A T B : Type 0} {Q : A → S → B → T → Type 0} where
       → (b ≡ true → Both Q (f (tt, s)) (g (tt, t))) → Both Q (require b k s >>= f) (require b k t >>= g)
   ask true k s t f g go = go refl
   ask false k s t f g go = refusals
+
+  pub ask-alike : (b c : Bool) → b ≡ c → (k : Code) (s : S) (t : T) (f : Unit × S → Res S A) (g : Unit × T → Res T B)
+      → Both Q (f (tt, s)) (g (tt, t)) → Both Q (require b k s >>= f) (require c k t >>= g)
+  ask-alike b c e k s t f g go = rw (← e) (ask b k s t f g λ h. go)
+
+-- steps that leave the states as they are
+module _ {S A T B : Type 0} where
+  pub record Still (R : A → B → Type 0) (s : S) (t : T) (a : A) (u : S) (b : B) (v : T) : Type 0 where
+    pub left : u ≡ s
+    pub right : v ≡ t
+    pub holds : R a b
+
+module _ {S A T B A′ B′ : Type 0} {R : A → B → Type 0} {Q : A′ → S → B′ → T → Type 0} {s : S} {t : T} where
+  pub still : {m : Res S A} {n : Res T B} → Both (Still R s t) m n → (f : A × S → Res S A′) (g : B × T → Res T B′)
+      → ((a : A) (b : B) → R a b → Both Q (f (a, s)) (g (b, t))) → Both Q (m >>= f) (n >>= g)
+  still refusals f g go = refusals
+  still (values {a = a} {b = b} h) f g go = rw (h .left, h .right) (go a b (h .holds))

@@ -1,3 +1,4 @@
 pub mod Both
 pub mod Found
 pub mod Ranges
+pub mod Agree
