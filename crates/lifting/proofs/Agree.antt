@@ -219,3 +219,58 @@ module _ (c : Combinator) (p : ℕ) (inside : Walk) (trail : Tracing)
       let n = fresh base (t .taken) in
       ask (leb (length n) 255) _ s t _ _ λ short. ask (not (leftover c)) _ s t _ _ λ clear.
       still (typed-both b env (sorted (free c)) s t w) _ _ λ ps ts q. measured-both n b env s t m w new (leb-true (length n) 255 short) ps ts (q .types))
+
+  -- a child: "An anonymous child is lifted ..; any other child is walked."
+  kid-both : (a : Bool) (base : Name) (b : List Param) (env : List Binder) (s : State) (t : Trace) → Matches s t → Means b env (t .records) → New (lifts c p ++ itself a c p) (t .records)
+      → Both (Makes (λ rs. replaced a (out c p rs) (find rs p)) (lifts c p ++ itself a c p) s t) (childBy full a c inside base b s) (traceBy a c p trail base env t)
+  unfolding childBy traceBy itself replaced
+  kid-both true base b env s t m w new = lift-both base b env s t m w new
+  kid-both false base b env s t m w new = rw (append-nil (lifts c p)) (ih base b env s t m w (rw (append-nil (lifts c p)) at new))
+
+-- "A Dependent field binds its label for the fields after it", "types as they stand after lifting, without chain"
+bind-means : (k : FieldKind) (l : Name) (c : Combinator) (p : ℕ) {b : List Param} {env : List Binder} {ls : List Lift} {s u : State} {t v : Trace} {d : Combinator} → Means b env (t .records)
+    → Did (λ rs. replaced (anonymous c) (out c p rs) (find rs p)) ls s t d u v → Means (bind k l d b) (bindRef k l c p env) (v .records)
+unfolding bind bindRef typeOf
+bind-means ordinary l c p w g = means-on w (g .later)
+bind-means dependent l c p {env = env} w g = record { meant = λ rs h. rw (map-append (paramOf rs) env (record { name = l; ref = passed c p } ∷ []), w .meant rs (later-on (g .later) h), g .body rs h) }
+
+mutual
+  unfolding walk trace out lifts
+
+  pub walk-both : (c : Combinator) (p : ℕ) (n : Name) (b : List Param) (env : List Binder) (s : State) (t : Trace) → Matches s t → Means b env (t .records) → New (lifts c p) (t .records)
+      → Both (Makes (out c p) (lifts c p) s t) (walk full c n b s) (trace c p n env t)
+  walk-both (plain i) p n b env s t m w new = first-then (walkI-both i p n b env s t m w new) _ λ j u x v g. values (one plain g)
+  walk-both (chained i c) p n b env s t m w new =
+      then (kid-both c (chainAt p i) (λ n b s. walk full c n b s) (λ n e t. trace c (chainAt p i) n e t) (λ n b e s t m w z. walk-both c (chainAt p i) n b e s t m w z) (anonymous c) n b env s t m w (new-left _ _ new)) _ _ λ d u x v g.
+      first-then (walkI-both i p n b env u v (g .same) (means-on w (g .later)) (new-right new g (apart (in-rangeK c (chainAt p i)) (in-rangeI i p) (inr (omega arith))))) _ λ j u y v h.
+      values (two (λ d j. chained j d) g h)
+
+  walkI-both : (i : Inner) (p : ℕ) (n : Name) (b : List Param) (env : List Binder) (s : State) (t : Trace) → Matches s t → Means b env (t .records) → New (liftsI i p) (t .records)
+      → Both (Makes (outI i p) (liftsI i p) s t) (walkI full i n b s) (traceI i p n env t)
+  walkI-both (leaf k x) p n b env s t m w new = values (none (leaf k x) m)
+  walkI-both (struct f) p n b env s t m w new = first-then (walkF-both f (fieldsAt p) n b env s t m w new) _ λ g u x v h. values (one struct h)
+  walkI-both (choice x k f) p n b env s t m w new = first-then (walkC-both f k 0 (casesAt p x) n b env s t m w new) _ λ g u y v h. values (one (λ g. choice x k g) h)
+  walkI-both (shell x c) p n b env s t m w new =
+      first-then (kid-both c (shellAt p x) (λ n b s. walk full c n b s) (λ n e t. trace c (shellAt p x) n e t) (λ n b e s t m w z. walk-both c (shellAt p x) n b e s t m w z) (anonymous c) (child n (shellSegment x)) b env s t m w new) _ λ d u y v g.
+      values (one (λ d. shell x d) g)
+  walkI-both (bytes l) p n b env s t m w new = values (none (bytes l) m)
+  walkI-both (invocation l a) p n b env s t m w new = values (none (invocation l a) m)
+  walkI-both (macro-invocation l a) p n b env s t m w new = values (none (macro-invocation l a) m)
+
+  walkF-both : (f : Fields) (p : ℕ) (n : Name) (b : List Param) (env : List Binder) (s : State) (t : Trace) → Matches s t → Means b env (t .records) → New (liftsF f p) (t .records)
+      → Both (Makes (outF f p) (liftsF f p) s t) (walkF full f n b s) (traceF f p n env t)
+  walkF-both no-field p n b env s t m w new = values (none no-field m)
+  walkF-both (field k l c f) p n b env s t m w new =
+      then (kid-both c (fieldAt p l) (λ n b s. walk full c n b s) (λ n e t. trace c (fieldAt p l) n e t) (λ n b e s t m w z. walk-both c (fieldAt p l) n b e s t m w z) (anonymous c) (child n (segment l)) b env s t m w (new-left _ _ new)) _ _ λ d u x v g.
+      first-then (walkF-both f (fieldAt p l + size c) n (bind k l d b) (bindRef k l c (fieldAt p l) env) u v (g .same) (bind-means k l c (fieldAt p l) w g)
+        (new-right new g (apart (in-rangeK c (fieldAt p l)) (in-rangeF f (fieldAt p l + size c)) (inl (omega arith))))) _ λ j u y v h.
+      values (two (λ d j. field k l d j) g h)
+  walkF-both (const l x f) p n b env s t m w new = first-then (walkF-both f (constEnd p l x) n b env s t m w new) _ λ g u y v h. values (one (λ g. const l x g) h)
+
+  walkC-both : (f : Cases) (k : CaseKind) (i p : ℕ) (n : Name) (b : List Param) (env : List Binder) (s : State) (t : Trace) → Matches s t → Means b env (t .records) → New (liftsC f k p) (t .records)
+      → Both (Makes (outC f k p) (liftsC f k p) s t) (walkC full f k i n b s) (traceC f k i p n env t)
+  walkC-both no-case k i p n b env s t m w new = values (none no-case m)
+  walkC-both (case l c f) k i p n b env s t m w new =
+      then (kid-both c (caseAt p k l) (λ n b s. walk full c n b s) (λ n e t. trace c (caseAt p k l) n e t) (λ n b e s t m w z. walk-both c (caseAt p k l) n b e s t m w z) (anonymous c) (child n (caseSegment k l i)) b env s t m w (new-left _ _ new)) _ _ λ d u x v g.
+      first-then (walkC-both f k (suc i) (caseAt p k l + size c) n b env u v (g .same) (means-on w (g .later)) (new-right new g (apart (in-rangeK c (caseAt p k l)) (in-rangeC f k (caseAt p k l + size c)) (inl (omega arith))))) _ λ j u y v h.
+      values (two (λ d j. case l d j) g h)
