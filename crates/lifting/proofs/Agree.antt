@@ -38,7 +38,7 @@ paramOf rs b = record { name = b .name; type = typeOf rs (b .ref) }
 pub record Means (binders : List Param) (env : List Binder) (rs : List Record) : Type 0 where
   pub meant : (later : List Record) → Later rs later → binders ≡ map (paramOf later) env
 
-means-on : {binders : List Param} {env : List Binder} {a b : List Record} → Means binders env a → Later a b → Means binders env b
+pub means-on : {binders : List Param} {env : List Binder} {a b : List Record} → Means binders env a → Later a b → Means binders env b
 means-on m l = record { meant = λ later k. m .meant later (later-on l k) }
 
 -- no record stands yet where these lifts do
@@ -58,39 +58,39 @@ pub record Did {A : Type 0} (o : List Record → A) (ls : List Lift) (s : State)
 abbrev pub Makes : {A : Type 0} → (List Record → A) → List Lift → State → Trace → A → State → Unit {0} → Trace → Type 0
 Makes o ls s t d u x v = Did o ls s t d u v
 
-none : {A : Type 0} (a : A) {s : State} {t : Trace} → Matches s t → Did (λ rs. a) [] s t a s t
-none a {s} {t} m = record {
-    same = m;
-    later = later-self (t .records);
-    only = λ x n. refl;
-    finished = sym (append-nil (t .finished));
-    body = λ rs l. refl;
-    made = λ rs l. sym (append-nil (s .made));
-    found = λ rs l. tt
-  }
+pub nothing-made : {A : Type 0} (a : A) {s : State} {t : Trace} → Matches s t → Did (λ rs. a) [] s t a s t
+nothing-made a {s} {t} m = record {
+  same = m;
+  later = later-self (t .records);
+  only = λ x n. refl;
+  finished = sym (append-nil (t .finished));
+  body = λ rs l. refl;
+  made = λ rs l. sym (append-nil (s .made));
+  found = λ rs l. tt;
+}
 
 -- a part of something larger
-one : {A B : Type 0} (f : A → B) {o : List Record → A} {ls : List Lift} {s u : State} {t v : Trace} {d : A} → Did o ls s t d u v → Did (λ rs. f (o rs)) ls s t (f d) u v
+pub one : {A B : Type 0} (f : A → B) {o : List Record → A} {ls : List Lift} {s u : State} {t v : Trace} {d : A} → Did o ls s t d u v → Did (λ rs. f (o rs)) ls s t (f d) u v
 one f g = record { same = g .same; later = g .later; only = g .only; finished = g .finished; body = λ rs l. ap f (g .body rs l); made = g .made; found = g .found }
 
 -- one after the other
-two : {A B C : Type 0} (f : A → B → C) {o : List Record → A} {o′ : List Record → B} {a b : List Lift} {s u w : State} {t v x : Trace} {d : A} {e : B}
+pub two : {A B C : Type 0} (f : A → B → C) {o : List Record → A} {o′ : List Record → B} {a b : List Lift} {s u w : State} {t v x : Trace} {d : A} {e : B}
     → Did o a s t d u v → Did o′ b u v e w x → Did (λ rs. f (o rs) (o′ rs)) (a ++ b) s t (f d e) w x
 two f {a = a} {b = b} {s = s} {t = t} g h = record {
-    same = h .same;
-    later = later-on (g .later) (h .later);
-    only = λ y n. h .only y (λ z. n (stands-right y a b z)) ∙ g .only y (λ z. n (stands-left y a b z));
-    finished = rw (h .finished, g .finished, map-append (λ l. l .at) a b) (append-assoc (t .finished) _ _);
-    body = λ rs l. let p = g .body rs (later-on (h .later) l) in let q = h .body rs l in rw (← p, ← q);
-    made = λ rs l. rw (h .made rs l, g .made rs (later-on (h .later) l), map-append (definitionOf rs) a b) (append-assoc (s .made) _ _);
-    found = λ rs l. all-found rs a b (g .found rs (later-on (h .later) l)) (h .found rs l)
-  }
+  same = h .same;
+  later = later-on (g .later) (h .later);
+  only = λ y n. h .only y (λ z. n (stands-right y a b z)) ∙ g .only y (λ z. n (stands-left y a b z));
+  finished = rw (h .finished, g .finished, map-append (λ l. l .at) a b) (append-assoc (t .finished) _ _);
+  body = λ rs l. let p = g .body rs (later-on (h .later) l) in let q = h .body rs l in rw (← p, ← q);
+  made = λ rs l. rw (h .made rs l, g .made rs (later-on (h .later) l), map-append (definitionOf rs) a b) (append-assoc (s .made) _ _);
+  found = λ rs l. all-found rs a b (g .found rs (later-on (h .later) l)) (h .found rs l);
+}
 
-new-left : (a b : List Lift) {rs : List Record} → New (a ++ b) rs → New a rs
+pub new-left : (a b : List Lift) {rs : List Record} → New (a ++ b) rs → New a rs
 new-left a b n = record { new = λ x h. n .new x (stands-left x a b h) }
 
 -- what one made does not stand where the next makes its own
-new-right : {A : Type 0} {o : List Record → A} {a b : List Lift} {s u : State} {t v : Trace} {d : A} → New (a ++ b) (t .records) → Did o a s t d u v
+pub new-right : {A : Type 0} {o : List Record → A} {a b : List Lift} {s u : State} {t v : Trace} {d : A} → New (a ++ b) (t .records) → Did o a s t d u v
     → ((x : ℕ) → Stands x a → Stands x b → ⊥) → New b (v .records)
 new-right {a = a} {b = b} n g far = record { new = λ x h. g .only x (λ k. far x k h) ∙ n .new x (stands-right x a b h) }
 
@@ -144,7 +144,7 @@ sum-closed n ps c there b = omega (arith, size-format n ps c)
 
 module _ (c : Combinator) (p : ℕ) (inside : Walk) (trail : Tracing)
     (ih : (n : Name) (b : List Param) (env : List Binder) (s : State) (t : Trace) → Matches s t → Means b env (t .records) → New (lifts c p) (t .records)
-      → Both (Makes (out c p) (lifts c p) s t) (inside n b s) (trail n env t)) where
+    → Both (Makes (out c p) (lifts c p) s t) (inside n b s) (trail n env t)) where
   abbrev this : Lift
   this = record { at = p; what = c }
 
@@ -164,15 +164,21 @@ module _ (c : Combinator) (p : ℕ) (inside : Walk) (trail : Tracing)
         → Did (λ rs. replaced true (out c p rs) (find rs p)) (lifts c p ++ (this ∷ [])) s t (call r) (append (format (r .name) ps d) u) (finish p v)
     unfolding enter finish append replaced definitionOf madeBy
     finishes ps s₁ d u v e g types ends short needed = record {
-        same = record { taken = g .same .taken; bytes = g .same .bytes; defns = g .same .defns };
-        later = later-on (later-one (t .records) r) (g .later);
-        only = λ x h. g .only x (λ k. h (stands-left x (lifts c p) (this ∷ []) k)) ∙ find-other (t .records) r x (λ k. h (stands-right x (lifts c p) (this ∷ []) (inl (sym at ∙ k))));
-        finished = rw (g .finished, map-append (λ l. l .at) (lifts c p) (this ∷ [])) (append-assoc (t .finished) _ _);
-        body = λ rs l. rw (found-here rs (later-on (g .later) l));
-        made = λ rs l. rw (g .made rs l, e, map-append (definitionOf rs) (lifts c p) (this ∷ []), found-here rs (later-on (g .later) l),
-            types rs (later-on (later-one (t .records) r) (later-on (g .later) l)), g .body rs l) (append-assoc (s .made) _ _);
-        found = λ rs l. all-found rs (lifts c p) (this ∷ []) (g .found rs l) (record { of = r; found = found-here rs (later-on (g .later) l); begins = at; ends = ends; named = short; needed = needed }, tt)
-      }
+      same = record { taken = g .same .taken; bytes = g .same .bytes; defns = g .same .defns };
+      later = later-on (later-one (t .records) r) (g .later);
+      only = λ x h. g .only x (λ k. h (stands-left x (lifts c p) (this ∷ []) k)) ∙ find-other (t .records) r x (λ k. h (stands-right x (lifts c p) (this ∷ []) (inl (sym at ∙ k))));
+      finished = rw (g .finished, map-append (λ l. l .at) (lifts c p) (this ∷ [])) (append-assoc (t .finished) _ _);
+      body = λ rs l. rw (found-here rs (later-on (g .later) l));
+      made = λ rs l. rw (
+        g .made rs l,
+        e,
+        map-append (definitionOf rs) (lifts c p) (this ∷ []),
+        found-here rs (later-on (g .later) l),
+        types rs (later-on (later-one (t .records) r) (later-on (g .later) l)),
+        g .body rs l,
+      ) (append-assoc (s .made) _ _);
+      found = λ rs l. all-found rs (lifts c p) (this ∷ []) (g .found rs l) (record { of = r; found = found-here rs (later-on (g .later) l); begins = at; ends = ends; named = short; needed = needed }, tt);
+    }
 
   -- from the measure on
   module _ (n : Name) (b : List Param) (env : List Binder) (s : State) (t : Trace) (m : Matches s t) (w : Means b env (t .records)) (new : New (lifts c p ++ (this ∷ [])) (t .records))
@@ -247,29 +253,29 @@ mutual
 
   walkI-both : (i : Inner) (p : ℕ) (n : Name) (b : List Param) (env : List Binder) (s : State) (t : Trace) → Matches s t → Means b env (t .records) → New (liftsI i p) (t .records)
       → Both (Makes (outI i p) (liftsI i p) s t) (walkI full i n b s) (traceI i p n env t)
-  walkI-both (leaf k x) p n b env s t m w new = values (none (leaf k x) m)
+  walkI-both (leaf k x) p n b env s t m w new = values (nothing-made (leaf k x) m)
   walkI-both (struct f) p n b env s t m w new = first-then (walkF-both f (fieldsAt p) n b env s t m w new) _ λ g u x v h. values (one struct h)
   walkI-both (choice x k f) p n b env s t m w new = first-then (walkC-both f k 0 (casesAt p x) n b env s t m w new) _ λ g u y v h. values (one (λ g. choice x k g) h)
   walkI-both (shell x c) p n b env s t m w new =
       first-then (kid-both c (shellAt p x) (λ n b s. walk full c n b s) (λ n e t. trace c (shellAt p x) n e t) (λ n b e s t m w z. walk-both c (shellAt p x) n b e s t m w z) (anonymous c) (child n (shellSegment x)) b env s t m w new) _ λ d u y v g.
       values (one (λ d. shell x d) g)
-  walkI-both (bytes l) p n b env s t m w new = values (none (bytes l) m)
-  walkI-both (invocation l a) p n b env s t m w new = values (none (invocation l a) m)
-  walkI-both (macro-invocation l a) p n b env s t m w new = values (none (macro-invocation l a) m)
+  walkI-both (bytes l) p n b env s t m w new = values (nothing-made (bytes l) m)
+  walkI-both (invocation l a) p n b env s t m w new = values (nothing-made (invocation l a) m)
+  walkI-both (macro-invocation l a) p n b env s t m w new = values (nothing-made (macro-invocation l a) m)
 
   walkF-both : (f : Fields) (p : ℕ) (n : Name) (b : List Param) (env : List Binder) (s : State) (t : Trace) → Matches s t → Means b env (t .records) → New (liftsF f p) (t .records)
       → Both (Makes (outF f p) (liftsF f p) s t) (walkF full f n b s) (traceF f p n env t)
-  walkF-both no-field p n b env s t m w new = values (none no-field m)
+  walkF-both no-field p n b env s t m w new = values (nothing-made no-field m)
   walkF-both (field k l c f) p n b env s t m w new =
       then (kid-both c (fieldAt p l) (λ n b s. walk full c n b s) (λ n e t. trace c (fieldAt p l) n e t) (λ n b e s t m w z. walk-both c (fieldAt p l) n b e s t m w z) (anonymous c) (child n (segment l)) b env s t m w (new-left _ _ new)) _ _ λ d u x v g.
       first-then (walkF-both f (fieldAt p l + size c) n (bind k l d b) (bindRef k l c (fieldAt p l) env) u v (g .same) (bind-means k l c (fieldAt p l) w g)
-        (new-right new g (apart (in-rangeK c (fieldAt p l)) (in-rangeF f (fieldAt p l + size c)) (inl (omega arith))))) _ λ j u y v h.
+      (new-right new g (apart (in-rangeK c (fieldAt p l)) (in-rangeF f (fieldAt p l + size c)) (inl (omega arith))))) _ λ j u y v h.
       values (two (λ d j. field k l d j) g h)
   walkF-both (const l x f) p n b env s t m w new = first-then (walkF-both f (constEnd p l x) n b env s t m w new) _ λ g u y v h. values (one (λ g. const l x g) h)
 
   walkC-both : (f : Cases) (k : CaseKind) (i p : ℕ) (n : Name) (b : List Param) (env : List Binder) (s : State) (t : Trace) → Matches s t → Means b env (t .records) → New (liftsC f k p) (t .records)
       → Both (Makes (outC f k p) (liftsC f k p) s t) (walkC full f k i n b s) (traceC f k i p n env t)
-  walkC-both no-case k i p n b env s t m w new = values (none no-case m)
+  walkC-both no-case k i p n b env s t m w new = values (nothing-made no-case m)
   walkC-both (case l c f) k i p n b env s t m w new =
       then (kid-both c (caseAt p k l) (λ n b s. walk full c n b s) (λ n e t. trace c (caseAt p k l) n e t) (λ n b e s t m w z. walk-both c (caseAt p k l) n b e s t m w z) (anonymous c) (child n (caseSegment k l i)) b env s t m w (new-left _ _ new)) _ _ λ d u x v g.
       first-then (walkC-both f k (suc i) (caseAt p k l + size c) n b env u v (g .same) (means-on w (g .later)) (new-right new g (apart (in-rangeK c (caseAt p k l)) (in-rangeC f k (caseAt p k l + size c)) (inl (omega arith))))) _ λ j u y v h.

@@ -2,3 +2,4 @@ pub mod Both
 pub mod Found
 pub mod Ranges
 pub mod Agree
+pub mod Book

@@ -18,13 +18,13 @@ use Rattle.lifting.proofs.Found.{Stands, stands-either}
 pub record Between (a b : ℕ) (ls : List Lift) : Type 0 where
   pub range : (x : ℕ) → Stands x ls → (a ≤ x) × (x < b)
 
-none : {a b : ℕ} → Between a b []
+pub none : {a b : ℕ} → Between a b []
 none = record { range = λ x h. absurd h }
 
-wider : {a b c d : ℕ} {ls : List Lift} → Between c d ls → a ≤ c → d ≤ b → Between a b ls
+pub wider : {a b c d : ℕ} {ls : List Lift} → Between c d ls → a ≤ c → d ≤ b → Between a b ls
 wider w p q = record { range = λ x h. let r = w .range x h in (omega arith, omega arith) }
 
-both : {a b : ℕ} {l m : List Lift} → Between a b l → Between a b m → Between a b (l ++ m)
+pub both : {a b : ℕ} {l m : List Lift} → Between a b l → Between a b m → Between a b (l ++ m)
 both {a} {b} {l} {m} v w = record { range = λ x h. of x (stands-either x l m h) }
   where
     of : (x : ℕ) → Stands x l ⊎ Stands x m → (a ≤ x) × (x < b)

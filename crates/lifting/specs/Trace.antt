@@ -1,11 +1,13 @@
 -- The walk that makes records: in walk order, it names, collects, finds binders and measures, and rewrites no tree. Document 01, "Lifting rules", codes 7 to 10.
 use mathlib.Core.Bool.{Bool, true, false, cond, not, _&&_}
-use mathlib.Core.List.{List, [], _∷_, _++_}
+use mathlib.Core.List.{List, [], _∷_, _++_, map}
 use Prim.Native.Nat.{ℕ, suc, _+_}
 use lib.Dec.{leb}
 use lib.ListN.{length}
 use Rattle.definition.specs.Code.{leftover-macro, name-long, no-binder, result-long}
 use Rattle.definition.specs.Res.{Maybe, absent, just, Res, bad, ok, _>>=_, require}
+use Rattle.definition.specs.Out.{Out, refused, done}
+use Rattle.definition.specs.Answer.{Result}
 use Rattle.definition.specs.Tree.{Name, CaseKind, FieldKind, ordinary, dependent, Combinator, plain, chained, Inner, leaf, struct, choice, shell, bytes, invocation, macro-invocation, Fields, no-field, field, const, Cases, no-case, case, Param, Definition, format, constant, byte-order, macro}
 use Rattle.definition.specs.Names.{eqName, sorted, segment, child, caseSegment, shellSegment, fresh}
 use Rattle.definition.specs.Write.{wName, wParam, sizeOf}
@@ -14,7 +16,7 @@ use Rattle.definition.specs.Collect.{anonymous, free, leftover}
 use Rattle.definition.specs.Lift.{names}
 use Rattle.laws.proofs.Sizes.{head}
 use Rattle.lifting.specs.Records.{Ref, own, passed, Record, call}
-use Rattle.lifting.specs.After.{chainAt, fieldsAt, casesAt, shellAt, fieldAt, constEnd, caseAt, paramsOf, firstAt}
+use Rattle.lifting.specs.After.{chainAt, fieldsAt, casesAt, shellAt, fieldAt, constEnd, caseAt, paramsOf, definitionOf, outAll, liftsAll, firstAt}
 
 -- what it carries: the names taken, the records in walk order, the places of the lifts that are finished, and the book as code 10 measures it
 pub record Trace : Type 0 where
@@ -47,12 +49,12 @@ refs env (n ∷ ns) t = do
 -- "for each lift so far, 6 bytes of contents, the new body and the call, less the combinator moved": the new body is its head and the combinator moved
 unfoldable pub enter : Record → Trace → Trace
 enter r t = record {
-    taken = r .name ∷ t .taken;
-    records = t .records ++ (r ∷ []);
-    finished = t .finished;
-    bytes = t .bytes + 6 + head (r .name) (paramsOf (t .records) (r .params) (r .types)) + size (call r);
-    defns = t .defns + 1
-  }
+  taken = r .name ∷ t .taken;
+  records = t .records ++ (r ∷ []);
+  finished = t .finished;
+  bytes = t .bytes + 6 + head (r .name) (paramsOf (t .records) (r .params) (r .types)) + size (call r);
+  defns = t .defns + 1;
+}
 
 unfoldable pub finish : ℕ → Trace → Trace
 finish p t = record { taken = t .taken; records = t .records; finished = t .finished ++ (p ∷ []); bytes = t .bytes; defns = t .defns }
@@ -137,3 +139,8 @@ begin ds = record { taken = names ds; records = []; finished = []; bytes = sizeB
 
 unfoldable pub traceBook : List Definition → Res Trace Unit
 traceBook ds = traceAll ds (firstAt ds) (begin ds)
+
+-- the result, by the records
+unfoldable pub traced : List Definition → Res Trace Unit → Out Result
+traced ds (bad k t) = refused k
+traced ds (ok u t) = done (record { kept = outAll ds (firstAt ds) (t .records); lifted = map (definitionOf (t .records)) (liftsAll ds (firstAt ds)) })
