@@ -3,3 +3,4 @@ pub mod Found
 pub mod Ranges
 pub mod Agree
 pub mod Book
+pub mod Calls
