@@ -89,3 +89,11 @@ AllFound rs (l ∷ ls) = Found rs l × AllFound rs ls
 pub all-found : (rs : List Record) (a b : List Lift) → AllFound rs a → AllFound rs b → AllFound rs (a ++ b)
 all-found rs [] b f g = g
 all-found rs (l ∷ a) b f g = (f .0, all-found rs a b (f .1) g)
+
+pub found-left : (rs : List Record) (a b : List Lift) → AllFound rs (a ++ b) → AllFound rs a
+found-left rs [] b f = tt
+found-left rs (l ∷ a) b f = (f .0, found-left rs a b (f .1))
+
+pub found-right : (rs : List Record) (a b : List Lift) → AllFound rs (a ++ b) → AllFound rs b
+found-right rs [] b f = f
+found-right rs (l ∷ a) b f = found-right rs a b (f .1)

@@ -4,3 +4,5 @@ pub mod Ranges
 pub mod Agree
 pub mod Book
 pub mod Calls
+pub mod Parts
+pub mod Bytes

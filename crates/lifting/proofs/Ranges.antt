@@ -8,7 +8,7 @@ use native.Mathlib.Omega.{arith}
 use lib.ListN.{length}
 use Rattle.definition.specs.Tree.{Shell, wrap, vec, option, array, CaseKind, Combinator, plain, chained, Inner, leaf, struct, choice, shell, bytes, invocation, macro-invocation, Fields, no-field, field, const, Cases, no-case, case}
 use Rattle.definition.specs.Collect.{anonymous}
-use Rattle.definition.specs.Write.{wOpen}
+use Rattle.definition.specs.Write.{wOpen, wCombinator}
 use Rattle.definition.specs.Size.{size}
 use Rattle.laws.proofs.Sizes.{sizeI, sizeF, sizeC, size-plain, size-chained, size-struct, size-choice, size-shell, size-field, size-constant, size-case}
 use Rattle.lifting.specs.After.{chainAt, fieldsAt, casesAt, shellAt, fieldAt, constEnd, caseAt, Lift, itself, lifts, liftsI, liftsF, liftsC}
@@ -40,12 +40,22 @@ pub size-some : (c : Combinator) → 0 < size c
 size-some (plain i) = omega (arith, size-plain i)
 size-some (chained i c) = omega (arith, size-chained i c)
 
-open-some : (x : Shell) → 0 < length (wOpen x [])
+pub open-some : (x : Shell) → 0 < length (wOpen x [])
 unfolding wOpen
 open-some (wrap x y) = omega arith
 open-some vec = omega arith
 open-some option = omega arith
 open-some (array l) = omega arith
+
+pub sizeI-some : (i : Inner) → 0 < sizeI i
+unfolding sizeI wCombinator wOpen
+sizeI-some (leaf k x) = omega arith
+sizeI-some (struct f) = omega arith
+sizeI-some (choice s k f) = omega arith
+sizeI-some (shell x c) = omega (arith, size-shell x c, open-some x)
+sizeI-some (bytes l) = omega arith
+sizeI-some (invocation n a) = omega arith
+sizeI-some (macro-invocation n a) = omega arith
 
 -- a child: the lifts out of it, and itself
 kid-range : (c : Combinator) (p : ℕ) → Between (p + 1) (p + size c) (lifts c p) → Between p (p + size c) (lifts c p ++ itself (anonymous c) c p)
