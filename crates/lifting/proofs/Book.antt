@@ -15,7 +15,7 @@ use Rattle.laws.proofs.Splits.{s-definition}
 use Rattle.laws.proofs.Sizes.{adds, head, size-format}
 use Rattle.laws.proofs.Measure.{measures}
 use Rattle.lifting.specs.Records.{Record, find}
-use Rattle.lifting.specs.After.{Lift, lifts, typeOf, definitionOf, outAll, liftsAll, firstAt}
+use Rattle.lifting.specs.After.{Lift, lifts, typeOf, definitionOf, outD, liftsD, outAll, liftsAll, firstAt}
 use Rattle.lifting.specs.Trace.{Trace, ownBinders, paramsAt, traceAll, begin, traceBook, traced}
 use Rattle.lifting.proofs.Both.{Both, refusals, values, then, first-then}
 use Rattle.lifting.proofs.Found.{later-self, Stands, AllFound}
@@ -30,15 +30,17 @@ pub bodies-cons : (d : Definition) (ds : List Definition) → bodies (d ∷ ds) 
 unfolding wAll sizeOf
 bodies-cons d ds = adds (wDefinition d) (s-definition d) (wAll wDefinition ds [])
 
+pub in-rangeD : (d : Definition) (p : ℕ) → Between p (p + sizeOf d) (liftsD d p)
+unfolding liftsD
+in-rangeD (format n ps c) p = wider (in-range c (p + head n ps)) (omega arith) (omega (arith, size-format n ps c))
+in-rangeD (constant n x) p = none
+in-rangeD (byte-order x) p = none
+in-rangeD (macro n ps c) p = none
+
 pub in-rangeAll : (ds : List Definition) (p : ℕ) → Between p (p + bodies ds) (liftsAll ds p)
 unfolding liftsAll
 in-rangeAll [] p = none
-in-rangeAll (format n ps c ∷ ds) p = both
-    (wider (in-range c (p + head n ps)) (omega arith) (omega (arith, size-format n ps c, bodies-cons (format n ps c) ds)))
-    (wider (in-rangeAll ds (p + sizeOf (format n ps c))) (omega arith) (omega (arith, bodies-cons (format n ps c) ds)))
-in-rangeAll (constant n x ∷ ds) p = wider (in-rangeAll ds (p + sizeOf (constant n x))) (omega arith) (omega (arith, bodies-cons (constant n x) ds))
-in-rangeAll (byte-order x ∷ ds) p = wider (in-rangeAll ds (p + sizeOf (byte-order x))) (omega arith) (omega (arith, bodies-cons (byte-order x) ds))
-in-rangeAll (macro n ps c ∷ ds) p = wider (in-rangeAll ds (p + sizeOf (macro n ps c))) (omega arith) (omega (arith, bodies-cons (macro n ps c) ds))
+in-rangeAll (d ∷ ds) p = both (wider (in-rangeD d p) (omega arith) (omega (arith, bodies-cons d ds))) (wider (in-rangeAll ds (p + sizeOf d)) (omega arith) (omega (arith, bodies-cons d ds)))
 
 -- the definition's own parameters
 own-means : (ps : List Param) (p : ℕ) (rs : List Record) → Means ps (ownBinders ps p) rs
@@ -51,7 +53,7 @@ own-means ps p rs = record { meant = λ later l. same later ps p }
 
 walkAll-both : (ds : List Definition) (p : ℕ) (s : State) (t : Trace) → Matches s t → New (liftsAll ds p) (t .records)
     → Both (Makes (outAll ds p) (liftsAll ds p) s t) (walkAll full ds s) (traceAll ds p t)
-unfolding walkAll traceAll outAll liftsAll
+unfolding walkAll traceAll outAll liftsAll outD liftsD
 walkAll-both [] p s t m new = values (nothing-made [] m)
 walkAll-both (format n ps c ∷ ds) p s t m new =
     then (walk-both c (p + head n ps) n ps (ownBinders ps (paramsAt p n)) s t m (own-means ps (paramsAt p n) (t .records)) (new-left _ _ new)) _ _ λ d u x v g.
@@ -77,10 +79,7 @@ elaborated-by ds = of (book-both ds)
 length-outAll : (ds : List Definition) (p : ℕ) (rs : List Record) → length (outAll ds p rs) ≡ length ds
 unfolding outAll
 length-outAll [] p rs = refl
-length-outAll (format n ps c ∷ ds) p rs = ap suc (length-outAll ds _ rs)
-length-outAll (constant n x ∷ ds) p rs = ap suc (length-outAll ds _ rs)
-length-outAll (byte-order x ∷ ds) p rs = ap suc (length-outAll ds _ rs)
-length-outAll (macro n ps c ∷ ds) p rs = ap suc (length-outAll ds _ rs)
+length-outAll (d ∷ ds) p rs = ap suc (length-outAll ds _ rs)
 
 -- what the finished records are
 pub record Traced (ds : List Definition) (t : Trace) : Type 0 where

@@ -114,20 +114,27 @@ madeBy (just r) rs l = format (r .name) (paramsOf rs (r .params) (r .types)) (ou
 unfoldable pub definitionOf : List Record → Lift → Definition
 definitionOf rs l = madeBy (find rs (l .at)) rs l
 
--- the bodies of a list, of which the first begins at p
+-- a definition whose body begins at p
+unfoldable pub outD : Definition → ℕ → List Record → Definition
+outD (format n ps c) p rs = format n ps (out c (p + head n ps) rs)
+outD (constant n x) p rs = constant n x
+outD (byte-order x) p rs = byte-order x
+outD (macro n ps c) p rs = macro n ps c
+
+unfoldable pub liftsD : Definition → ℕ → List Lift
+liftsD (format n ps c) p = lifts c (p + head n ps)
+liftsD (constant n x) p = []
+liftsD (byte-order x) p = []
+liftsD (macro n ps c) p = []
+
+-- the definitions of a list, of which the first body begins at p
 unfoldable pub outAll : List Definition → ℕ → List Record → List Definition
 outAll [] p rs = []
-outAll (format n ps c ∷ ds) p rs = format n ps (out c (p + head n ps) rs) ∷ outAll ds (p + sizeOf (format n ps c)) rs
-outAll (constant n x ∷ ds) p rs = constant n x ∷ outAll ds (p + sizeOf (constant n x)) rs
-outAll (byte-order x ∷ ds) p rs = byte-order x ∷ outAll ds (p + sizeOf (byte-order x)) rs
-outAll (macro n ps c ∷ ds) p rs = macro n ps c ∷ outAll ds (p + sizeOf (macro n ps c)) rs
+outAll (d ∷ ds) p rs = outD d p rs ∷ outAll ds (p + sizeOf d) rs
 
 unfoldable pub liftsAll : List Definition → ℕ → List Lift
 liftsAll [] p = []
-liftsAll (format n ps c ∷ ds) p = lifts c (p + head n ps) ++ liftsAll ds (p + sizeOf (format n ps c))
-liftsAll (constant n x ∷ ds) p = liftsAll ds (p + sizeOf (constant n x))
-liftsAll (byte-order x ∷ ds) p = liftsAll ds (p + sizeOf (byte-order x))
-liftsAll (macro n ps c ∷ ds) p = liftsAll ds (p + sizeOf (macro n ps c))
+liftsAll (d ∷ ds) p = liftsD d p ++ liftsAll ds (p + sizeOf d)
 
 -- "the first offset is 2 + 6n"
 abbrev pub firstAt : List Definition → ℕ
