@@ -16,7 +16,7 @@ use Rattle.laws.proofs.Sizes.{adds, head, size-format}
 use Rattle.laws.proofs.Measure.{measures}
 use Rattle.lifting.specs.Records.{Record, find}
 use Rattle.lifting.specs.After.{Lift, lifts, typeOf, definitionOf, outD, liftsD, outAll, liftsAll, firstAt}
-use Rattle.lifting.specs.Trace.{Trace, ownBinders, paramsAt, traceAll, begin, traceBook, traced}
+use Rattle.lifting.specs.Trace.{Trace, treeHead, ownBinders, paramsAt, traceAll, begin, traceBook, traced}
 use Rattle.lifting.proofs.Both.{Both, refusals, values, then, first-then}
 use Rattle.lifting.proofs.Found.{later-self, Stands, AllFound}
 use Rattle.lifting.proofs.Ranges.{Between, none, wider, both, apart, in-range}
@@ -52,7 +52,7 @@ own-means ps p rs = record { meant = λ later l. same later ps p }
     same later (x ∷ ps) p = ap (x ∷_) (same later ps _)
 
 walkAll-both : (ds : List Definition) (p : ℕ) (s : State) (t : Trace) → Matches s t → New (liftsAll ds p) (t .records)
-    → Both (Makes (outAll ds p) (liftsAll ds p) s t) (walkAll full ds s) (traceAll ds p t)
+    → Both (Makes (outAll ds p) (liftsAll ds p) s t) (walkAll full ds s) (traceAll treeHead ds p t)
 unfolding walkAll traceAll outAll liftsAll outD liftsD
 walkAll-both [] p s t m new = values (nothing-made [] m)
 walkAll-both (format n ps c ∷ ds) p s t m new =
@@ -63,12 +63,12 @@ walkAll-both (constant n x ∷ ds) p s t m new = first-then (walkAll-both ds (p 
 walkAll-both (byte-order x ∷ ds) p s t m new = first-then (walkAll-both ds (p + sizeOf (byte-order x)) s t m new) _ λ es u y v h. values (one (byte-order x ∷_) h)
 walkAll-both (macro n ps c ∷ ds) p s t m new = first-then (walkAll-both ds (p + sizeOf (macro n ps c)) s t m new) _ λ es u y v h. values (one (macro n ps c ∷_) h)
 
-book-both : (ds : List Definition) → Both (Makes (outAll ds (firstAt ds)) (liftsAll ds (firstAt ds)) (start ds) (begin ds)) (walkAll full ds (start ds)) (traceBook ds)
+book-both : (ds : List Definition) → Both (Makes (outAll ds (firstAt ds)) (liftsAll ds (firstAt ds)) (start ds) (begin ds)) (walkAll full ds (start ds)) (traceBook treeHead ds)
 unfolding traceBook begin start find
 book-both ds = walkAll-both ds (firstAt ds) (start ds) (begin ds) (record { taken = refl; bytes = refl; defns = refl }) (record { new = λ x h. refl })
 
 -- the result of codes 7 to 10, by the records
-pub elaborated-by : (ds : List Definition) → outcome (liftBook ds) ≡ traced ds (traceBook ds)
+pub elaborated-by : (ds : List Definition) → outcome (liftBook ds) ≡ traced ds (traceBook treeHead ds)
 unfolding liftBook outcome traced
 elaborated-by ds = of (book-both ds)
   where
@@ -92,7 +92,7 @@ pub record Traced (ds : List Definition) (t : Trace) : Type 0 where
   pub bytes : t .bytes ≡ sizeBook (outAll ds (firstAt ds) (t .records) ++ map (definitionOf (t .records)) (liftsAll ds (firstAt ds)))
   pub defns : t .defns ≡ length ds + length (liftsAll ds (firstAt ds))
 
-pub was-traced : (ds : List Definition) (t : Trace) → traceBook ds ≡ ok tt t → Traced ds t
+pub was-traced : (ds : List Definition) (t : Trace) → traceBook treeHead ds ≡ ok tt t → Traced ds t
 unfolding begin start find
 was-traced ds t e = of (walkAll full ds (start ds)) refl (rw e at (book-both ds))
   where

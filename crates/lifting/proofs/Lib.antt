@@ -6,3 +6,4 @@ pub mod Book
 pub mod Calls
 pub mod Parts
 pub mod Bytes
+pub mod Refs
