@@ -42,13 +42,13 @@ module _ (s : List ℕ) (rs : List Record) where
       not-here true x i h (inr (inl e)) = omega arith
       not-here false x i h (inr k) = k
 
-  raw : (w : List ℕ → List ℕ) → Splits w → {p e to : ℕ} {r : List ℕ} → Raw s rs w p p e → p + length (w []) ≡ e → Goes s rs to e r → Goes s rs to p (w r)
+  pub raw : (w : List ℕ → List ℕ) → Splits w → {p e to : ℕ} {r : List ℕ} → Raw s rs w p p e → p + length (w []) ≡ e → Goes s rs to e r → Goes s rs to p (w r)
   raw w sp {p} {e} {to} {r} t h g = rw (sp [] r) (raw-goes s rs (w []) p (t .rest) (t .stands ∙ sp [] (t .rest)) (λ x i j. t .clear x i (omega arith) (λ k. k)) (rw h g))
 
   raw-first : (w : List ℕ → List ℕ) → Splits w → {p e to : ℕ} {r : List ℕ} → Raw s rs w p (suc p) e → p + length (w []) ≡ e → 0 < length (w []) → Goes s rs to e r → Opens s rs to p (w r)
   raw-first w sp {p} {e} {to} {r} t h n g = rw (sp [] r) (raw-opens s rs (w []) p (t .rest) n (t .stands ∙ sp [] (t .rest)) (λ x i j. t .clear x i (omega arith) (λ k. k)) (rw h g))
 
-  goes-at : {e f to : ℕ} {r : List ℕ} → e ≡ f → Goes s rs to e r → Goes s rs to f r
+  pub goes-at : {e f to : ℕ} {r : List ℕ} → e ≡ f → Goes s rs to e r → Goes s rs to f r
   goes-at h g = rw h at g
 
   -- an inner out of which nothing is lifted

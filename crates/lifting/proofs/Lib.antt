@@ -7,3 +7,4 @@ pub mod Calls
 pub mod Parts
 pub mod Bytes
 pub mod Refs
+pub mod Standing

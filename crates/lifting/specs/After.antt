@@ -96,6 +96,10 @@ unfoldable mutual
   liftsC no-case k p = []
   liftsC (case l c f) k p = (lifts c (caseAt p k l) ++ itself (anonymous c) c (caseAt p k l)) ++ liftsC f k (caseAt p k l + size c)
 
+-- out of a child, itself last
+abbrev pub liftsK : Combinator → ℕ → List Lift
+liftsK c p = lifts c p ++ itself (anonymous c) c p
+
 -- "types as they stand after lifting, without chain"
 unfoldable pub typeOf : List Record → Ref → Inner
 typeOf rs (own i p) = i
