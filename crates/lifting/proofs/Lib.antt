@@ -8,3 +8,4 @@ pub mod Parts
 pub mod Bytes
 pub mod Refs
 pub mod Standing
+pub mod Written

@@ -19,51 +19,51 @@ use Rattle.lifting.proofs.Found.{Stands, stands-either, Found, AllFound
 use Rattle.lifting.proofs.Ranges.{Between, open-some, sizeI-some, in-range, in-rangeI, in-rangeF, in-rangeC, in-rangeK}
 
 -- two lists of lifts make up one
-record Union (ls a b : List Lift) : Type 0 where
-  either : (x : ℕ) → Stands x ls → Stands x a ⊎ Stands x b
-  one : (rs : List Record) → AllFound rs ls → AllFound rs a
-  other : (rs : List Record) → AllFound rs ls → AllFound rs b
+pub record Union (ls a b : List Lift) : Type 0 where
+  pub either : (x : ℕ) → Stands x ls → Stands x a ⊎ Stands x b
+  pub one : (rs : List Record) → AllFound rs ls → AllFound rs a
+  pub other : (rs : List Record) → AllFound rs ls → AllFound rs b
 
-appended : (a b : List Lift) → Union (a ++ b) a b
+pub appended : (a b : List Lift) → Union (a ++ b) a b
 appended a b = record { either = λ x h. stands-either x a b h; one = λ rs f. found-left rs a b f; other = λ rs f. found-right rs a b f }
 
-swapped : (a b : List Lift) → Union (b ++ a) a b
+pub swapped : (a b : List Lift) → Union (b ++ a) a b
 swapped a b = record { either = λ x h. swap x (stands-either x b a h); one = λ rs f. found-right rs b a f; other = λ rs f. found-left rs b a f }
   where
     swap : (x : ℕ) → Stands x b ⊎ Stands x a → Stands x a ⊎ Stands x b
     swap x (inl h) = inr h
     swap x (inr h) = inl h
 
-first-none : (ls : List Lift) → Union ls [] ls
+pub first-none : (ls : List Lift) → Union ls [] ls
 first-none ls = record { either = λ x h. inr h; one = λ rs f. tt; other = λ rs f. f }
 
-second-none : (ls : List Lift) → Union ls ls []
+pub second-none : (ls : List Lift) → Union ls ls []
 second-none ls = record { either = λ x h. inl h; one = λ rs f. f; other = λ rs f. tt }
 
 -- all before a place, all from a place on
-record Under (q : ℕ) (ls : List Lift) : Type 0 where
-  under : (x : ℕ) → Stands x ls → x < q
+pub record Under (q : ℕ) (ls : List Lift) : Type 0 where
+  pub under : (x : ℕ) → Stands x ls → x < q
 
-record Over (q : ℕ) (ls : List Lift) : Type 0 where
-  over : (x : ℕ) → Stands x ls → q ≤ x
+pub record Over (q : ℕ) (ls : List Lift) : Type 0 where
+  pub over : (x : ℕ) → Stands x ls → q ≤ x
 
-under : {a b q : ℕ} {ls : List Lift} → Between a b ls → b ≤ q → Under q ls
+pub under : {a b q : ℕ} {ls : List Lift} → Between a b ls → b ≤ q → Under q ls
 under w h = record { under = λ x k. let r = w .range x k in omega arith }
 
-over : {a b q : ℕ} {ls : List Lift} → Between a b ls → q ≤ a → Over q ls
+pub over : {a b q : ℕ} {ls : List Lift} → Between a b ls → q ≤ a → Over q ls
 over w h = record { over = λ x k. let r = w .range x k in omega arith }
 
-over-both : {q : ℕ} {l m : List Lift} → Over q l → Over q m → Over q (l ++ m)
+pub over-both : {q : ℕ} {l m : List Lift} → Over q l → Over q m → Over q (l ++ m)
 over-both {q} {l} {m} v w = record { over = λ x h. of x (stands-either x l m h) }
   where
     of : (x : ℕ) → Stands x l ⊎ Stands x m → q ≤ x
     of x (inl h) = v .over x h
     of x (inr h) = w .over x h
 
-none-under : {q : ℕ} → Under q []
+pub none-under : {q : ℕ} → Under q []
 none-under = record { under = λ x h. absurd h }
 
-none-over : {q : ℕ} → Over q []
+pub none-over : {q : ℕ} → Over q []
 none-over = record { over = λ x h. absurd h }
 
 -- what stands before the fields, the cases, and the combinator of a field; a Const field
@@ -98,7 +98,7 @@ module _ (s : List ℕ) (rs : List Record) where
     pub found : AllFound rs ls
 
   -- one up to q, the other from q up to e
-  split : (v w : List ℕ → List ℕ) → Splits v → (q e : ℕ) {p a f : ℕ} {ls l m : List Lift} → Part (λ z. v (w z)) p a f ls → f ≡ e → p + length (v []) ≡ q → a ≤ q → q ≤ e → Union ls l m → Under q l → Over q m
+  pub split : (v w : List ℕ → List ℕ) → Splits v → (q e : ℕ) {p a f : ℕ} {ls l m : List Lift} → Part (λ z. v (w z)) p a f ls → f ≡ e → p + length (v []) ≡ q → a ≤ q → q ≤ e → Union ls l m → Under q l → Over q m
       → Part v p a q l × Part w q q e m
   split v w sp q e {p} {a} {f} {ls} {l} {m} t ends at lo hi u below above = (
     record { rest = w (t .rest); stands = t .stands; clear = λ x i j h. t .clear x i (omega arith) (λ k. left x j h (u .either x k)); found = u .one rs (t .found) },
