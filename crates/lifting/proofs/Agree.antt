@@ -19,7 +19,7 @@ use Rattle.definition.specs.Collect.{anonymous, free, leftover}
 use Rattle.definition.specs.Lift.{full, State, Walk, binder, bound, typed, take, grow, measured, append, lift, childBy, bind, walk, walkI, walkF, walkC, walkAll}
 use Rattle.laws.proofs.Sizes.{head, size-format}
 use Rattle.lifting.specs.Records.{Ref, own, passed, Record, find, call}
-use Rattle.lifting.specs.After.{chainAt, fieldsAt, casesAt, shellAt, fieldAt, constEnd, caseAt, replaced, out, outI, outF, outC, Lift, itself, lifts, liftsI, liftsF, liftsC, typeOf, paramsOf, madeBy, definitionOf}
+use Rattle.lifting.specs.After.{chainAt, fieldsAt, casesAt, shellAt, fieldAt, constEnd, caseAt, replaced, out, outI, outF, outC, Lift, itself, lifts, liftsI, liftsF, liftsC, liftsK, typeOf, paramsOf, madeBy, definitionOf}
 use Rattle.lifting.specs.Trace.{Trace, treeHead, Binder, first, refOf, refs, enter, finish, fits, bindRef, Tracing, lifting, traceBy, trace, traceI, traceF, traceC}
 use Rattle.lifting.proofs.Both.{Both, refusals, values, then, first-then, ask, ask-alike, Still, still}
 use Rattle.lifting.proofs.Found.{Later, later-self, later-one, later-on, find-here, find-other, Stands, stands-left, stands-right, stands-either, Found, AllFound, all-found}
@@ -234,7 +234,7 @@ module _ (c : Combinator) (p : ℕ) (inside : Walk) (trail : Tracing)
   kid-both false base b env s t m w new = rw (append-nil (lifts c p)) (ih base b env s t m w (rw (append-nil (lifts c p)) at new))
 
 -- "A Dependent field binds its label for the fields after it", "types as they stand after lifting, without chain"
-bind-means : (k : FieldKind) (l : Name) (c : Combinator) (p : ℕ) {b : List Param} {env : List Binder} {ls : List Lift} {s u : State} {t v : Trace} {d : Combinator} → Means b env (t .records)
+pub bind-means : (k : FieldKind) (l : Name) (c : Combinator) (p : ℕ) {b : List Param} {env : List Binder} {ls : List Lift} {s u : State} {t v : Trace} {d : Combinator} → Means b env (t .records)
     → Did (λ rs. replaced (anonymous c) (out c p rs) (find rs p)) ls s t d u v → Means (bind k l d b) (bindRef k l c p env) (v .records)
 unfolding bind bindRef typeOf
 bind-means ordinary l c p w g = means-on w (g .later)
@@ -280,3 +280,7 @@ mutual
       then (kid-both c (caseAt p k l) (λ n b s. walk full c n b s) (λ n e t. trace treeHead c (caseAt p k l) n e t) (λ n b e s t m w z. walk-both c (caseAt p k l) n b e s t m w z) (anonymous c) (child n (caseSegment k l i)) b env s t m w (new-left _ _ new)) _ _ λ d u x v g.
       first-then (walkC-both f k (suc i) (caseAt p k l + size c) n b env u v (g .same) (means-on w (g .later)) (new-right new g (apart (in-rangeK c (caseAt p k l)) (in-rangeC f k (caseAt p k l + size c)) (inl (omega arith))))) _ λ j u y v h.
       values (two (λ d j. case l d j) g h)
+
+pub child-both : (c : Combinator) (p : ℕ) (n : Name) (b : List Param) (env : List Binder) (s : State) (t : Trace) → Matches s t → Means b env (t .records) → New (liftsK c p) (t .records)
+    → Both (Makes (λ rs. replaced (anonymous c) (out c p rs) (find rs p)) (liftsK c p) s t) (childBy full (anonymous c) c (λ n b s. walk full c n b s) n b s) (traceBy treeHead (anonymous c) c p (λ n e t. trace treeHead c p n e t) n env t)
+child-both c p n b env s t m w new = kid-both c p (λ n b s. walk full c n b s) (λ n e t. trace treeHead c p n e t) (walk-both c p) (anonymous c) n b env s t m w new

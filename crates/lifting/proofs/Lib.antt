@@ -9,3 +9,4 @@ pub mod Bytes
 pub mod Refs
 pub mod Standing
 pub mod Written
+pub mod Measured

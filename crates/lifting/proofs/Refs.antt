@@ -78,7 +78,7 @@ module _ (Q : Ref → Type 0) where
   bind-holds ordinary l c p env a d = a
   bind-holds dependent l c p env a d = binders-snoc env _ a d
 
-  refs-hold : (env : List Binder) (ns : List Name) (t : Trace) → AllBinders env → Gives (λ rs v. (v ≡ t) × (length rs ≡ length ns) × AllRefs rs) (refs env ns t)
+  pub refs-hold : (env : List Binder) (ns : List Name) (t : Trace) → AllBinders env → Gives (λ rs v. (v ≡ t) × (length rs ≡ length ns) × AllRefs rs) (refs env ns t)
   unfolding refs refOf first
   refs-hold env [] t a = value (refl, refl, tt)
   refs-hold env (n ∷ ns) t a = then (one env a) _ λ r v h. then (refs-hold env ns v a) _ λ rs w k. value (rw (k .0) (h .0), ap suc (k .1), (h .1, k .2))

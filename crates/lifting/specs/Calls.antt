@@ -56,3 +56,20 @@ liftedBytes s rs (just r) = wName (r .name) (wU16 (length (r .params)) (paramByt
 unfoldable pub keptBytes : List ℕ → List Record → List Definition → ℕ → List (List ℕ)
 keptBytes s rs [] p = []
 keptBytes s rs (d ∷ ds) p = withCalls s rs p (p + sizeOf d) ∷ keptBytes s rs ds (p + sizeOf d)
+
+-- the bytes of the name, the count of parameters and the parameters of a new body, by the records so far
+unfoldable pub paramRoom : List ℕ → List Record → List Name → List Ref → ℕ
+paramRoom s rs [] ts = 0
+paramRoom s rs (n ∷ ns) [] = 0
+paramRoom s rs (n ∷ ns) (t ∷ ts) = 1 + length n + length (refBytes s rs t) + paramRoom s rs ns ts
+
+unfoldable pub byteHead : List ℕ → List Record → Record → ℕ
+byteHead s rs r = 3 + length (r .name) + paramRoom s rs (r .params) (r .types)
+
+-- the bytes of a call
+unfoldable pub namesRoom : List Name → ℕ
+namesRoom [] = 0
+namesRoom (n ∷ ns) = 1 + length n + namesRoom ns
+
+unfoldable pub callRoom : Record → ℕ
+callRoom r = 5 + length (r .name) + namesRoom (r .params)
