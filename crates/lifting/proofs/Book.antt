@@ -43,7 +43,7 @@ in-rangeAll [] p = none
 in-rangeAll (d ∷ ds) p = both (wider (in-rangeD d p) (omega arith) (omega (arith, bodies-cons d ds))) (wider (in-rangeAll ds (p + sizeOf d)) (omega arith) (omega (arith, bodies-cons d ds)))
 
 -- the definition's own parameters
-own-means : (ps : List Param) (p : ℕ) (rs : List Record) → Means ps (ownBinders ps p) rs
+pub own-means : (ps : List Param) (p : ℕ) (rs : List Record) → Means ps (ownBinders ps p) rs
 unfolding ownBinders typeOf
 own-means ps p rs = record { meant = λ later l. same later ps p }
   where

@@ -23,6 +23,11 @@ use Rattle.lifting.proofs.Parts.{Part, Whole, WholeI, WholeF, WholeC, K
 use Rattle.lifting.proofs.Bytes.{kid-whole, raw, bytes-of, bytes-ofI}
 use Rattle.lifting.proofs.Refs.{AllRefs, WellTyped, Dep, Deps, DepsI, DepsF, DepsC}
 
+-- where what types a parameter ends, its chain with it
+unfoldable pub limit : Ref → ℕ
+limit (own i p) = p + sizeI i
+limit (passed c p) = p + size c
+
 module _ (s : List ℕ) (rs : List Record) where
   -- what types a parameter stands at its place
   abbrev pub Stood : Ref → Type 0

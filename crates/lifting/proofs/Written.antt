@@ -24,16 +24,16 @@ use Rattle.lifting.proofs.Calls.{Goes, ends, goes-on}
 use Rattle.lifting.proofs.Parts.{appended, first-none, under, over, none-under, none-over, Part, Whole, Raw, split}
 use Rattle.lifting.proofs.Bytes.{raw, goes-at, bytes-of}
 use Rattle.lifting.proofs.Refs.{AllBinders, WellTyped, AllTyped, Typing, trace-types}
-use Rattle.lifting.proofs.Standing.{Stood, AllWhole, all-whole, inside, lifted-bytes}
+use Rattle.lifting.proofs.Standing.{limit, Stood, AllWhole, all-whole, inside, lifted-bytes}
 use Rattle.lifting.proofs.Book.{bodies, bodies-cons, in-rangeD, in-rangeAll, Traced, was-traced}
 
 abbrev pub wHead : Name → List Param → List ℕ → List ℕ
 wHead n ps r = wName n (wList wParam ps r)
 
-s-head : (n : Name) (ps : List Param) → Splits (wHead n ps)
+pub s-head : (n : Name) (ps : List Param) → Splits (wHead n ps)
 s-head n ps a b = ap (wName n) (s-list wParam s-param ps a b) ∙ s-name n (wList wParam ps a) b
 
-head-length : (n : Name) (ps : List Param) → length (wHead n ps []) ≡ head n ps
+pub head-length : (n : Name) (ps : List Param) → length (wHead n ps []) ≡ head n ps
 unfolding head
 head-length n ps = adds (wName n) (s-name n) (wList wParam ps [])
 
@@ -90,25 +90,30 @@ module _ (s : List ℕ) (rs : List Record) where
   inside-all [] p t = tt
   inside-all (d ∷ ds) p t = let q = of-cons d ds p t in all-whole s rs (liftsD d p) (liftsAll ds (p + sizeOf d)) (inside-D d p (q .0)) (inside-all ds (p + sizeOf d) (q .1))
 
-  -- the definition's own parameters
-  params-stood : (ps : List Param) (p : ℕ) → Raw s rs (wAll wParam ps) p p (p + length (wAll wParam ps [])) → AllBinders (Stood s rs) (ownBinders ps p)
-  unfolding ownBinders wAll wParam sizeI
-  params-stood [] p t = tt
-  params-stood (x ∷ ps) p t =
-      let e = adds (wParam x) (s-param x) (wAll wParam ps []) in
+  -- the definition's own parameters, each before the combinator
+  params-stood : (ps : List Param) (p e : ℕ) → Raw s rs (wAll wParam ps) p p e → p + length (wAll wParam ps []) ≡ e → AllBinders (λ t. Stood s rs t × (limit t ≤ e)) (ownBinders ps p)
+  unfolding ownBinders wAll wParam sizeI limit
+  params-stood [] p e t h = tt
+  params-stood (x ∷ ps) p e t h =
+      let k = adds (wParam x) (s-param x) (wAll wParam ps []) in
       let q = p + length (wParam x []) in
-      let a = split s rs (wParam x) (wAll wParam ps) (s-param x) q (q + length (wAll wParam ps [])) t (omega (arith, e)) refl (omega arith) (omega arith) (first-none []) none-under none-over in
+      let a = split s rs (wParam x) (wAll wParam ps) (s-param x) q e t refl refl (omega arith) (omega (arith, k)) (first-none []) none-under none-over in
       let o = p + length (wName (x .name) []) in
-      let b = split s rs (wName (x .name)) (wInner (x .type)) (s-name (x .name)) o (o + sizeI (x .type)) (a .0) (omega (arith, adds (wName (x .name)) (s-name (x .name)) (wInner (x .type) []))) refl (omega arith) (omega arith) (first-none []) none-under none-over in
-      (b .1, params-stood ps q (a .1))
+      let m = adds (wName (x .name)) (s-name (x .name)) (wInner (x .type) []) in
+      let b = split s rs (wName (x .name)) (wInner (x .type)) (s-name (x .name)) o (o + sizeI (x .type)) (a .0) (omega (arith, m)) refl (omega arith) (omega arith) (first-none []) none-under none-over in
+      ((b .1, omega (arith, k, m)), params-stood ps q e (a .1) (omega (arith, k)))
 
-  own-stood : (n : Name) (ps : List Param) (p : ℕ) → Raw s rs (wHead n ps) p p (p + head n ps) → AllBinders (Stood s rs) (ownBinders ps (paramsAt p n))
+  pub own-stood : (n : Name) (ps : List Param) (p : ℕ) → Raw s rs (wHead n ps) p p (p + head n ps) → AllBinders (λ t. Stood s rs t × (limit t ≤ p + head n ps)) (ownBinders ps (paramsAt p n))
   unfolding head wList wU16
   own-stood n ps p t =
       let o = p + length (wName n []) in
-      let a = split s rs (wName n) (wList wParam ps) (s-name n) o (o + length (wList wParam ps [])) t (omega arith) refl (omega arith) (omega arith) (first-none []) none-under none-over in
-      let b = split s rs (wU16 (length ps)) (wAll wParam ps) (s-u16 (length ps)) (o + 2) (o + 2 + length (wAll wParam ps [])) (a .1) (omega arith) refl (omega arith) (omega arith) (first-none []) none-under none-over in
-      params-stood ps (paramsAt p n) (b .1)
+      let a = split s rs (wName n) (wList wParam ps) (s-name n) o (p + head n ps) t refl refl (omega arith) (omega arith) (first-none []) none-under none-over in
+      let b = split s rs (wU16 (length ps)) (wAll wParam ps) (s-u16 (length ps)) (o + 2) (p + head n ps) (a .1) refl refl (omega arith) (omega arith) (first-none []) none-under none-over in
+      params-stood ps (paramsAt p n) (p + head n ps) (b .1) (omega arith)
+
+  binders-stood : (q : ℕ) (env : List Binder) → AllBinders (λ t. Stood s rs t × (limit t ≤ q)) env → AllBinders (Stood s rs) env
+  binders-stood q [] h = tt
+  binders-stood q (b ∷ env) h = (h .0 .0, binders-stood q env (h .1))
 
   -- what types the parameters stands in the book
   module _ (headOf : List Record → Record → ℕ) where
@@ -118,7 +123,7 @@ module _ (s : List ℕ) (rs : List Record) where
     traceAll-types (format n ps c ∷ ds) p t w a =
         let q = of-cons (format n ps c) ds p w in
         let f = of-format n ps c p (q .0) in
-        then (trace-types headOf (Stood s rs) c (p + head n ps) n (ownBinders ps (paramsAt p n)) t (inside s rs c (p + head n ps) (f .1) .1) (own-stood n ps p (f .0)) a) _ λ u v h.
+        then (trace-types headOf (Stood s rs) c (p + head n ps) n (ownBinders ps (paramsAt p n)) t (inside s rs c (p + head n ps) (f .1) .1) (binders-stood (p + head n ps) (ownBinders ps (paramsAt p n)) (own-stood n ps p (f .0))) a) _ λ u v h.
         traceAll-types ds (p + sizeOf (format n ps c)) v (q .1) h
     traceAll-types (constant n x ∷ ds) p t w a = traceAll-types ds (p + sizeOf (constant n x)) t (of-cons (constant n x) ds p w .1) a
     traceAll-types (byte-order x ∷ ds) p t w a = traceAll-types ds (p + sizeOf (byte-order x)) t (of-cons (byte-order x) ds p w .1) a
