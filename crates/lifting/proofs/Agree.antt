@@ -153,10 +153,14 @@ module _ (c : Combinator) (p : ℕ) (inside : Walk) (trail : Tracing)
     new-inside : New (lifts c p) (t .records ++ (r ∷ []))
     new-inside = record { new = λ x h. find-other (t .records) r x (λ e. let k = in-range c p .range x h in omega arith) ∙ n .new x (stands-left x (lifts c p) (this ∷ []) h) }
 
+    none-yet : find (t .records) p ≡ absent
+    none-yet = n .new p (stands-right p (lifts c p) (this ∷ []) (inl refl))
+
+    later-made : Later (t .records) (t .records ++ (r ∷ []))
+    later-made = later-one (t .records) r p at none-yet
+
     found-here : (rs : List Record) → Later (t .records ++ (r ∷ [])) rs → find rs p ≡ just r
-    found-here rs l =
-        let e : find (t .records) p ≡ absent = n .new p (stands-right p (lifts c p) (this ∷ []) (inl refl)) in
-        rw (l .grown, append-assoc (t .records) (r ∷ []) (l .more), ← at) (find-here (t .records) r (l .more) (rw at e))
+    found-here rs l = l .keeps p r (find-here (t .records) r p at)
 
     -- what was lifted out of it, and then itself
     finishes : (ps : List Param) (s₁ : State) (d : Combinator) (u : State) (v : Trace) → s₁ .made ≡ s .made → Did (out c p) (lifts c p) s₁ (enter treeHead r t) d u v
@@ -165,7 +169,7 @@ module _ (c : Combinator) (p : ℕ) (inside : Walk) (trail : Tracing)
     unfolding enter finish append replaced definitionOf madeBy
     finishes ps s₁ d u v e g types ends short needed = record {
       same = record { taken = g .same .taken; bytes = g .same .bytes; defns = g .same .defns };
-      later = later-on (later-one (t .records) r) (g .later);
+      later = later-on later-made (g .later);
       only = λ x h. g .only x (λ k. h (stands-left x (lifts c p) (this ∷ []) k)) ∙ find-other (t .records) r x (λ k. h (stands-right x (lifts c p) (this ∷ []) (inl (sym at ∙ k))));
       finished = rw (g .finished, map-append (λ l. l .at) (lifts c p) (this ∷ [])) (append-assoc (t .finished) _ _);
       body = λ rs l. rw (found-here rs (later-on (g .later) l));
@@ -174,7 +178,7 @@ module _ (c : Combinator) (p : ℕ) (inside : Walk) (trail : Tracing)
         e,
         map-append (definitionOf rs) (lifts c p) (this ∷ []),
         found-here rs (later-on (g .later) l),
-        types rs (later-on (later-one (t .records) r) (later-on (g .later) l)),
+        types rs (later-on later-made (later-on (g .later) l)),
         g .body rs l,
       ) (append-assoc (s .made) _ _);
       found = λ rs l. all-found rs (lifts c p) (this ∷ []) (g .found rs l) (record { of = r; found = found-here rs (later-on (g .later) l); begins = at; ends = ends; named = short; needed = needed }, tt);
@@ -215,7 +219,7 @@ module _ (c : Combinator) (p : ℕ) (inside : Walk) (trail : Tracing)
           ok tt (finish p t))
     unfolding measured fits enter take grow
     measured-both = ask-alike _ _ tests _ grown (enter treeHead made t) _ _ (
-        then (ih n b env (take n grown) (enter treeHead made t) entered (means-on w (later-one (t .records) made)) (new-inside made refl s t new)) _ _ λ d u x v g.
+        then (ih n b env (take n grown) (enter treeHead made t) entered (means-on w (later-made made refl s t new)) (new-inside made refl s t new)) _ _ λ d u x v g.
         values (finishes made refl s t new ps (take n grown) d u v refl g types refl short refl))
 
   lift-both : (base : Name) (b : List Param) (env : List Binder) (s : State) (t : Trace) → Matches s t → Means b env (t .records) → New (lifts c p ++ (this ∷ [])) (t .records)

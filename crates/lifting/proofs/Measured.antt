@@ -24,7 +24,7 @@ use Rattle.lifting.specs.Calls.{refBytes, paramRoom, byteHead, namesRoom
 use Rattle.lifting.specs.Trace.{Trace, Binder, refs, enter, finish, fits, bindRef, Tracing, lifting, traceBy, trace, traceI, traceF, traceC, ownBinders, paramsAt, treeHead, traceAll, begin, traceBook}
 use Rattle.lifting.proofs.Both.{Both, alike}
 use Rattle.lifting.proofs.Found.{Later, later-self, later-one, find-other, Stands, Found, AllFound}
-use Rattle.lifting.proofs.Ranges.{Between, open-some, sizeI-some, in-range, in-rangeK}
+use Rattle.lifting.proofs.Ranges.{Between, open-some, sizeI-some, size-some, in-range, in-rangeK}
 use Rattle.lifting.proofs.Parts.{wStruct, wChoice, s-choice, wField, s-field, wConst, s-const, first-none, none-under, none-over, Part, Kid, Raw, split}
 use Rattle.lifting.proofs.Refs.{AllRefs, AllBinders, WellTyped, Dep, refs-hold, bind-holds}
 use Rattle.lifting.proofs.Standing.{limit, Stood, ref-bytes}
@@ -139,7 +139,7 @@ module _ (s : List ℕ) where
     entered : (n : Name) (b : List Param) (env : List Binder) (t : Trace) (r : Record) → r .at ≡ p → Means b env (t .records) → Known (t .records) p env → Blank (t .records) (wCombinator c) p p (p + size c)
         → one n env (enter treeHead r t) ≡ two n env (enter treeHead r t)
     unfolding enter
-    entered n b env t r at w k z = ih n b env (enter treeHead r t) (means-on w (later-one (t .records) r))
+    entered n b env t r at w k z = ih n b env (enter treeHead r t) (means-on w (later-one (t .records) r p at (z .clear p (omega arith) (omega (arith, size-some c)) (λ k. k))))
         (known-on (t .records) (t .records ++ (r ∷ [])) p p env k (omega arith) (λ x h. find-other (t .records) r x (λ e. omega arith)))
         (record { rest = z .rest; stands = z .stands; clear = λ x i j h. find-other (t .records) r x (λ e. omega arith) ∙ z .clear x (omega arith) j h; found = tt })
 

@@ -14,7 +14,7 @@ use Rattle.definition.specs.Size.{size, sizeBook}
 use Rattle.laws.proofs.Splits.{Splits, s-u16, s-name, s-all, s-list, s-param, s-definition}
 use Rattle.laws.proofs.Sizes.{adds, sizeI, head, room, size-format, size-book, size-bodies}
 use Rattle.laws.proofs.Steps.{Gives, value, then, gave}
-use Rattle.lifting.specs.Records.{Ref, own, Record, find}
+use Rattle.lifting.specs.Records.{Ref, Record, orElse, find}
 use Rattle.lifting.specs.After.{out, Lift, lifts, definitionOf, outD, liftsD, outAll, liftsAll, firstAt}
 use Rattle.lifting.specs.Calls.{withCalls, liftedBytes, keptBytes}
 use Rattle.lifting.specs.Trace.{Trace, Binder, ownBinders, paramsAt, treeHead, traceAll, begin, traceBook}
@@ -132,11 +132,12 @@ module _ (s : List ℕ) (rs : List Record) where
   found-typed : (Q : Ref → Type 0) (all : List Record) (x : ℕ) (r : Record) → AllTyped Q all → find all x ≡ just r → WellTyped Q r
   unfolding find
   found-typed Q [] x r a e = let z : _≡_ {A = ℕ} 0 1 = cc in absurd (omega arith)
-  found-typed Q (y ∷ all) x r a e = of (eqb (y .at) x) e (λ k. found-typed Q all x r (a .1) k)
+  found-typed Q (y ∷ all) x r a e = of (find all x) (eqb (y .at) x) e (λ k. found-typed Q all x r (a .1) k)
     where
-      of : (b : Bool) → cond b (just y) (find all x) ≡ just r → (find all x ≡ just r → WellTyped Q r) → WellTyped Q r
-      of true k go = let h : y ≡ r = cc in rw h at (a .0)
-      of false k go = go k
+      of : (m : Maybe Record) (b : Bool) → orElse m (cond b (just y) absent) ≡ just r → (m ≡ just r → WellTyped Q r) → WellTyped Q r
+      of (just o) b k go = go k
+      of absent true k go = let h : y ≡ r = cc in rw h at (a .0)
+      of absent false k go = let z : _≡_ {A = ℕ} 0 1 = cc in absurd (omega arith)
 
   lifted-all : (ls : List Lift) → AllFound rs ls → AllWhole s rs ls → AllTyped (Stood s rs) rs
       → map (λ d. wDefinition d []) (map (definitionOf rs) ls) ≡ map (λ x. liftedBytes s rs (find rs x)) (map (λ l. l .at) ls)
