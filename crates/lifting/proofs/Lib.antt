@@ -10,3 +10,4 @@ pub mod Refs
 pub mod Standing
 pub mod Written
 pub mod Measured
+pub mod Laws

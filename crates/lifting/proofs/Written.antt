@@ -1,22 +1,22 @@
 -- What the writing pass writes: every body of the result by places of the expanded book and the records.
 use mathlib.Core.Path.{_≡_, refl, sym, ap, _∙_}
 use mathlib.Core.Bool.{Bool, true, false, cond}
-use mathlib.Core.List.{List, [], _∷_, _++_, map}
+use mathlib.Core.List.{List, [], _∷_, _++_, map, map-append}
 use Prim.Native.Nat.{ℕ, suc, _+_, _*_, _≤_, _<_}
 use native.Mathlib.Omega.{arith}
 use lib.Dec.{eqb}
 use lib.ListN.{length, drop, length-map}
 use lib.Seq.{drop-append-le}
 use Rattle.definition.specs.Res.{Maybe, absent, just, ok}
-use Rattle.definition.specs.Tree.{Name, Combinator, Inner, Param, Definition, format, constant, byte-order, macro}
-use Rattle.definition.specs.Write.{wU16, wName, wAll, wList, wCombinator, wInner, wParam, wDefinition, sizeOf, wEntries, wParts, entryOf, wBook}
+use Rattle.definition.specs.Tree.{Name, Combinator, Inner, Param, Definition, isFormat, format, constant, byte-order, macro}
+use Rattle.definition.specs.Write.{wU16, wName, wAll, wList, wCombinator, wInner, wParam, wDefinition, kindOf, sizeOf, wEntries, wParts, entryOf, wBook}
 use Rattle.definition.specs.Size.{size, sizeBook}
 use Rattle.laws.proofs.Splits.{Splits, s-u16, s-name, s-all, s-list, s-param, s-definition}
 use Rattle.laws.proofs.Sizes.{adds, sizeI, head, room, size-format, size-book, size-bodies}
 use Rattle.laws.proofs.Steps.{Gives, value, then, gave}
 use Rattle.lifting.specs.Records.{Ref, Record, orElse, find}
-use Rattle.lifting.specs.After.{out, Lift, lifts, definitionOf, outD, liftsD, outAll, liftsAll, firstAt}
-use Rattle.lifting.specs.Calls.{withCalls, liftedBytes, keptBytes}
+use Rattle.lifting.specs.After.{out, Lift, lifts, madeBy, definitionOf, outD, liftsD, outAll, liftsAll, firstAt}
+use Rattle.lifting.specs.Calls.{withCalls, liftedBytes, keptBytes, entriesOf, joined, bookOf, resultBytes}
 use Rattle.lifting.specs.Trace.{Trace, Binder, ownBinders, paramsAt, treeHead, traceAll, begin, traceBook}
 use Rattle.lifting.proofs.Found.{Stands, Found, AllFound}
 use Rattle.lifting.proofs.Ranges.{Between, in-range, size-some}
@@ -162,19 +162,60 @@ bodies-stand ds z =
     let k : length (map entryOf ds) ≡ length ds = length-map ds entryOf in
     rw (n, k, entries-append (2 + 6 * length ds) ds (wAll wDefinition ds []) z, drop-entries (2 + 6 * length ds) ds (wAll wDefinition ds [] ++ z)) (sym (s-all wDefinition s-definition ds [] z))
 
--- what the result's bodies are, by the expanded book s (whatever follows it), the records and the places of the lifts in the order of their definitions
-pub record Written (s : List ℕ) (ds : List Definition) (t : Trace) : Type 0 where
-  pub kept : map (λ d. wDefinition d []) (outAll ds (firstAt ds) (t .records)) ≡ keptBytes s (t .records) ds (firstAt ds)
-  pub lifted : map (λ d. wDefinition d []) (map (definitionOf (t .records)) (liftsAll ds (firstAt ds))) ≡ map (λ x. liftedBytes s (t .records) (find (t .records) x)) (t .finished)
+-- a book by its bodies' bytes
+entries-of : (ds : List Definition) → entriesOf (map kindOf ds) (map (λ d. wDefinition d []) ds) ≡ map entryOf ds
+unfolding entriesOf entryOf sizeOf
+entries-of [] = refl
+entries-of (d ∷ ds) = rw (entries-of ds)
 
-pub written : (ds : List Definition) (z : List ℕ) (t : Trace) → traceBook treeHead ds ≡ ok tt t → Written (wBook ds ++ z) ds t
-unfolding traceBook begin
+joined-is : (ds : List Definition) → joined (map (λ d. wDefinition d []) ds) ≡ wAll wDefinition ds []
+unfolding joined wAll
+joined-is [] = refl
+joined-is (d ∷ ds) = rw (joined-is ds) (sym (s-definition d [] (wAll wDefinition ds [])))
+
+book-of : (ds : List Definition) → wBook ds ≡ bookOf (map kindOf ds) (map (λ d. wDefinition d []) ds)
+unfolding wBook wParts bookOf
+book-of ds = rw (entries-of ds, joined-is ds, length-map ds entryOf, length-map ds (λ d. wDefinition d []))
+
+kind-out : (d : Definition) (p : ℕ) (rs : List Record) → kindOf (outD d p rs) ≡ kindOf d
+unfolding outD kindOf
+kind-out (format n ps c) p rs = refl
+kind-out (constant n x) p rs = refl
+kind-out (byte-order x) p rs = refl
+kind-out (macro n ps c) p rs = refl
+
+kinds-out : (ds : List Definition) (p : ℕ) (rs : List Record) → map kindOf (outAll ds p rs) ≡ map kindOf ds
+unfolding outAll
+kinds-out [] p rs = refl
+kinds-out (d ∷ ds) p rs = rw (kind-out d p rs, kinds-out ds (p + sizeOf d) rs)
+
+kinds-lifted : (rs : List Record) (ls : List Lift) → map kindOf (map (definitionOf rs) ls) ≡ map (λ x. isFormat) (map (λ l. l .at) ls)
+unfolding definitionOf madeBy kindOf
+kinds-lifted rs [] = refl
+kinds-lifted rs (l ∷ ls) = rw (of (find rs (l .at)), kinds-lifted rs ls)
+  where
+    of : (m : Maybe Record) → kindOf (madeBy m rs l) ≡ isFormat
+    of absent = refl
+    of (just r) = refl
+
+pub written : (ds : List Definition) (z : List ℕ) (t : Trace) → traceBook treeHead ds ≡ ok tt t
+    → wBook (outAll ds (firstAt ds) (t .records) ++ map (definitionOf (t .records)) (liftsAll ds (firstAt ds))) ≡ resultBytes (wBook ds ++ z) ds (t .records) (t .finished)
+unfolding traceBook begin resultBytes
 written ds z t e =
     let s = wBook ds ++ z in
+    let rs = t .records in
     let k = was-traced ds t e in
-    let w : WholeAll s (t .records) ds (firstAt ds) = record { rest = z; stands = bodies-stand ds z; clear = λ x i j h. k .only x h; found = k .found } in
-    let a = gave (traceAll-types s (t .records) treeHead ds (firstAt ds) (begin ds) w tt) e in
-    record {
-      kept = kept-all s (t .records) ds (firstAt ds) w;
-      lifted = lifted-all s (t .records) (liftsAll ds (firstAt ds)) (k .found) (inside-all s (t .records) ds (firstAt ds) w) a ∙ ap (map (λ x. liftedBytes s (t .records) (find (t .records) x))) (sym (k .finished));
-    }
+    let w : WholeAll s rs ds (firstAt ds) = record { rest = z; stands = bodies-stand ds z; clear = λ x i j h. k .only x h; found = k .found } in
+    let a = gave (traceAll-types s rs treeHead ds (firstAt ds) (begin ds) w tt) e in
+    let o = outAll ds (firstAt ds) rs in
+    let m = map (definitionOf rs) (liftsAll ds (firstAt ds)) in
+    rw (
+      book-of (o ++ m),
+      map-append kindOf o m,
+      map-append (λ d. wDefinition d []) o m,
+      kinds-out ds (firstAt ds) rs,
+      kinds-lifted rs (liftsAll ds (firstAt ds)),
+      kept-all s rs ds (firstAt ds) w,
+      lifted-all s rs (liftsAll ds (firstAt ds)) (k .found) (inside-all s rs ds (firstAt ds) w) a,
+      k .finished,
+    )

@@ -1,12 +1,13 @@
 -- A range of the expanded book with the range of each lift replaced by its call. Document 01, "Lifting rules".
-use mathlib.Core.List.{List, [], _∷_, _++_}
-use Prim.Native.Nat.{ℕ, zero, suc, _+_, _-_}
+use mathlib.Core.List.{List, [], _∷_, _++_, map}
+use Prim.Native.Nat.{ℕ, zero, suc, _+_, _*_, _-_}
 use lib.ListN.{length, getD}
 use Rattle.definition.specs.Res.{Maybe, absent, just}
-use Rattle.definition.specs.Tree.{Name, invocation, Definition}
-use Rattle.definition.specs.Write.{wU16, wName, wCombinator, wInner, sizeOf}
+use Rattle.definition.specs.Tree.{Name, invocation, Kind, isFormat, Entry, Definition}
+use Rattle.definition.specs.Write.{wU16, wName, wCombinator, wInner, kindOf, sizeOf, wEntries}
 use Rattle.definition.specs.Macros.{innerOf}
 use Rattle.laws.proofs.Sizes.{sizeI}
+use Rattle.lifting.specs.After.{firstAt}
 use Rattle.lifting.specs.Records.{Ref, own, passed, Record, find, call}
 
 -- the byte at a place, or the call of the lift there; `on` goes on after leaving out so many places
@@ -56,6 +57,23 @@ liftedBytes s rs (just r) = wName (r .name) (wU16 (length (r .params)) (paramByt
 unfoldable pub keptBytes : List ℕ → List Record → List Definition → ℕ → List (List ℕ)
 keptBytes s rs [] p = []
 keptBytes s rs (d ∷ ds) p = withCalls s rs p (p + sizeOf d) ∷ keptBytes s rs ds (p + sizeOf d)
+
+-- a book by the kinds and the bytes of its bodies: "each next is the previous offset plus its length"
+unfoldable pub entriesOf : List Kind → List (List ℕ) → List Entry
+entriesOf [] bs = []
+entriesOf (k ∷ ks) [] = []
+entriesOf (k ∷ ks) (b ∷ bs) = record { kind = k; size = length b; extra = [] } ∷ entriesOf ks bs
+
+unfoldable pub joined : List (List ℕ) → List ℕ
+joined [] = []
+joined (b ∷ bs) = b ++ joined bs
+
+unfoldable pub bookOf : List Kind → List (List ℕ) → List ℕ
+bookOf ks bs = wU16 (length bs) (wEntries (2 + 6 * length bs) (entriesOf ks bs) (joined bs))
+
+-- the result: the bodies of the expanded book with their calls, then the lifted definitions in the order in which the lifts were finished
+unfoldable pub resultBytes : List ℕ → List Definition → List Record → List ℕ → List ℕ
+resultBytes s ds rs finished = bookOf (map kindOf ds ++ map (λ x. isFormat) finished) (keptBytes s rs ds (firstAt ds) ++ map (λ x. liftedBytes s rs (find rs x)) finished)
 
 -- the bytes of the name, the count of parameters and the parameters of a new body, by the records so far
 unfoldable pub paramRoom : List ℕ → List Record → List Name → List Ref → ℕ

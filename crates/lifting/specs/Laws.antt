@@ -1,0 +1,1 @@
+-- The laws of lifting by place, statement by statement. The proofs are in proofs/Laws.antt.
