@@ -19,10 +19,10 @@ use Rattle.definition.specs.Collect.{anonymous, free, leftover}
 use Rattle.definition.specs.Lift.{full, State, Walk, binder, bound, typed, take, grow, measured, append, lift, childBy, bind, walk, walkI, walkF, walkC, walkAll}
 use Rattle.laws.proofs.Sizes.{head, size-format}
 use Rattle.lifting.specs.Records.{Ref, own, passed, Record, find, call}
-use Rattle.lifting.specs.After.{chainAt, fieldsAt, casesAt, shellAt, fieldAt, constEnd, caseAt, replaced, out, outI, outF, outC, Lift, itself, lifts, liftsI, liftsF, liftsC, liftsK, typeOf, paramsOf, madeBy, definitionOf}
+use Rattle.lifting.specs.After.{chainAt, fieldsAt, casesAt, shellAt, fieldAt, constEnd, caseAt, replaced, out, outI, outF, outC, Lift, itself, lifts, liftsI, liftsF, liftsC, liftsK, typeOf, paramsOf, madeBy, definitionOf, Stands, Found, AllFound}
 use Rattle.lifting.specs.Trace.{Trace, treeHead, Binder, first, refOf, refs, enter, finish, fits, bindRef, Tracing, lifting, traceBy, trace, traceI, traceF, traceC}
 use Rattle.lifting.proofs.Both.{Both, refusals, values, then, first-then, ask, ask-alike, Still, still}
-use Rattle.lifting.proofs.Found.{Later, later-self, later-one, later-on, find-here, find-other, Stands, stands-left, stands-right, stands-either, Found, AllFound, all-found}
+use Rattle.lifting.proofs.Found.{Later, later-self, later-one, later-on, find-here, find-other, stands-left, stands-right, stands-either, all-found}
 use Rattle.lifting.proofs.Ranges.{Between, apart, in-range, in-rangeI, in-rangeF, in-rangeC, in-rangeK}
 
 -- the two states tell the same

@@ -15,10 +15,11 @@ use Rattle.laws.proofs.Splits.{s-definition}
 use Rattle.laws.proofs.Sizes.{adds, head, size-format}
 use Rattle.laws.proofs.Measure.{measures}
 use Rattle.lifting.specs.Records.{Record, find}
-use Rattle.lifting.specs.After.{Lift, lifts, typeOf, definitionOf, outD, liftsD, outAll, liftsAll, firstAt}
+use Rattle.lifting.specs.After.{Lift, lifts, typeOf, definitionOf, outD, liftsD, outAll, liftsAll, firstAt, Stands, AllFound}
 use Rattle.lifting.specs.Trace.{Trace, treeHead, ownBinders, paramsAt, traceAll, begin, traceBook, traced}
+use Rattle.lifting.specs.Laws.{Traced}
 use Rattle.lifting.proofs.Both.{Both, refusals, values, then, first-then}
-use Rattle.lifting.proofs.Found.{later-self, Stands, AllFound}
+use Rattle.lifting.proofs.Found.{later-self}
 use Rattle.lifting.proofs.Ranges.{Between, none, wider, both, apart, in-range}
 use Rattle.lifting.proofs.Agree.{Matches, paramOf, Means, means-on, New, Did, Makes, nothing-made, one, two, new-left, new-right, walk-both}
 
@@ -76,21 +77,10 @@ elaborated-by ds = of (book-both ds)
     of refusals = refl
     of (values {t = t} g) = let l = later-self (t .records) in rw (g .body (t .records) l, g .made (t .records) l)
 
-length-outAll : (ds : List Definition) (p : ℕ) (rs : List Record) → length (outAll ds p rs) ≡ length ds
+pub length-outAll : (ds : List Definition) (p : ℕ) (rs : List Record) → length (outAll ds p rs) ≡ length ds
 unfolding outAll
 length-outAll [] p rs = refl
 length-outAll (d ∷ ds) p rs = ap suc (length-outAll ds _ rs)
-
--- what the finished records are
-pub record Traced (ds : List Definition) (t : Trace) : Type 0 where
-  -- each lift has its record, and no record stands elsewhere
-  pub found : AllFound (t .records) (liftsAll ds (firstAt ds))
-  pub only : (x : ℕ) → (Stands x (liftsAll ds (firstAt ds)) → ⊥) → find (t .records) x ≡ absent
-  -- the lifts in the order of their definitions
-  pub finished : t .finished ≡ map (λ l. l .at) (liftsAll ds (firstAt ds))
-  -- code 10's numbers are the result's
-  pub bytes : t .bytes ≡ sizeBook (outAll ds (firstAt ds) (t .records) ++ map (definitionOf (t .records)) (liftsAll ds (firstAt ds)))
-  pub defns : t .defns ≡ length ds + length (liftsAll ds (firstAt ds))
 
 pub was-traced : (ds : List Definition) (t : Trace) → traceBook treeHead ds ≡ ok tt t → Traced ds t
 unfolding begin start find

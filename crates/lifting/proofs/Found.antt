@@ -9,12 +9,8 @@ use lib.Dec.{eqb}
 use borrow.Author.Tests.{eq-eqb, ne-eqb}
 use lib.ListN.{length}
 use Rattle.definition.specs.Res.{Maybe, absent, just}
-use Rattle.definition.specs.Tree.{Name}
-use Rattle.definition.specs.Names.{sorted}
-use Rattle.definition.specs.Collect.{free}
-use Rattle.definition.specs.Size.{size}
 use Rattle.lifting.specs.Records.{Record, orElse, find}
-use Rattle.lifting.specs.After.{Lift}
+use Rattle.lifting.specs.After.{Lift, Stands, Found, AllFound}
 
 -- a record appended is what is found at its place
 pub find-snoc : (a : List Record) (r : Record) (x : ℕ) → find (a ++ (r ∷ [])) x ≡ cond (eqb (r .at) x) (just r) (find a x)
@@ -45,11 +41,6 @@ later-on g h = record { keeps = λ x r e. h .keeps x r (g .keeps x r e) }
 pub later-one : (a : List Record) (r : Record) (x : ℕ) → r .at ≡ x → find a x ≡ absent → Later a (a ++ (r ∷ []))
 later-one a r x h n = record { keeps = λ y q e. find-other a r y (λ k. let f : find a x ≡ just q = rw (sym h ∙ k) e in let z : _≡_ {A = ℕ} 0 1 = cc in omega arith) ∙ e }
 
--- a lift stands at a place
-abbrev pub Stands : ℕ → List Lift → Type 0
-Stands x [] = ⊥
-Stands x (l ∷ ls) = (l .at ≡ x) ⊎ Stands x ls
-
 pub stands-left : (x : ℕ) (a b : List Lift) → Stands x a → Stands x (a ++ b)
 stands-left x (l ∷ a) b (inl e) = inl e
 stands-left x (l ∷ a) b (inr h) = inr (stands-left x a b h)
@@ -66,19 +57,6 @@ stands-either x (l ∷ a) b (inr h) = over (stands-either x a b h)
     over : Stands x a ⊎ Stands x b → Stands x (l ∷ a) ⊎ Stands x b
     over (inl h) = inl (inr h)
     over (inr h) = inr h
-
--- the record of a lift
-pub record Found (rs : List Record) (l : Lift) : Type 0 where
-  pub of : Record
-  pub found : find rs (l .at) ≡ just of
-  pub begins : of .at ≡ l .at
-  pub ends : of .end ≡ l .at + size (l .what)
-  pub named : length (of .name) ≤ 255
-  pub needed : of .params ≡ sorted (free (l .what))
-
-abbrev pub AllFound : List Record → List Lift → Type 0
-AllFound rs [] = Unit {0}
-AllFound rs (l ∷ ls) = Found rs l × AllFound rs ls
 
 pub all-found : (rs : List Record) (a b : List Lift) → AllFound rs a → AllFound rs b → AllFound rs (a ++ b)
 all-found rs [] b f g = g

@@ -19,11 +19,11 @@ use Rattle.laws.proofs.Splits.{Splits, s-name, s-all, s-selector, s-label, s-op
 use Rattle.laws.proofs.Sizes.{adds, sizeI, sizeF, sizeC, head, size-plain, size-chained, size-struct, size-choice, size-shell, size-field, size-constant, size-case, size-format}
 use Rattle.laws.proofs.Steps.{Gives, refusal, value}
 use Rattle.lifting.specs.Records.{Ref, own, passed, Record, find, call}
-use Rattle.lifting.specs.After.{chainAt, fieldsAt, casesAt, shellAt, fieldAt, constEnd, caseAt, Lift, lifts, liftsI, liftsF, liftsC, liftsK, typeOf, paramsOf, firstAt}
+use Rattle.lifting.specs.After.{chainAt, fieldsAt, casesAt, shellAt, fieldAt, constEnd, caseAt, Lift, lifts, liftsI, liftsF, liftsC, liftsK, typeOf, paramsOf, firstAt, Stands, Found, AllFound}
 use Rattle.lifting.specs.Calls.{refBytes, paramRoom, byteHead, namesRoom, callRoom}
 use Rattle.lifting.specs.Trace.{Trace, Binder, refs, enter, finish, fits, bindRef, Tracing, lifting, traceBy, trace, traceI, traceF, traceC, ownBinders, paramsAt, treeHead, traceAll, begin, traceBook}
 use Rattle.lifting.proofs.Both.{Both, alike}
-use Rattle.lifting.proofs.Found.{Later, later-self, later-one, find-other, Stands, Found, AllFound}
+use Rattle.lifting.proofs.Found.{Later, later-self, later-one, find-other}
 use Rattle.lifting.proofs.Ranges.{Between, open-some, sizeI-some, size-some, in-range, in-rangeK}
 use Rattle.lifting.proofs.Parts.{wStruct, wChoice, s-choice, wField, s-field, wConst, s-const, first-none, none-under, none-over, Part, Kid, Raw, split}
 use Rattle.lifting.proofs.Refs.{AllRefs, AllBinders, WellTyped, Dep, refs-hold, bind-holds}

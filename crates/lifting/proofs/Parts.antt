@@ -14,8 +14,8 @@ use Rattle.definition.specs.Collect.{anonymous}
 use Rattle.laws.proofs.Splits.{Splits, s-u16, s-name, s-text, s-selector, s-label, s-open, s-shut, s-comb, s-inner}
 use Rattle.laws.proofs.Sizes.{adds, sizeI, sizeF, sizeC, size-plain, size-chained, size-struct, size-choice, size-shell, size-field, size-constant, size-case}
 use Rattle.lifting.specs.Records.{Record, find}
-use Rattle.lifting.specs.After.{chainAt, fieldsAt, casesAt, shellAt, fieldAt, constEnd, caseAt, Lift, itself, lifts, liftsI, liftsF, liftsC}
-use Rattle.lifting.proofs.Found.{Stands, stands-either, Found, AllFound, found-left, found-right}
+use Rattle.lifting.specs.After.{chainAt, fieldsAt, casesAt, shellAt, fieldAt, constEnd, caseAt, Lift, itself, lifts, liftsI, liftsF, liftsC, Stands, Found, AllFound}
+use Rattle.lifting.proofs.Found.{stands-either, found-left, found-right}
 use Rattle.lifting.proofs.Ranges.{Between, open-some, sizeI-some, in-range, in-rangeI, in-rangeF, in-rangeC, in-rangeK}
 
 -- two lists of lifts make up one

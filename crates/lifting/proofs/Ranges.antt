@@ -11,8 +11,8 @@ use Rattle.definition.specs.Collect.{anonymous}
 use Rattle.definition.specs.Write.{wOpen, wCombinator}
 use Rattle.definition.specs.Size.{size}
 use Rattle.laws.proofs.Sizes.{sizeI, sizeF, sizeC, size-plain, size-chained, size-struct, size-choice, size-shell, size-field, size-constant, size-case}
-use Rattle.lifting.specs.After.{chainAt, fieldsAt, casesAt, shellAt, fieldAt, constEnd, caseAt, Lift, itself, lifts, liftsI, liftsF, liftsC}
-use Rattle.lifting.proofs.Found.{Stands, stands-either}
+use Rattle.lifting.specs.After.{chainAt, fieldsAt, casesAt, shellAt, fieldAt, constEnd, caseAt, Lift, itself, lifts, liftsI, liftsF, liftsC, Stands}
+use Rattle.lifting.proofs.Found.{stands-either}
 
 -- all lifts stand from a place on and before another
 pub record Between (a b : ℕ) (ls : List Lift) : Type 0 where

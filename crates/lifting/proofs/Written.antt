@@ -15,17 +15,16 @@ use Rattle.laws.proofs.Splits.{Splits, s-u16, s-name, s-all, s-list, s-param, s
 use Rattle.laws.proofs.Sizes.{adds, sizeI, head, room, size-format, size-book, size-bodies}
 use Rattle.laws.proofs.Steps.{Gives, value, then, gave}
 use Rattle.lifting.specs.Records.{Ref, Record, orElse, find}
-use Rattle.lifting.specs.After.{out, Lift, lifts, madeBy, definitionOf, outD, liftsD, outAll, liftsAll, firstAt}
+use Rattle.lifting.specs.After.{out, Lift, lifts, madeBy, definitionOf, outD, liftsD, outAll, liftsAll, firstAt, Stands, Found, AllFound}
 use Rattle.lifting.specs.Calls.{withCalls, liftedBytes, keptBytes, entriesOf, joined, bookOf, resultBytes}
 use Rattle.lifting.specs.Trace.{Trace, Binder, ownBinders, paramsAt, treeHead, traceAll, begin, traceBook}
-use Rattle.lifting.proofs.Found.{Stands, Found, AllFound}
 use Rattle.lifting.proofs.Ranges.{Between, in-range, size-some}
 use Rattle.lifting.proofs.Calls.{Goes, ends, goes-on}
 use Rattle.lifting.proofs.Parts.{appended, first-none, under, over, none-under, none-over, Part, Whole, Raw, split}
 use Rattle.lifting.proofs.Bytes.{raw, goes-at, bytes-of}
 use Rattle.lifting.proofs.Refs.{AllBinders, WellTyped, AllTyped, Typing, trace-types}
 use Rattle.lifting.proofs.Standing.{limit, Stood, AllWhole, all-whole, inside, lifted-bytes}
-use Rattle.lifting.proofs.Book.{bodies, bodies-cons, in-rangeD, in-rangeAll, Traced, was-traced}
+use Rattle.lifting.proofs.Book.{bodies, bodies-cons, in-rangeD, in-rangeAll, was-traced}
 
 abbrev pub wHead : Name → List Param → List ℕ → List ℕ
 wHead n ps r = wName n (wList wParam ps r)

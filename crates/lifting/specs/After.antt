@@ -1,14 +1,17 @@
 -- What bodies are after lifting, and which definitions come out of them: functions of the tree, its place and the records. Document 01, "Lifting rules".
+use mathlib.Core.Path.{_≡_}
+use mathlib.Core.Logic.{_⊎_}
 use mathlib.Core.Bool.{Bool, true, false}
 use mathlib.Core.List.{List, [], _∷_, _++_, map}
-use Prim.Native.Nat.{ℕ, _+_, _*_}
+use Prim.Native.Nat.{ℕ, _+_, _*_, _≤_}
 use lib.ListN.{length}
 use Rattle.definition.specs.Res.{Maybe, absent, just}
 use Rattle.definition.specs.Tree.{Name, Text, Shell, Selector, CaseKind, Combinator, plain, chained, Inner, leaf, struct, choice, shell, bytes, invocation, macro-invocation, Fields, no-field, field, const, Cases, no-case, case, Param, Definition, format, constant, byte-order, macro}
+use Rattle.definition.specs.Names.{sorted}
 use Rattle.definition.specs.Write.{wName, wText, wSelector, wLabel, wOpen, sizeOf}
 use Rattle.definition.specs.Size.{size}
 use Rattle.definition.specs.Macros.{innerOf}
-use Rattle.definition.specs.Collect.{anonymous}
+use Rattle.definition.specs.Collect.{anonymous, free}
 use Rattle.laws.proofs.Sizes.{sizeI, head}
 use Rattle.lifting.specs.Records.{Ref, own, passed, Record, find, call}
 
@@ -143,3 +146,21 @@ liftsAll (d ∷ ds) p = liftsD d p ++ liftsAll ds (p + sizeOf d)
 -- "the first offset is 2 + 6n"
 abbrev pub firstAt : List Definition → ℕ
 firstAt ds = 2 + 6 * length ds
+
+-- a lift of the list stands at a place
+abbrev pub Stands : ℕ → List Lift → Type 0
+Stands x [] = ⊥
+Stands x (l ∷ ls) = (l .at ≡ x) ⊎ Stands x ls
+
+-- the record of a lift
+pub record Found (rs : List Record) (l : Lift) : Type 0 where
+  pub of : Record
+  pub found : find rs (l .at) ≡ just of
+  pub begins : of .at ≡ l .at
+  pub ends : of .end ≡ l .at + size (l .what)
+  pub named : length (of .name) ≤ 255
+  pub needed : of .params ≡ sorted (free (l .what))
+
+abbrev pub AllFound : List Record → List Lift → Type 0
+AllFound rs [] = Unit {0}
+AllFound rs (l ∷ ls) = Found rs l × AllFound rs ls

@@ -147,6 +147,9 @@ module _ (headOf : List Record → Record → ℕ) where
   traceBook ds = traceAll ds (firstAt ds) (begin ds)
 
 -- the result, by the records
+abbrev pub resultOf : List Definition → Trace → Result
+resultOf ds t = record { kept = outAll ds (firstAt ds) (t .records); lifted = map (definitionOf (t .records)) (liftsAll ds (firstAt ds)) }
+
 unfoldable pub traced : List Definition → Res Trace Unit → Out Result
 traced ds (bad k t) = refused k
-traced ds (ok u t) = done (record { kept = outAll ds (firstAt ds) (t .records); lifted = map (definitionOf (t .records)) (liftsAll ds (firstAt ds)) })
+traced ds (ok u t) = done (resultOf ds t)
