@@ -1,6 +1,6 @@
 -- The walk that makes records says the same as the definition's walk: the same refusals, and bodies and definitions by the records.
 use mathlib.Core.Path.{_≡_, refl, sym, ap, _∙_}
-use mathlib.Core.Logic.{_⊎_, inl, inr}
+use mathlib.Core.Logic.{inl, inr}
 use mathlib.Core.Bool.{Bool, true, false, cond, not, _&&_}
 use mathlib.Core.List.{List, [], _∷_, _++_, map, append-assoc, append-nil, map-append}
 use Prim.Native.Nat.{ℕ, suc, _+_, _-_, _≤_}
@@ -8,22 +8,20 @@ use native.Mathlib.Omega.{arith}
 use lib.Dec.{leb}
 use borrow.Author.Tests.{leb-true}
 use lib.ListN.{length}
-use Rattle.definition.specs.Code.{Code}
-use Rattle.definition.specs.Res.{Maybe, absent, just, Res, bad, ok, _>>=_, require}
-use Rattle.definition.specs.Tree.{Name, CaseKind, FieldKind, ordinary, dependent, Combinator, plain, chained, Inner, leaf, struct, choice, shell, bytes, invocation, macro-invocation, Fields, no-field, field, const, Cases, no-case, case, Param, Definition, format, constant, byte-order, macro}
+use Rattle.definition.specs.Res.{Maybe, absent, just, ok, _>>=_}
+use Rattle.definition.specs.Tree.{Name, CaseKind, FieldKind, ordinary, dependent, Combinator, plain, chained, Inner, leaf, struct, choice, shell, bytes, invocation, macro-invocation, Fields, no-field, field, const, Cases, no-case, case, Param, format}
 use Rattle.definition.specs.Names.{eqName, sorted, segment, child, caseSegment, shellSegment, fresh}
 use Rattle.definition.specs.Write.{sizeOf}
 use Rattle.definition.specs.Size.{size}
-use Rattle.definition.specs.Macros.{innerOf}
 use Rattle.definition.specs.Collect.{anonymous, free, leftover}
-use Rattle.definition.specs.Lift.{full, State, Walk, binder, bound, typed, take, grow, measured, append, lift, childBy, bind, walk, walkI, walkF, walkC, walkAll}
+use Rattle.definition.specs.Lift.{full, State, Walk, binder, bound, typed, take, grow, measured, append, lift, childBy, bind, walk, walkI, walkF, walkC}
 use Rattle.laws.proofs.Sizes.{head, size-format}
-use Rattle.lifting.specs.Records.{Ref, own, passed, Record, find, call}
-use Rattle.lifting.specs.After.{chainAt, fieldsAt, casesAt, shellAt, fieldAt, constEnd, caseAt, replaced, out, outI, outF, outC, Lift, itself, lifts, liftsI, liftsF, liftsC, liftsK, typeOf, paramsOf, madeBy, definitionOf, Stands, Found, AllFound}
+use Rattle.lifting.specs.Records.{Ref, passed, Record, find, call}
+use Rattle.lifting.specs.After.{chainAt, fieldsAt, casesAt, shellAt, fieldAt, constEnd, caseAt, replaced, out, outI, outF, outC, Lift, itself, lifts, liftsI, liftsF, liftsC, liftsK, typeOf, paramsOf, madeBy, definitionOf, Stands, AllFound}
 use Rattle.lifting.specs.Trace.{Trace, treeHead, Binder, first, refOf, refs, enter, finish, fits, bindRef, Tracing, lifting, traceBy, trace, traceI, traceF, traceC}
 use Rattle.lifting.proofs.Both.{Both, refusals, values, then, first-then, ask, ask-alike, Still, still}
-use Rattle.lifting.proofs.Found.{Later, later-self, later-one, later-on, find-here, find-other, stands-left, stands-right, stands-either, all-found}
-use Rattle.lifting.proofs.Ranges.{Between, apart, in-range, in-rangeI, in-rangeF, in-rangeC, in-rangeK}
+use Rattle.lifting.proofs.Found.{Later, later-self, later-one, later-on, find-here, find-other, stands-left, stands-right, all-found}
+use Rattle.lifting.proofs.Ranges.{apart, in-range, in-rangeI, in-rangeF, in-rangeC, in-rangeK}
 
 -- the two states tell the same
 pub record Matches (s : State) (t : Trace) : Type 0 where

@@ -1,27 +1,26 @@
 -- The whole list: `liftBook` and `traceBook` say the same.
 use mathlib.Core.Path.{_≡_, refl, sym, ap, _∙_}
-use mathlib.Core.Logic.{_⊎_, inl, inr}
-use mathlib.Core.List.{List, [], _∷_, _++_, map}
-use Prim.Native.Nat.{ℕ, suc, _+_, _≤_, _<_}
+use mathlib.Core.Logic.{inl}
+use mathlib.Core.List.{List, [], _∷_, map}
+use Prim.Native.Nat.{ℕ, suc, _+_}
 use native.Mathlib.Omega.{arith}
 use lib.ListN.{length, length-append, length-map}
-use Rattle.definition.specs.Res.{absent, Res, bad, ok}
-use Rattle.definition.specs.Size.{sizeBook}
+use Rattle.definition.specs.Res.{Res, ok}
 use Rattle.definition.specs.Answer.{outcome}
-use Rattle.definition.specs.Tree.{Name, Combinator, Param, Definition, format, constant, byte-order, macro}
+use Rattle.definition.specs.Tree.{Param, Definition, format, constant, byte-order, macro}
 use Rattle.definition.specs.Write.{wAll, wDefinition, sizeOf}
 use Rattle.definition.specs.Lift.{full, State, walkAll, start, liftBook}
 use Rattle.laws.proofs.Splits.{s-definition}
 use Rattle.laws.proofs.Sizes.{adds, head, size-format}
 use Rattle.laws.proofs.Measure.{measures}
 use Rattle.lifting.specs.Records.{Record, find}
-use Rattle.lifting.specs.After.{Lift, lifts, typeOf, definitionOf, outD, liftsD, outAll, liftsAll, firstAt, Stands, AllFound}
+use Rattle.lifting.specs.After.{typeOf, outD, liftsD, outAll, liftsAll, firstAt}
 use Rattle.lifting.specs.Trace.{Trace, treeHead, ownBinders, paramsAt, traceAll, begin, traceBook, traced}
 use Rattle.lifting.specs.Laws.{Traced}
 use Rattle.lifting.proofs.Both.{Both, refusals, values, then, first-then}
 use Rattle.lifting.proofs.Found.{later-self}
 use Rattle.lifting.proofs.Ranges.{Between, none, wider, both, apart, in-range}
-use Rattle.lifting.proofs.Agree.{Matches, paramOf, Means, means-on, New, Did, Makes, nothing-made, one, two, new-left, new-right, walk-both}
+use Rattle.lifting.proofs.Agree.{Matches, paramOf, Means, New, Makes, nothing-made, one, two, new-left, new-right, walk-both}
 
 -- the bytes of the bodies
 abbrev pub bodies : List Definition → ℕ

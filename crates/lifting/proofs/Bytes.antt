@@ -11,14 +11,14 @@ use Rattle.definition.specs.Tree.{CaseKind, Combinator, plain, chained, Inner, 
 use Rattle.definition.specs.Write.{wU16, wName, wText, wSelector, caseByte, wLabel, wOpen, wShut, countF, countC, wCombinator, wInner, wFields, wCases}
 use Rattle.definition.specs.Size.{size}
 use Rattle.definition.specs.Collect.{anonymous}
-use Rattle.laws.proofs.Splits.{Splits, s-u16, s-name, s-text, s-selector, s-label, s-open, s-shut, s-inner}
+use Rattle.laws.proofs.Splits.{Splits, s-name, s-selector, s-label, s-open, s-shut, s-inner}
 use Rattle.laws.proofs.Sizes.{adds, sizeI, sizeF, sizeC, size-plain, size-chained, size-struct, size-choice, size-shell, size-field, size-constant, size-case}
 use Rattle.lifting.specs.Records.{Record, find}
-use Rattle.lifting.specs.After.{chainAt, fieldsAt, casesAt, shellAt, fieldAt, constEnd, caseAt, replaced, out, outI, outF, outC, Lift, itself, lifts, liftsI, liftsF, liftsC, Stands, Found, AllFound}
+use Rattle.lifting.specs.After.{chainAt, fieldsAt, casesAt, shellAt, fieldAt, constEnd, caseAt, replaced, out, outI, outF, outC, itself, lifts, Stands, Found}
 use Rattle.lifting.proofs.Found.{stands-either, found-left, found-right}
 use Rattle.lifting.proofs.Ranges.{in-range, open-some, sizeI-some, size-some}
 use Rattle.lifting.proofs.Calls.{Goes, Opens, calls, goes-on, raw-goes, raw-opens}
-use Rattle.lifting.proofs.Parts.{wStruct, wChoice, s-choice, wField, s-field, wConst, s-const, Part, Whole, WholeI, WholeF, WholeC, Kid, Raw, of-plain, of-chained, of-struct, of-choice, of-shell, of-field, of-const, of-case}
+use Rattle.lifting.proofs.Parts.{wStruct, wChoice, s-choice, wField, s-field, wConst, s-const, Part, Whole, WholeI, WholeF, WholeC, Raw, of-plain, of-chained, of-struct, of-choice, of-shell, of-field, of-const, of-case}
 
 count-outF : (f : Fields) (p : ℕ) (rs : List Record) → countF (outF f p rs) ≡ countF f
 unfolding outF countF

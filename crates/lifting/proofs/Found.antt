@@ -1,16 +1,15 @@
 -- Looking up a record by its place, as records are appended; where lifts stand.
-use mathlib.Core.Path.{_≡_, refl, sym, ap, _∙_}
+use mathlib.Core.Path.{_≡_, refl, sym, _∙_}
 use mathlib.Core.Logic.{_⊎_, inl, inr}
 use mathlib.Core.Bool.{Bool, true, false, cond}
-use mathlib.Core.List.{List, [], _∷_, _++_, append-assoc}
-use Prim.Native.Nat.{ℕ, _+_, _≤_}
+use mathlib.Core.List.{List, [], _∷_, _++_}
+use Prim.Native.Nat.{ℕ}
 use native.Mathlib.Omega.{arith}
 use lib.Dec.{eqb}
 use borrow.Author.Tests.{eq-eqb, ne-eqb}
-use lib.ListN.{length}
-use Rattle.definition.specs.Res.{Maybe, absent, just}
+use Rattle.definition.specs.Res.{absent, just}
 use Rattle.lifting.specs.Records.{Record, orElse, find}
-use Rattle.lifting.specs.After.{Lift, Stands, Found, AllFound}
+use Rattle.lifting.specs.After.{Lift, Stands, AllFound}
 
 -- a record appended is what is found at its place
 pub find-snoc : (a : List Record) (r : Record) (x : ℕ) → find (a ++ (r ∷ [])) x ≡ cond (eqb (r .at) x) (just r) (find a x)

@@ -1,18 +1,12 @@
 -- The laws of lifting by place.
-use mathlib.Core.Path.{_≡_, refl, sym, ap, _∙_}
-use mathlib.Core.List.{List, _++_, map}
+use mathlib.Core.Path.{_≡_, refl, sym}
+use mathlib.Core.List.{List, _++_}
 use Prim.Native.Nat.{ℕ}
-use native.Mathlib.Omega.{arith}
-use lib.ListN.{length, length-append, length-map}
+use lib.ListN.{length-append, length-map}
 use Rattle.definition.specs.Res.{Res, bad, ok}
 use Rattle.definition.specs.Tree.{Definition}
 use Rattle.definition.specs.Write.{wBook}
 use Rattle.definition.specs.Size.{sizeBook}
-use Rattle.definition.specs.Lift.{liftBook}
-use Rattle.definition.specs.Answer.{outcome}
-use Rattle.lifting.specs.Records.{Record}
-use Rattle.lifting.specs.After.{definitionOf, outAll, liftsAll, firstAt}
-use Rattle.lifting.specs.Calls.{byteHead}
 use Rattle.lifting.specs.Trace.{Trace, treeHead, traceBook, resultOf, traced}
 use Rattle.lifting.specs.Laws.{SameAnswer, RecordsOfLifts, SumCloses, CallTakes, CountedInBytes, GoesLeftToRight, Gave, Comes, refuses, gives, ElaboratedByPlaces}
 use Rattle.lifting.proofs.Agree.{sum-closed}
@@ -47,7 +41,7 @@ gave ds z t e =
       bytes = written ds z t e;
       long = sym (k .bytes);
       definitions = simp (length-append, length-map, length-outAll) (sym (k .defns));
-      lifts = rw (k .finished) (simp length-map)
+      lifts = rw (k .finished) (simp length-map);
     }
 
 pub elaborated-by-places : ElaboratedByPlaces

@@ -1,14 +1,14 @@
 -- Code 10's sum by bytes: the trace that counts heads in the expanded book's bytes is the trace.
-use mathlib.Core.Path.{_≡_, refl, sym, ap, _∙_}
+use mathlib.Core.Path.{_≡_, refl, ap, _∙_}
 use mathlib.Core.Logic.{_⊎_, inl, inr}
-use mathlib.Core.Bool.{Bool, true, false, cond, not, _&&_}
-use mathlib.Core.List.{List, [], _∷_, _++_, map}
+use mathlib.Core.Bool.{Bool, true, false, not, _&&_}
+use mathlib.Core.List.{List, [], _∷_, _++_}
 use Prim.Native.Nat.{ℕ, suc, _+_, _≤_, _<_}
 use native.Mathlib.Omega.{arith}
 use lib.Dec.{leb}
 use lib.ListN.{length, length-append}
 use Rattle.definition.specs.Code.{Code}
-use Rattle.definition.specs.Res.{absent, Res, bad, ok, _>>=_, require}
+use Rattle.definition.specs.Res.{Res, ok, _>>=_, require}
 use Rattle.definition.specs.Tree.{Name, CaseKind, FieldKind, ordinary, dependent, Combinator, plain, chained, Inner, leaf, struct, choice, shell, bytes, invocation, macro-invocation, Fields, no-field, field, const, Cases, no-case, case, Param, Definition, format, constant, byte-order, macro}
 use Rattle.definition.specs.Names.{sorted, segment, child, caseSegment, shellSegment, fresh}
 use Rattle.definition.specs.Write.{wName, wText, wSelector, caseByte, wLabel, wOpen, wShut, countC, wU16, wAll, wList, wParam, wInner, wFields, wCases, wCombinator, wDefinition, sizeOf, wBook}
@@ -19,18 +19,18 @@ use Rattle.laws.proofs.Splits.{Splits, s-name, s-all, s-selector, s-label, s-op
 use Rattle.laws.proofs.Sizes.{adds, sizeI, sizeF, sizeC, head, size-plain, size-chained, size-struct, size-choice, size-shell, size-field, size-constant, size-case, size-format}
 use Rattle.laws.proofs.Steps.{Gives, refusal, value}
 use Rattle.lifting.specs.Records.{Ref, own, passed, Record, find, call}
-use Rattle.lifting.specs.After.{chainAt, fieldsAt, casesAt, shellAt, fieldAt, constEnd, caseAt, Lift, lifts, liftsI, liftsF, liftsC, liftsK, typeOf, paramsOf, firstAt, Stands, Found, AllFound}
-use Rattle.lifting.specs.Calls.{refBytes, paramRoom, byteHead, namesRoom, callRoom}
+use Rattle.lifting.specs.After.{chainAt, fieldsAt, casesAt, shellAt, fieldAt, constEnd, caseAt, Lift, liftsK, typeOf, paramsOf, firstAt, Stands, AllFound}
+use Rattle.lifting.specs.Calls.{paramRoom, byteHead, namesRoom, callRoom}
 use Rattle.lifting.specs.Trace.{Trace, Binder, refs, enter, finish, fits, bindRef, Tracing, lifting, traceBy, trace, traceI, traceF, traceC, ownBinders, paramsAt, treeHead, traceAll, begin, traceBook}
-use Rattle.lifting.proofs.Both.{Both, alike}
-use Rattle.lifting.proofs.Found.{Later, later-self, later-one, find-other}
+use Rattle.lifting.proofs.Both.{alike}
+use Rattle.lifting.proofs.Found.{later-self, later-one, find-other}
 use Rattle.lifting.proofs.Ranges.{Between, open-some, sizeI-some, size-some, in-range, in-rangeK}
-use Rattle.lifting.proofs.Parts.{wStruct, wChoice, s-choice, wField, s-field, wConst, s-const, first-none, none-under, none-over, Part, Kid, Raw, split}
+use Rattle.lifting.proofs.Parts.{wStruct, wChoice, s-choice, wField, s-field, wConst, s-const, first-none, none-under, none-over, Part, Kid, split}
 use Rattle.lifting.proofs.Refs.{AllRefs, AllBinders, WellTyped, Dep, refs-hold, bind-holds}
 use Rattle.lifting.proofs.Standing.{limit, Stood, ref-bytes}
 use Rattle.lifting.proofs.Book.{bodies, bodies-cons, own-means}
 use Rattle.lifting.proofs.Written.{wHead, s-head, head-length, own-stood, bodies-stand}
-use Rattle.lifting.proofs.Agree.{Matches, Means, means-on, New, Did, Makes, bind-means, walk-both, child-both}
+use Rattle.lifting.proofs.Agree.{Matches, Means, means-on, New, Did, bind-means, walk-both, child-both}
 
 -- the bytes of a call
 size-names : (ns : List Name) → length (wAll wName ns []) ≡ namesRoom ns

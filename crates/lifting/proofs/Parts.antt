@@ -1,5 +1,5 @@
 -- What stands at a place of the expanded book, taken apart: its bytes, the records of its lifts, and no record elsewhere in it.
-use mathlib.Core.Path.{_≡_, refl, sym, ap, _∙_}
+use mathlib.Core.Path.{_≡_, refl, ap, _∙_}
 use mathlib.Core.Logic.{_⊎_, inl, inr}
 use mathlib.Core.List.{List, [], _∷_, _++_}
 use Prim.Native.Nat.{ℕ, suc, _+_, _≤_, _<_}
@@ -11,12 +11,12 @@ use Rattle.definition.specs.Tree.{Name, Text, Shell, Selector, CaseKind, FieldK
 use Rattle.definition.specs.Write.{wU16, wName, wText, wSelector, caseByte, wLabel, fieldByte, wOpen, wShut, countF, countC, wCombinator, wInner, wFields, wCases}
 use Rattle.definition.specs.Size.{size}
 use Rattle.definition.specs.Collect.{anonymous}
-use Rattle.laws.proofs.Splits.{Splits, s-u16, s-name, s-text, s-selector, s-label, s-open, s-shut, s-comb, s-inner}
+use Rattle.laws.proofs.Splits.{Splits, s-name, s-text, s-selector, s-label, s-open, s-comb, s-inner}
 use Rattle.laws.proofs.Sizes.{adds, sizeI, sizeF, sizeC, size-plain, size-chained, size-struct, size-choice, size-shell, size-field, size-constant, size-case}
 use Rattle.lifting.specs.Records.{Record, find}
-use Rattle.lifting.specs.After.{chainAt, fieldsAt, casesAt, shellAt, fieldAt, constEnd, caseAt, Lift, itself, lifts, liftsI, liftsF, liftsC, Stands, Found, AllFound}
+use Rattle.lifting.specs.After.{chainAt, fieldsAt, casesAt, shellAt, fieldAt, constEnd, caseAt, Lift, itself, lifts, liftsI, liftsF, liftsC, Stands, AllFound}
 use Rattle.lifting.proofs.Found.{stands-either, found-left, found-right}
-use Rattle.lifting.proofs.Ranges.{Between, open-some, sizeI-some, in-range, in-rangeI, in-rangeF, in-rangeC, in-rangeK}
+use Rattle.lifting.proofs.Ranges.{Between, open-some, sizeI-some, in-rangeI, in-rangeF, in-rangeC, in-rangeK}
 
 -- two lists of lifts make up one
 pub record Union (ls a b : List Lift) : Type 0 where

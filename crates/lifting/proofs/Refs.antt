@@ -6,13 +6,13 @@ use Prim.Native.Nat.{ℕ, suc, _+_}
 use lib.Dec.{leb}
 use lib.ListN.{length}
 use Rattle.definition.specs.Code.{result-long}
-use Rattle.definition.specs.Res.{just, ok, _>>=_, require}
+use Rattle.definition.specs.Res.{just, ok, require, _>>=_}
 use Rattle.definition.specs.Tree.{Name, CaseKind, FieldKind, ordinary, dependent, Combinator, plain, chained, Inner, leaf, struct, choice, shell, bytes, invocation, macro-invocation, Fields, no-field, field, const, Cases, no-case, case}
 use Rattle.definition.specs.Names.{eqName, sorted, segment, child, caseSegment, shellSegment, fresh}
 use Rattle.definition.specs.Size.{size}
 use Rattle.definition.specs.Collect.{anonymous, free, leftover}
 use Rattle.laws.proofs.Steps.{Gives, refusal, value, then, ask}
-use Rattle.lifting.specs.Records.{Ref, own, passed, Record}
+use Rattle.lifting.specs.Records.{Ref, passed, Record}
 use Rattle.lifting.specs.After.{chainAt, fieldsAt, casesAt, shellAt, fieldAt, constEnd, caseAt}
 use Rattle.lifting.specs.Trace.{Trace, Binder, first, refOf, refs, enter, finish, fits, bindRef, Tracing, lifting, traceBy, trace, traceI, traceF, traceC}
 

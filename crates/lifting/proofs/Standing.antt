@@ -2,23 +2,23 @@
 use mathlib.Core.Path.{_≡_, refl, sym, ap, _∙_}
 use mathlib.Core.Bool.{Bool, true, false}
 use mathlib.Core.List.{List, [], _∷_, _++_, append-nil}
-use Prim.Native.Nat.{ℕ, suc, _+_, _≤_, _<_}
+use Prim.Native.Nat.{ℕ, suc, _+_}
 use native.Mathlib.Omega.{arith}
 use lib.ListN.{length, getD}
 use Rattle.definition.specs.Res.{absent}
-use Rattle.definition.specs.Tree.{Name, CaseKind, FieldKind, ordinary, dependent, Combinator, plain, chained, Inner, leaf, struct, choice, shell, bytes, invocation, macro-invocation, Fields, no-field, field, const, Cases, no-case, case, format}
-use Rattle.definition.specs.Write.{wName, wAll, wList, wU16, wParam, wCombinator, wInner, wDefinition}
+use Rattle.definition.specs.Tree.{Name, CaseKind, FieldKind, ordinary, dependent, Combinator, plain, chained, Inner, leaf, struct, choice, shell, bytes, invocation, macro-invocation, Fields, no-field, field, const, Cases, no-case, case}
+use Rattle.definition.specs.Write.{wName, wAll, wList, wParam, wCombinator, wInner, wDefinition}
 use Rattle.definition.specs.Macros.{innerOf}
 use Rattle.definition.specs.Size.{size}
 use Rattle.definition.specs.Collect.{anonymous}
 use Rattle.laws.proofs.Splits.{s-inner}
 use Rattle.laws.proofs.Sizes.{sizeI}
 use Rattle.lifting.specs.Records.{Ref, own, passed, Record, find, call}
-use Rattle.lifting.specs.After.{chainAt, fieldsAt, casesAt, shellAt, fieldAt, constEnd, caseAt, replaced, out, outI, Lift, itself, lifts, liftsI, liftsF, liftsC, liftsK, typeOf, paramsOf, madeBy, definitionOf, Found, AllFound}
+use Rattle.lifting.specs.After.{chainAt, fieldsAt, casesAt, shellAt, fieldAt, constEnd, caseAt, replaced, out, outI, Lift, itself, lifts, liftsI, liftsF, liftsC, liftsK, typeOf, paramsOf, madeBy, definitionOf, Found}
 use Rattle.lifting.specs.Calls.{withCalls, refAt, refEnd, typeBytes, refBytes, paramBytes, liftedBytes}
 use Rattle.lifting.proofs.Found.{found-right}
 use Rattle.lifting.proofs.Ranges.{in-range, sizeI-some, size-some}
-use Rattle.lifting.proofs.Calls.{Goes, Opens, ends, goes-on}
+use Rattle.lifting.proofs.Calls.{ends, goes-on}
 use Rattle.lifting.proofs.Parts.{Part, Whole, WholeI, WholeF, WholeC, Kid, Raw, of-plain, of-chained, of-struct, of-choice, of-shell, of-field, of-const, of-case}
 use Rattle.lifting.proofs.Bytes.{kid-whole, raw, bytes-of, bytes-ofI}
 use Rattle.lifting.proofs.Refs.{AllRefs, WellTyped, Dep, Deps, DepsI, DepsF, DepsC}

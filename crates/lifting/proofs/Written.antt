@@ -2,24 +2,23 @@
 use mathlib.Core.Path.{_≡_, refl, sym, ap, _∙_}
 use mathlib.Core.Bool.{Bool, true, false, cond}
 use mathlib.Core.List.{List, [], _∷_, _++_, map, map-append}
-use Prim.Native.Nat.{ℕ, suc, _+_, _*_, _≤_, _<_}
+use Prim.Native.Nat.{ℕ, suc, _+_, _*_, _≤_}
 use native.Mathlib.Omega.{arith}
 use lib.Dec.{eqb}
 use lib.ListN.{length, drop, length-map}
-use lib.Seq.{drop-append-le}
 use Rattle.definition.specs.Res.{Maybe, absent, just, ok}
-use Rattle.definition.specs.Tree.{Name, Combinator, Inner, Param, Definition, isFormat, format, constant, byte-order, macro}
+use Rattle.definition.specs.Tree.{Name, Combinator, Param, Definition, isFormat, format, constant, byte-order, macro}
 use Rattle.definition.specs.Write.{wU16, wName, wAll, wList, wCombinator, wInner, wParam, wDefinition, kindOf, sizeOf, wEntries, wParts, entryOf, wBook}
-use Rattle.definition.specs.Size.{size, sizeBook}
+use Rattle.definition.specs.Size.{size}
 use Rattle.laws.proofs.Splits.{Splits, s-u16, s-name, s-all, s-list, s-param, s-definition}
-use Rattle.laws.proofs.Sizes.{adds, sizeI, head, room, size-format, size-book, size-bodies}
+use Rattle.laws.proofs.Sizes.{adds, sizeI, head, size-format}
 use Rattle.laws.proofs.Steps.{Gives, value, then, gave}
 use Rattle.lifting.specs.Records.{Ref, Record, orElse, find}
-use Rattle.lifting.specs.After.{out, Lift, lifts, madeBy, definitionOf, outD, liftsD, outAll, liftsAll, firstAt, Stands, Found, AllFound}
+use Rattle.lifting.specs.After.{Lift, madeBy, definitionOf, outD, liftsD, outAll, liftsAll, firstAt, AllFound}
 use Rattle.lifting.specs.Calls.{withCalls, liftedBytes, keptBytes, entriesOf, joined, bookOf, resultBytes}
 use Rattle.lifting.specs.Trace.{Trace, Binder, ownBinders, paramsAt, treeHead, traceAll, begin, traceBook}
-use Rattle.lifting.proofs.Ranges.{Between, in-range, size-some}
-use Rattle.lifting.proofs.Calls.{Goes, ends, goes-on}
+use Rattle.lifting.proofs.Ranges.{in-range, size-some}
+use Rattle.lifting.proofs.Calls.{ends, goes-on}
 use Rattle.lifting.proofs.Parts.{appended, first-none, under, over, none-under, none-over, Part, Whole, Raw, split}
 use Rattle.lifting.proofs.Bytes.{raw, goes-at, bytes-of}
 use Rattle.lifting.proofs.Refs.{AllBinders, WellTyped, AllTyped, Typing, trace-types}
