@@ -11,3 +11,4 @@ pub mod Standing
 pub mod Written
 pub mod Measured
 pub mod Laws
+pub mod Frames

@@ -3,3 +3,4 @@ pub mod After
 pub mod Trace
 pub mod Calls
 pub mod Laws
+pub mod Frames
