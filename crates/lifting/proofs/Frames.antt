@@ -12,10 +12,12 @@ use Rattle.definition.specs.Tree.{Name, CaseKind, Combinator, plain, chained, I
 use Rattle.definition.specs.Names.{sorted, segment, child, caseSegment, shellSegment, fresh}
 use Rattle.definition.specs.Size.{size, levels, levelsI, levelsF, levelsC}
 use Rattle.definition.specs.Collect.{anonymous, free, leftover}
+use Rattle.laws.proofs.Sizes.{sizeI, sizeF, sizeC, size-plain, size-chained, size-struct, size-choice, size-shell, size-field, size-constant, size-case}
 use Rattle.lifting.specs.Records.{Ref, Record}
 use Rattle.lifting.specs.After.{chainAt, fieldsAt, casesAt, shellAt, fieldAt, constEnd, caseAt}
 use Rattle.lifting.specs.Trace.{Trace, Binder, refs, enter, finish, fits, bindRef, Tracing, lifting, traceBy, trace, traceI, traceF, traceC}
-use Rattle.lifting.specs.Frames.{Todo, whole, within, fields, cases, done, Frame, Next, leave, stay, into, next, closed, entering, goInto, move, run, steps, stepsI, stepsF, stepsC}
+use Rattle.lifting.specs.Frames.{Todo, whole, within, fields, cases, done, Frame, Next, leave, stay, into, next, closed, entering, goInto, move, run, steps, stepsI, stepsF, stepsC, depth}
+use Rattle.lifting.proofs.Ranges.{open-some, label-some, sizeI-some}
 
 module _ {S A B C : Type 0} where
   assoc : (m : Res S A) (f : A × S → Res S B) (g : B × S → Res S C) → (m >>= f) >>= g ≡ m >>= λ x. f x >>= g
@@ -97,3 +99,64 @@ module _ (headOf : List Record → Record → ℕ) where
         rw e (goes c q (λ n env cl fs t k. run-node c q n env cl fs t k) (anonymous c) (child n (caseSegment a l i)) env (on-top (cases f a (suc i) (q + size c)) n env cl fs) t (stepsC f + k)
           ∙ (follows (traceBy headOf (anonymous c) c q (λ n e t. trace headOf c q n e t) (child n (caseSegment a l i)) env t) _ _ (λ u t. run-cases f a (suc i) (q + size c) n env cl fs t k)
           ∙ sym (assoc (traceBy headOf (anonymous c) c q (λ n e t. trace headOf c q n e t) (child n (caseSegment a l i)) env t) _ _)))
+
+  -- one frame and nothing above it
+  pub run-body : (c : Combinator) (p : ℕ) (n : Name) (env : List Binder) (t : Trace) → run headOf (steps c) (on-top (whole c p) n env absent []) t ≡ trace headOf c p n env t
+  unfolding run closed
+  run-body c p n env t =
+      let e : steps c + 0 ≡ steps c = omega arith in
+      (rw e at (run-node c p n env absent [] t 0)) ∙ same (trace headOf c p n env t)
+    where
+      same : (m : Res Trace (Unit {0})) → m >>= (λ (u, t). ok tt t) ≡ m
+      same (bad k t) = refl
+      same (ok u t) = refl
+
+-- steps are fewer than bytes, twice
+mutual
+  unfolding steps
+
+  pub steps-size : (c : Combinator) → steps c ≤ 2 * size c
+  steps-size (plain i) = omega (arith, stepsI-size i, size-plain i)
+  steps-size (chained i c) = omega (arith, stepsI-size i, steps-size c, size-chained i c)
+
+  stepsI-size : (i : Inner) → stepsI i ≤ 2 * sizeI i
+  stepsI-size (leaf k x) = omega (arith, sizeI-some (leaf k x))
+  stepsI-size (struct f) = omega (arith, stepsF-size f, size-struct f)
+  stepsI-size (choice s k f) = omega (arith, stepsC-size f k, size-choice s k f)
+  stepsI-size (shell x c) = omega (arith, steps-size c, size-shell x c, open-some x)
+  stepsI-size (bytes l) = omega (arith, sizeI-some (bytes l))
+  stepsI-size (invocation n a) = omega (arith, sizeI-some (invocation n a))
+  stepsI-size (macro-invocation n a) = omega (arith, sizeI-some (macro-invocation n a))
+
+  stepsF-size : (f : Fields) → stepsF f ≤ 2 * sizeF f + 1
+  stepsF-size no-field = omega arith
+  stepsF-size (field k l c f) = omega (arith, steps-size c, stepsF-size f, size-field k l c f)
+  stepsF-size (const l x f) = omega (arith, stepsF-size f, size-constant l x f)
+
+  stepsC-size : (f : Cases) (k : CaseKind) → stepsC f ≤ 2 * sizeC f k + 1
+  stepsC-size no-case k = omega arith
+  stepsC-size (case l c f) k = omega (arith, steps-size c, stepsC-size f k, size-case l c f k, label-some k l)
+
+-- a child is one level deeper, and what is left is no deeper
+abbrev pub Shallower : Todo → Next → Type 0
+Shallower d leave = Unit {0}
+Shallower d (stay e) = depth e ≤ depth d
+Shallower d (into c p base e env) = (suc (levels c) ≤ depth d) × (depth e ≤ depth d)
+
+pub next-shallower : (d : Todo) (n : Name) (env : List Binder) → Shallower d (next d n env)
+unfolding next depth levels
+next-shallower (whole (plain i) p) n env = omega arith
+next-shallower (whole (chained i c) p) n env = (omega arith, omega arith)
+next-shallower (within (leaf k x) p) n env = tt
+next-shallower (within (struct f) p) n env = omega arith
+next-shallower (within (choice s k f) p) n env = omega arith
+next-shallower (within (shell x c) p) n env = (omega arith, omega arith)
+next-shallower (within (bytes l) p) n env = tt
+next-shallower (within (invocation m a) p) n env = tt
+next-shallower (within (macro-invocation m a) p) n env = tt
+next-shallower (fields no-field p) n env = tt
+next-shallower (fields (field k l c f) p) n env = (omega arith, omega arith)
+next-shallower (fields (const l x f) p) n env = omega arith
+next-shallower (cases no-case k i p) n env = tt
+next-shallower (cases (case l c f) k i p) n env = (omega arith, omega arith)
+next-shallower done n env = tt

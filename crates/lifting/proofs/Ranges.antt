@@ -6,9 +6,9 @@ use mathlib.Core.List.{List, [], _++_}
 use Prim.Native.Nat.{ℕ, _+_, _≤_, _<_}
 use native.Mathlib.Omega.{arith}
 use lib.ListN.{length}
-use Rattle.definition.specs.Tree.{Shell, wrap, vec, option, array, CaseKind, Combinator, plain, chained, Inner, leaf, struct, choice, shell, bytes, invocation, macro-invocation, Fields, no-field, field, const, Cases, no-case, case}
+use Rattle.definition.specs.Tree.{Shell, wrap, vec, option, array, CaseKind, enums, ints, arrays, Combinator, plain, chained, Inner, leaf, struct, choice, shell, bytes, invocation, macro-invocation, Fields, no-field, field, const, Cases, no-case, case}
 use Rattle.definition.specs.Collect.{anonymous}
-use Rattle.definition.specs.Write.{wOpen, wCombinator}
+use Rattle.definition.specs.Write.{wU16, wName, wText, wLabel, wOpen, wCombinator}
 use Rattle.definition.specs.Size.{size}
 use Rattle.laws.proofs.Sizes.{sizeI, sizeF, sizeC, size-plain, size-chained, size-struct, size-choice, size-shell, size-field, size-constant, size-case}
 use Rattle.lifting.specs.After.{chainAt, fieldsAt, casesAt, shellAt, fieldAt, constEnd, caseAt, Lift, itself, lifts, liftsI, liftsF, liftsC, Stands}
@@ -46,6 +46,12 @@ open-some (wrap x y) = omega arith
 open-some vec = omega arith
 open-some option = omega arith
 open-some (array l) = omega arith
+
+pub label-some : (k : CaseKind) (l : List ℕ) → 0 < length (wLabel k l [])
+unfolding wLabel wName wText wU16
+label-some enums l = omega arith
+label-some ints l = omega arith
+label-some arrays l = omega arith
 
 pub sizeI-some : (i : Inner) → 0 < sizeI i
 unfolding sizeI wCombinator wOpen
