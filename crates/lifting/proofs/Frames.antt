@@ -1,19 +1,19 @@
 -- The loop over frames is the trace.
-use mathlib.Core.Path.{_≡_, refl, sym, ap, _∙_}
-use mathlib.Core.Bool.{Bool, true, false, not, _&&_}
+use mathlib.Core.Path.{_≡_, refl, sym, _∙_}
+use mathlib.Core.Bool.{Bool, true, false, not}
 use mathlib.Core.List.{List, [], _∷_}
 use Prim.Native.Nat.{ℕ, suc, _+_, _*_, _≤_}
 use native.Mathlib.Omega.{arith}
 use lib.Dec.{leb}
 use lib.ListN.{length}
-use Rattle.definition.specs.Code.{Code, leftover-macro, name-long, result-long}
+use Rattle.definition.specs.Code.{leftover-macro, name-long}
 use Rattle.definition.specs.Res.{Maybe, absent, just, Res, bad, ok, _>>=_, require}
 use Rattle.definition.specs.Tree.{Name, CaseKind, Combinator, plain, chained, Inner, leaf, struct, choice, shell, bytes, invocation, macro-invocation, Fields, no-field, field, const, Cases, no-case, case}
 use Rattle.definition.specs.Names.{sorted, segment, child, caseSegment, shellSegment, fresh}
-use Rattle.definition.specs.Size.{size, levels, levelsI, levelsF, levelsC}
+use Rattle.definition.specs.Size.{size, levels}
 use Rattle.definition.specs.Collect.{anonymous, free, leftover}
 use Rattle.laws.proofs.Sizes.{sizeI, sizeF, sizeC, size-plain, size-chained, size-struct, size-choice, size-shell, size-field, size-constant, size-case}
-use Rattle.lifting.specs.Records.{Ref, Record}
+use Rattle.lifting.specs.Records.{Record}
 use Rattle.lifting.specs.After.{chainAt, fieldsAt, casesAt, shellAt, fieldAt, constEnd, caseAt}
 use Rattle.lifting.specs.Trace.{Trace, Binder, refs, enter, finish, fits, bindRef, Tracing, lifting, traceBy, trace, traceI, traceF, traceC}
 use Rattle.lifting.specs.Frames.{Todo, whole, within, fields, cases, done, Frame, Next, leave, stay, into, next, closed, entering, goInto, move, run, steps, stepsI, stepsF, stepsC, depth}
@@ -63,8 +63,8 @@ module _ (headOf : List Record → Record → ℕ) where
         let e : suc (steps c + stepsI i) + k ≡ suc (steps c + (stepsI i + k)) = omega arith in
         let q = chainAt p i in
         rw e (goes c q (λ n env cl fs t k. run-node c q n env cl fs t k) (anonymous c) n env (on-top (within i p) n env cl fs) t (stepsI i + k)
-          ∙ (follows (traceBy headOf (anonymous c) c q (λ n e t. trace headOf c q n e t) n env t) _ _ (λ u t. run-inner i p n env cl fs t k)
-          ∙ sym (assoc (traceBy headOf (anonymous c) c q (λ n e t. trace headOf c q n e t) n env t) _ _)))
+        ∙ (follows (traceBy headOf (anonymous c) c q (λ n e t. trace headOf c q n e t) n env t) _ _ (λ u t. run-inner i p n env cl fs t k)
+        ∙ sym (assoc (traceBy headOf (anonymous c) c q (λ n e t. trace headOf c q n e t) n env t) _ _)))
 
     run-inner : (i : Inner) (p : ℕ) (n : Name) (env : List Binder) (cl : Maybe ℕ) (fs : List Frame) (t : Trace) (k : ℕ)
         → run headOf (stepsI i + k) (on-top (within i p) n env cl fs) t ≡ traceI headOf i p n env t >>= λ (u, t). run headOf k fs (closed cl t)
@@ -86,8 +86,8 @@ module _ (headOf : List Record → Record → ℕ) where
         let e : suc (steps c + stepsF f) + k ≡ suc (steps c + (stepsF f + k)) = omega arith in
         let q = fieldAt p l in
         rw e (goes c q (λ n env cl fs t k. run-node c q n env cl fs t k) (anonymous c) (child n (segment l)) env (on-top (fields f (q + size c)) n (bindRef a l c q env) cl fs) t (stepsF f + k)
-          ∙ (follows (traceBy headOf (anonymous c) c q (λ n e t. trace headOf c q n e t) (child n (segment l)) env t) _ _ (λ u t. run-fields f (q + size c) n (bindRef a l c q env) cl fs t k)
-          ∙ sym (assoc (traceBy headOf (anonymous c) c q (λ n e t. trace headOf c q n e t) (child n (segment l)) env t) _ _)))
+        ∙ (follows (traceBy headOf (anonymous c) c q (λ n e t. trace headOf c q n e t) (child n (segment l)) env t) _ _ (λ u t. run-fields f (q + size c) n (bindRef a l c q env) cl fs t k)
+        ∙ sym (assoc (traceBy headOf (anonymous c) c q (λ n e t. trace headOf c q n e t) (child n (segment l)) env t) _ _)))
     run-fields (const l x f) p n env cl fs t k = let e : suc (stepsF f) + k ≡ suc (stepsF f + k) = omega arith in rw e (run-fields f (constEnd p l x) n env cl fs t k)
 
     run-cases : (f : Cases) (a : CaseKind) (i p : ℕ) (n : Name) (env : List Binder) (cl : Maybe ℕ) (fs : List Frame) (t : Trace) (k : ℕ)
@@ -97,8 +97,8 @@ module _ (headOf : List Record → Record → ℕ) where
         let e : suc (steps c + stepsC f) + k ≡ suc (steps c + (stepsC f + k)) = omega arith in
         let q = caseAt p a l in
         rw e (goes c q (λ n env cl fs t k. run-node c q n env cl fs t k) (anonymous c) (child n (caseSegment a l i)) env (on-top (cases f a (suc i) (q + size c)) n env cl fs) t (stepsC f + k)
-          ∙ (follows (traceBy headOf (anonymous c) c q (λ n e t. trace headOf c q n e t) (child n (caseSegment a l i)) env t) _ _ (λ u t. run-cases f a (suc i) (q + size c) n env cl fs t k)
-          ∙ sym (assoc (traceBy headOf (anonymous c) c q (λ n e t. trace headOf c q n e t) (child n (caseSegment a l i)) env t) _ _)))
+        ∙ (follows (traceBy headOf (anonymous c) c q (λ n e t. trace headOf c q n e t) (child n (caseSegment a l i)) env t) _ _ (λ u t. run-cases f a (suc i) (q + size c) n env cl fs t k)
+        ∙ sym (assoc (traceBy headOf (anonymous c) c q (λ n e t. trace headOf c q n e t) (child n (caseSegment a l i)) env t) _ _)))
 
   -- one frame and nothing above it
   pub run-body : (c : Combinator) (p : ℕ) (n : Name) (env : List Binder) (t : Trace) → run headOf (steps c) (on-top (whole c p) n env absent []) t ≡ trace headOf c p n env t

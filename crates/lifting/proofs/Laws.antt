@@ -8,10 +8,12 @@ use Rattle.definition.specs.Tree.{Definition}
 use Rattle.definition.specs.Write.{wBook}
 use Rattle.definition.specs.Size.{sizeBook}
 use Rattle.lifting.specs.Trace.{Trace, treeHead, traceBook, resultOf, traced}
-use Rattle.lifting.specs.Laws.{SameAnswer, RecordsOfLifts, SumCloses, CallTakes, CountedInBytes, GoesLeftToRight, Gave, Comes, refuses, gives, ElaboratedByPlaces}
+use Rattle.lifting.specs.Laws.{SameAnswer, RecordsOfLifts, LoopIsTrace, StepsAreFew, SumCloses, LiftAdds, EachLiftCounts, CallTakes, CountedInBytes, GoesLeftToRight, Gave, Comes, refuses, gives, ElaboratedByPlaces}
 use Rattle.lifting.proofs.Agree.{sum-closed}
 use Rattle.lifting.proofs.Book.{length-outAll, elaborated-by, was-traced}
-use Rattle.lifting.proofs.Calls.{calls-end, calls-copy, calls-call}
+use Rattle.lifting.proofs.Calls.{calls-end, calls-copy, calls-stretch, calls-call}
+use Rattle.lifting.proofs.Frames.{run-body, steps-size}
+use Rattle.lifting.proofs.Counts.{enter-bytes, counted-enter}
 use Rattle.lifting.proofs.Written.{written}
 use Rattle.lifting.proofs.Measured.{size-call, measured-by-bytes}
 
@@ -27,11 +29,23 @@ sum-closes = sum-closed
 pub call-takes : CallTakes
 call-takes = size-call
 
+pub loop-is-trace : LoopIsTrace
+loop-is-trace = run-body
+
+pub steps-are-few : StepsAreFew
+steps-are-few = steps-size
+
+pub lift-adds : LiftAdds
+lift-adds = enter-bytes
+
+pub each-lift-counts : EachLiftCounts
+each-lift-counts = counted-enter
+
 pub counted-in-bytes : CountedInBytes
 counted-in-bytes = measured-by-bytes
 
 pub goes-left-to-right : GoesLeftToRight
-goes-left-to-right s rs = record { at-end = calls-end s rs; at-byte = calls-copy s rs; at-lift = calls-call s rs }
+goes-left-to-right s rs = record { at-end = calls-end s rs; at-byte = calls-copy s rs; at-stretch = calls-stretch s rs; at-lift = calls-call s rs }
 
 gave : (ds : List Definition) (z : List ℕ) (t : Trace) → traceBook treeHead ds ≡ ok tt t → Gave (wBook ds ++ z) ds t (resultOf ds t)
 unfolding sizeBook

@@ -10,5 +10,6 @@ pub mod Refs
 pub mod Standing
 pub mod Written
 pub mod Measured
-pub mod Laws
 pub mod Frames
+pub mod Counts
+pub mod Laws

@@ -5,7 +5,7 @@ use Prim.Native.Nat.{ℕ, zero, suc, _+_}
 use lib.Dec.{leb}
 use lib.ListN.{length}
 use Rattle.definition.specs.Code.{leftover-macro, name-long}
-use Rattle.definition.specs.Res.{Maybe, absent, just, Res, ok, _>>=_, require}
+use Rattle.definition.specs.Res.{Maybe, absent, just, Res, ok, require, _>>=_}
 use Rattle.definition.specs.Tree.{Name, CaseKind, Combinator, plain, chained, Inner, leaf, struct, choice, shell, bytes, invocation, macro-invocation, Fields, no-field, field, const, Cases, no-case, case}
 use Rattle.definition.specs.Names.{sorted, segment, child, caseSegment, shellSegment, fresh}
 use Rattle.definition.specs.Size.{size, levels, levelsI, levelsF, levelsC}

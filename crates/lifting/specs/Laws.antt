@@ -1,7 +1,7 @@
 -- The laws of lifting by place, statement by statement. The proofs are in proofs/Laws.antt.
 use mathlib.Core.Path.{_≡_}
 use mathlib.Core.List.{List, [], _∷_, _++_, map}
-use Prim.Native.Nat.{ℕ, suc, _+_, _-_, _≤_, _<_}
+use Prim.Native.Nat.{ℕ, suc, _+_, _*_, _-_, _≤_, _<_}
 use lib.ListN.{length, getD}
 use Rattle.definition.specs.Code.{Code}
 use Rattle.definition.specs.Res.{absent, just, Res, bad, ok}
@@ -12,10 +12,12 @@ use Rattle.definition.specs.Size.{size, sizeBook}
 use Rattle.definition.specs.Lift.{liftBook}
 use Rattle.definition.specs.Answer.{Result, all, outcome}
 use Rattle.laws.proofs.Sizes.{head}
+use Rattle.writer.specs.Buf.{part}
 use Rattle.lifting.specs.Records.{Record, find, call}
 use Rattle.lifting.specs.After.{definitionOf, outAll, liftsAll, firstAt, Stands, AllFound}
-use Rattle.lifting.specs.Calls.{withCalls, resultBytes, byteHead, callRoom}
-use Rattle.lifting.specs.Trace.{Trace, treeHead, traceBook, traced}
+use Rattle.lifting.specs.Calls.{withCalls, resultBytes, paramRoom, byteHead, namesRoom, callRoom}
+use Rattle.lifting.specs.Frames.{whole, run, steps}
+use Rattle.lifting.specs.Trace.{Trace, Binder, enter, trace, treeHead, traceBook, traced}
 
 -- The walk that makes records -------------------------------------------------------------------
 
@@ -37,6 +39,14 @@ pub record Traced (ds : List Definition) (t : Trace) : Type 0 where
 abbrev pub RecordsOfLifts : Type 0
 RecordsOfLifts = (ds : List Definition) (t : Trace) → traceBook treeHead ds ≡ ok tt t → Traced ds t
 
+-- the trace of a body is a loop over frames; what it steps into is one level deeper
+abbrev pub LoopIsTrace : Type 0
+LoopIsTrace = (headOf : List Record → Record → ℕ) (c : Combinator) (p : ℕ) (n : Name) (env : List Binder) (t : Trace)
+    → run headOf (steps c) (record { todo = whole c p; name = n; env = env; closes = absent } ∷ []) t ≡ trace headOf c p n env t
+
+abbrev pub StepsAreFew : Type 0
+StepsAreFew = (c : Combinator) → steps c ≤ 2 * size c
+
 -- Code 10 -----------------------------------------------------------------------------------------
 
 -- "6 bytes of contents, the new body and the call, less the combinator moved": it is in the new body, and cancels
@@ -45,6 +55,23 @@ SumCloses = (n : Name) (ps : List Param) (c there : Combinator) (b : ℕ) → (b
 
 abbrev pub CallTakes : Type 0
 CallTakes = (r : Record) → size (call r) ≡ callRoom r
+
+-- what a lift takes at the least: 14 bytes, its name twice, and each of its parameters' names with its length byte twice (in the call and in the new body)
+unfoldable pub takes : List Record → ℕ
+takes [] = 0
+takes (r ∷ rs) = 14 + 2 * length (r .name) + 2 * namesRoom (r .params) + takes rs
+
+-- with b bytes and n definitions at the start. From `bytes` within 16,384 follow bounds for the tables of names, parameters and records
+pub record Counted (b n : ℕ) (t : Trace) : Type 0 where
+  pub bytes : b + takes (t .records) ≤ t .bytes
+  pub defns : t .defns ≡ n + length (t .records)
+
+abbrev pub EachLiftCounts : Type 0
+EachLiftCounts = (s : List ℕ) (b n : ℕ) (r : Record) (t : Trace) → Counted b n t → length (r .types) ≡ length (r .params) → Counted b n (enter (byteHead s) r t)
+
+-- the sum with one more lift
+abbrev pub LiftAdds : Type 0
+LiftAdds = (s : List ℕ) (r : Record) (t : Trace) → (enter (byteHead s) r t) .bytes ≡ t .bytes + 14 + 2 * length (r .name) + paramRoom s (t .records) (r .params) (r .types) + namesRoom (r .params)
 
 -- heads may be counted in the bytes of the expanded book, whatever follows it
 abbrev pub CountedInBytes : Type 0
@@ -56,6 +83,7 @@ CountedInBytes = (ds : List Definition) (z : List ℕ) → traceBook treeHead ds
 pub record LeftToRight (s : List ℕ) (rs : List Record) : Type 0 where
   pub at-end : (to : ℕ) → withCalls s rs to to ≡ []
   pub at-byte : (from to : ℕ) → from < to → find rs from ≡ absent → withCalls s rs from to ≡ getD s from 0 ∷ withCalls s rs (suc from) to
+  pub at-stretch : (from mid to : ℕ) → from ≤ mid → mid ≤ to → mid ≤ length s → ((x : ℕ) → from ≤ x → x < mid → find rs x ≡ absent) → withCalls s rs from to ≡ part from mid s ++ withCalls s rs mid to
   pub at-lift : (from to : ℕ) (r : Record) → find rs from ≡ just r → from < r .end → r .end ≤ to → withCalls s rs from to ≡ wCombinator (call r) (withCalls s rs (r .end) to)
 
 abbrev pub GoesLeftToRight : Type 0
