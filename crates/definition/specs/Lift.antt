@@ -161,7 +161,7 @@ names (macro n ps c ∷ ds) = names ds
 unfoldable pub start : List Definition → State
 start ds = record { taken = names ds; made = []; bytes = sizeBook ds; defns = length ds }
 
--- the definitions with what was lifted out of them replaced by calls; the lifted ones are in the state
+-- the definitions with what was lifted out of them replaced by calls; the lifted ones are in the state. It has all that it takes to compute on its line
 unfoldable pub liftBook : List Definition → Res State (List Definition)
 unfolding eqName elem remove before insert sorted root letter letters segment digits decimal child caseSegment shellSegment numbered firstFree fresh sizeOf size sizeBook wBook innerOf anonymousLeaf anonymous isTail bytesOrTail selectorUses shellUses unbound free leftover binder bound typed take grow measured append lift childBy bind walk walkAll names start
 liftBook ds = walkAll full ds (start ds)

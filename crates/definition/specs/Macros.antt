@@ -142,7 +142,7 @@ expandList ds = do
   es ← expandAll ds (macros ds [])
   given (leb (sizeBook es) 16384 && leb (levelsBook es) 64) macro-growth es
 
--- the same, with all that it takes to compute
+-- `expandList` once more, with all that it takes to compute on its line
 unfoldable pub expandBook : List Definition → Out (List Definition)
 unfolding subst limited instance innerOf macros expandBy expandMacro expand expandAll size sizeBook levels levelsP levelsBook eqName wBook expandList
 expandBook ds = expandList ds

@@ -43,6 +43,7 @@ root [] = []
 root (b ∷ s) = let r = root s in cond (eqb b 46) [] (b ∷ r)
 
 -- "ASCII letters lower-cased, digits kept, every other character one '_'": a character's first byte speaks for it, and its other bytes, 128 to 191, give none
+-- (crate `laws`, `segment-by-characters`: of UTF-8 this is the rule for characters)
 unfoldable pub letter : ℕ → List ℕ
 letter b =
     cond (leb 65 b && leb b 90) ((b + 32) ∷ [])

@@ -45,11 +45,11 @@ dotted x = wellFormed x
 unfoldable pub undotted : List ℕ → Bool
 undotted x = dotted x && noDot x
 
--- "4: a name that is not UTF-8, or a plain name with '.'"; "An item that runs past its body is 3 before its value is tested"
 unfoldable pub byte : Reader ℕ
 byte [] = bad not-a-book []
 byte (b ∷ s) = ok b s
 
+-- "4: a name that is not UTF-8, or a plain name with '.'"; "An item that runs past its body is 3 before its value is tested"
 unfoldable pub nameBy : (List ℕ → Bool) → Reader Name
 nameBy test s = from s (do
   (n, s) ← byte s

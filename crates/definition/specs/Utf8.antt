@@ -1,4 +1,4 @@
--- UTF-8, from the Unicode standard, chapter 3: code points and their one encoding.
+-- UTF-8, from the Unicode standard, chapter 3: code points and their one encoding (crate `laws`, `one-encoding`).
 -- Document 01, "The definition book": "`name` = one length byte, then that many bytes of UTF-8."
 use mathlib.Core.List.{List, [], _∷_, _++_}
 use mathlib.Core.Bool.{Bool, true, false, cond, _&&_, _||_}
