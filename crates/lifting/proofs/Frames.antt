@@ -16,7 +16,7 @@ use Rattle.laws.proofs.Sizes.{sizeI, sizeF, sizeC, size-plain, size-chained, si
 use Rattle.lifting.specs.Records.{Record}
 use Rattle.lifting.specs.After.{chainAt, fieldsAt, casesAt, shellAt, fieldAt, constEnd, caseAt}
 use Rattle.lifting.specs.Trace.{Trace, Binder, refs, enter, finish, fits, bindRef, Tracing, lifting, traceBy, trace, traceI, traceF, traceC}
-use Rattle.lifting.specs.Frames.{Todo, whole, within, fields, cases, done, Frame, Next, leave, stay, into, next, closed, entering, goInto, move, run, steps, stepsI, stepsF, stepsC, depth}
+use Rattle.lifting.specs.Frames.{Todo, whole, within, fields, cases, done, Frame, Next, leave, stay, into, next, closed, entering, goInto, move, run, steps, stepsI, stepsF, stepsC, depth, Shallower}
 use Rattle.lifting.proofs.Ranges.{open-some, label-some, sizeI-some}
 
 module _ {S A B C : Type 0} where
@@ -136,12 +136,6 @@ mutual
   stepsC-size : (f : Cases) (k : CaseKind) → stepsC f ≤ 2 * sizeC f k + 1
   stepsC-size no-case k = omega arith
   stepsC-size (case l c f) k = omega (arith, steps-size c, stepsC-size f k, size-case l c f k, label-some k l)
-
--- a child is one level deeper, and what is left is no deeper
-abbrev pub Shallower : Todo → Next → Type 0
-Shallower d leave = Unit {0}
-Shallower d (stay e) = depth e ≤ depth d
-Shallower d (into c p base e env) = (suc (levels c) ≤ depth d) × (depth e ≤ depth d)
 
 pub next-shallower : (d : Todo) (n : Name) (env : List Binder) → Shallower d (next d n env)
 unfolding next depth levels

@@ -12,4 +12,5 @@ pub mod Written
 pub mod Measured
 pub mod Frames
 pub mod Counts
+pub mod Places
 pub mod Laws

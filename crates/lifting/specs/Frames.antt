@@ -1,13 +1,15 @@
 -- The trace as one loop over frames, one for each level: "The walk's call stack may become one frame for each of the 64 levels."
+use mathlib.Core.Path.{_≡_}
 use mathlib.Core.Bool.{Bool, true, false, not}
 use mathlib.Core.List.{List, [], _∷_}
-use Prim.Native.Nat.{ℕ, zero, suc, _+_}
+use Prim.Native.Nat.{ℕ, zero, suc, _+_, _≤_}
 use lib.Dec.{leb}
-use lib.ListN.{length}
+use lib.ListN.{length, drop}
 use Rattle.definition.specs.Code.{leftover-macro, name-long}
 use Rattle.definition.specs.Res.{Maybe, absent, just, Res, ok, require, _>>=_}
 use Rattle.definition.specs.Tree.{Name, CaseKind, Combinator, plain, chained, Inner, leaf, struct, choice, shell, bytes, invocation, macro-invocation, Fields, no-field, field, const, Cases, no-case, case}
 use Rattle.definition.specs.Names.{sorted, segment, child, caseSegment, shellSegment, fresh}
+use Rattle.definition.specs.Write.{wCombinator, wInner, wFields, wCases}
 use Rattle.definition.specs.Size.{size, levels, levelsI, levelsF, levelsC}
 use Rattle.definition.specs.Collect.{anonymous, free, leftover}
 use Rattle.lifting.specs.Records.{Record}
@@ -117,3 +119,22 @@ depth (within i p) = suc (levelsI i)
 depth (fields f p) = suc (levelsF f)
 depth (cases f k i p) = suc (levelsC f)
 depth done = 1
+
+-- what is to do stands at its place in s
+abbrev pub At : List ℕ → Todo → Type 0
+At s (whole c p) = (z : List ℕ) × (drop p s ≡ wCombinator c z)
+At s (within i p) = (z : List ℕ) × (drop p s ≡ wInner i z)
+At s (fields f p) = (z : List ℕ) × (drop p s ≡ wFields f z)
+At s (cases f k i p) = (z : List ℕ) × (drop p s ≡ wCases f k z)
+At s done = Unit {0}
+
+abbrev pub AtNext : List ℕ → Next → Type 0
+AtNext s leave = Unit {0}
+AtNext s (stay d) = At s d
+AtNext s (into c p base d env) = At s (whole c p) × At s d
+
+-- a child is one level deeper, and what is left is no deeper
+abbrev pub Shallower : Todo → Next → Type 0
+Shallower d leave = Unit {0}
+Shallower d (stay e) = depth e ≤ depth d
+Shallower d (into c p base e env) = (suc (levels c) ≤ depth d) × (depth e ≤ depth d)
