@@ -16,7 +16,7 @@ use Rattle.laws.proofs.Sizes.{sizeI, sizeF, sizeC, size-plain, size-chained, si
 use Rattle.lifting.specs.Records.{Record}
 use Rattle.lifting.specs.After.{chainAt, fieldsAt, casesAt, shellAt, fieldAt, constEnd, caseAt}
 use Rattle.lifting.specs.Trace.{Trace, Binder, refs, enter, finish, fits, bindRef, Tracing, lifting, traceBy, trace, traceI, traceF, traceC}
-use Rattle.lifting.specs.Frames.{Todo, whole, within, fields, cases, done, Frame, Next, leave, stay, into, next, closed, entering, goInto, move, run, steps, stepsI, stepsF, stepsC, depth, Shallower}
+use Rattle.lifting.specs.Frames.{Todo, whole, within, fields, cases, done, Frame, next, closed, entering, goInto, move, run, steps, stepsI, stepsF, stepsC, depth, Shallower}
 use Rattle.lifting.proofs.Ranges.{open-some, label-some, sizeI-some}
 
 module _ {S A B C : Type 0} where

@@ -14,3 +14,4 @@ pub mod Frames
 pub mod Counts
 pub mod Places
 pub mod Laws
+pub mod Worked

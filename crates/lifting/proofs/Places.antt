@@ -1,14 +1,14 @@
 -- What the loop steps to stands at its place.
-use mathlib.Core.Path.{_≡_, refl, sym, ap, _∙_}
-use mathlib.Core.List.{List, [], _∷_, _++_}
+use mathlib.Core.Path.{_≡_, refl}
+use mathlib.Core.List.{List, [], _∷_}
 use Prim.Native.Nat.{ℕ, _+_}
 use native.Mathlib.Omega.{arith}
 use lib.ListN.{length, drop}
 use lib.Seq.{drop-drop, drop-append-seam}
-use Rattle.definition.specs.Tree.{Name, Combinator, plain, chained, Inner, leaf, struct, choice, shell, bytes, invocation, macro-invocation, Fields, no-field, field, const, Cases, no-case, case}
+use Rattle.definition.specs.Tree.{Name, plain, chained, leaf, struct, choice, shell, bytes, invocation, macro-invocation, no-field, field, const, no-case, case}
 use Rattle.definition.specs.Write.{wU16, wName, wText, wSelector, caseByte, wLabel, wOpen, wShut, countC, wCombinator, wInner, wFields, wCases}
 use Rattle.definition.specs.Size.{size}
-use Rattle.laws.proofs.Splits.{Splits, s-name, s-text, s-selector, s-label, s-open, s-comb, s-inner}
+use Rattle.laws.proofs.Splits.{Splits, s-name, s-selector, s-label, s-open, s-comb, s-inner}
 use Rattle.laws.proofs.Sizes.{adds, sizeI}
 use Rattle.lifting.specs.After.{chainAt, fieldsAt, casesAt, shellAt, fieldAt, constEnd, caseAt}
 use Rattle.lifting.specs.Trace.{Binder}

@@ -16,7 +16,7 @@ use Rattle.writer.specs.Buf.{part}
 use Rattle.lifting.specs.Records.{Record, find, call}
 use Rattle.lifting.specs.After.{definitionOf, outAll, liftsAll, firstAt, Stands, AllFound}
 use Rattle.lifting.specs.Calls.{withCalls, resultBytes, paramRoom, byteHead, namesRoom, callRoom}
-use Rattle.lifting.specs.Frames.{whole, run, steps}
+use Rattle.lifting.specs.Frames.{Todo, whole, next, run, steps, At, AtNext, Shallower}
 use Rattle.lifting.specs.Trace.{Trace, Binder, enter, trace, treeHead, traceBook, traced}
 
 -- The walk that makes records -------------------------------------------------------------------
@@ -30,6 +30,8 @@ pub record Traced (ds : List Definition) (t : Trace) : Type 0 where
   -- each lift has its record, and no record stands elsewhere
   pub found : AllFound (t .records) (liftsAll ds (firstAt ds))
   pub only : (x : ℕ) → (Stands x (liftsAll ds (firstAt ds)) → ⊥) → find (t .records) x ≡ absent
+  -- what is found at a place begins there, and ends behind it
+  pub forward : (x : ℕ) (r : Record) → find (t .records) x ≡ just r → (r .at ≡ x) × (x < r .end)
   -- the lifts in the order of their definitions
   pub finished : t .finished ≡ map (λ l. l .at) (liftsAll ds (firstAt ds))
   -- code 10's numbers are the result's
@@ -39,13 +41,20 @@ pub record Traced (ds : List Definition) (t : Trace) : Type 0 where
 abbrev pub RecordsOfLifts : Type 0
 RecordsOfLifts = (ds : List Definition) (t : Trace) → traceBook treeHead ds ≡ ok tt t → Traced ds t
 
--- the trace of a body is a loop over frames; what it steps into is one level deeper
+-- the trace of a body is a loop over frames
 abbrev pub LoopIsTrace : Type 0
 LoopIsTrace = (headOf : List Record → Record → ℕ) (c : Combinator) (p : ℕ) (n : Name) (env : List Binder) (t : Trace)
     → run headOf (steps c) (record { todo = whole c p; name = n; env = env; closes = absent } ∷ []) t ≡ trace headOf c p n env t
 
 abbrev pub StepsAreFew : Type 0
 StepsAreFew = (c : Combinator) → steps c ≤ 2 * size c
+
+-- what it steps to stands at its place, and a child is one level deeper
+abbrev pub StepsStand : Type 0
+StepsStand = (s : List ℕ) (d : Todo) (n : Name) (env : List Binder) → At s d → AtNext s (next d n env)
+
+abbrev pub StepsAreShallow : Type 0
+StepsAreShallow = (d : Todo) (n : Name) (env : List Binder) → Shallower d (next d n env)
 
 -- Code 10 -----------------------------------------------------------------------------------------
 
@@ -84,7 +93,7 @@ pub record LeftToRight (s : List ℕ) (rs : List Record) : Type 0 where
   pub at-end : (to : ℕ) → withCalls s rs to to ≡ []
   pub at-byte : (from to : ℕ) → from < to → find rs from ≡ absent → withCalls s rs from to ≡ getD s from 0 ∷ withCalls s rs (suc from) to
   pub at-stretch : (from mid to : ℕ) → from ≤ mid → mid ≤ to → mid ≤ length s → ((x : ℕ) → from ≤ x → x < mid → find rs x ≡ absent) → withCalls s rs from to ≡ part from mid s ++ withCalls s rs mid to
-  pub at-lift : (from to : ℕ) (r : Record) → find rs from ≡ just r → from < r .end → r .end ≤ to → withCalls s rs from to ≡ wCombinator (call r) (withCalls s rs (r .end) to)
+  pub at-lift : (from to : ℕ) (r : Record) → from < to → find rs from ≡ just r → from < r .end → withCalls s rs from to ≡ wCombinator (call r) (withCalls s rs (r .end) to)
 
 abbrev pub GoesLeftToRight : Type 0
 GoesLeftToRight = (s : List ℕ) (rs : List Record) → LeftToRight s rs
