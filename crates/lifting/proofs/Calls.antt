@@ -22,9 +22,9 @@ module _ (s : List ℕ) (rs : List Record) where
       let f : at + suc k ≡ suc at + k = omega arith in
       rw (e, f) (skips k n (suc at))
 
-  pub calls-end : (to : ℕ) → withCalls s rs to to ≡ []
+  pub calls-end : (from to : ℕ) → to ≤ from → withCalls s rs from to ≡ []
   unfolding withCalls going
-  calls-end to = let e : to - to ≡ 0 = omega arith in rw e
+  calls-end from to h = let e : to - from ≡ 0 = omega arith in rw e
 
   pub calls-copy : (from to : ℕ) → from < to → find rs from ≡ absent → withCalls s rs from to ≡ getD s from 0 ∷ withCalls s rs (suc from) to
   unfolding withCalls going placed
@@ -44,7 +44,7 @@ module _ (s : List ℕ) (rs : List Record) where
     pub is : withCalls s rs from to ≡ r
 
   pub ends : (to : ℕ) → Goes to to []
-  ends to = record { before = omega arith; is = calls-end to }
+  ends to = record { before = omega arith; is = calls-end to to (omega arith) }
 
   pub copies : {to from : ℕ} {r : List ℕ} (b : ℕ) → find rs from ≡ absent → getD s from 0 ≡ b → Goes to (suc from) r → Goes to from (b ∷ r)
   copies {to} {from} b e f g = record { before = let h = g .before in omega arith; is = calls-copy from to (let h = g .before in omega arith) e ∙ (rw (f, g .is)) }

@@ -1,5 +1,6 @@
 -- The laws of lifting by place, statement by statement. The proofs are in proofs/Laws.antt.
 use mathlib.Core.Path.{_≡_}
+use mathlib.Core.Bool.{_||_}
 use mathlib.Core.List.{List, [], _∷_, _++_, map}
 use Prim.Native.Nat.{ℕ, suc, _+_, _*_, _-_, _≤_, _<_}
 use lib.ListN.{length, getD}
@@ -7,6 +8,7 @@ use Rattle.definition.specs.Code.{Code}
 use Rattle.definition.specs.Res.{absent, just, Res, bad, ok}
 use Rattle.definition.specs.Out.{Out, refused, done}
 use Rattle.definition.specs.Tree.{Name, Combinator, Param, Definition, format}
+use Rattle.definition.specs.Names.{elem}
 use Rattle.definition.specs.Write.{wCombinator, sizeOf, wBook}
 use Rattle.definition.specs.Size.{size, sizeBook}
 use Rattle.definition.specs.Lift.{liftBook}
@@ -56,6 +58,20 @@ StepsStand = (s : List ℕ) (d : Todo) (n : Name) (env : List Binder) → At s d
 abbrev pub StepsAreShallow : Type 0
 StepsAreShallow = (d : Todo) (n : Name) (env : List Binder) → Shallower d (next d n env)
 
+-- "A lifted name is taken before its own children are named": the names taken are those of the records, the last first, and those at the start
+unfoldable pub namesBack : List Record → List Name → List Name
+namesBack [] ns = ns
+namesBack (r ∷ rs) ns = namesBack rs (r .name ∷ ns)
+
+abbrev pub Taken : List Name → Trace → Type 0
+Taken ns t = t .taken ≡ namesBack (t .records) ns
+
+abbrev pub EachLiftTakes : Type 0
+EachLiftTakes = (headOf : List Record → Record → ℕ) (ns : List Name) (r : Record) (t : Trace) → Taken ns t → Taken ns (enter headOf r t)
+
+abbrev pub TakenAreNamed : Type 0
+TakenAreNamed = (rs : List Record) (ns : List Name) (n : Name) → elem n (namesBack rs ns) ≡ elem n (map (λ r. r .name) rs) || elem n ns
+
 -- Code 10 -----------------------------------------------------------------------------------------
 
 -- "6 bytes of contents, the new body and the call, less the combinator moved": it is in the new body, and cancels
@@ -90,7 +106,7 @@ CountedInBytes = (ds : List Definition) (z : List ℕ) → traceBook treeHead ds
 
 -- a range with its calls, gone over from left to right
 pub record LeftToRight (s : List ℕ) (rs : List Record) : Type 0 where
-  pub at-end : (to : ℕ) → withCalls s rs to to ≡ []
+  pub at-end : (from to : ℕ) → to ≤ from → withCalls s rs from to ≡ []
   pub at-byte : (from to : ℕ) → from < to → find rs from ≡ absent → withCalls s rs from to ≡ getD s from 0 ∷ withCalls s rs (suc from) to
   pub at-stretch : (from mid to : ℕ) → from ≤ mid → mid ≤ to → mid ≤ length s → ((x : ℕ) → from ≤ x → x < mid → find rs x ≡ absent) → withCalls s rs from to ≡ part from mid s ++ withCalls s rs mid to
   pub at-lift : (from to : ℕ) (r : Record) → from < to → find rs from ≡ just r → from < r .end → withCalls s rs from to ≡ wCombinator (call r) (withCalls s rs (r .end) to)
