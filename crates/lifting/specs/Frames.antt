@@ -71,22 +71,28 @@ module _ (headOf : List Record → Record → ℕ) where
         (u, t) ← fits (enter headOf (record { at = p; end = p + size c; name = n; params = ns; types = rs }) t)
         ok n t
 
-  -- so many steps over the frames, the deepest first
-  unfoldable pub goInto : Bool → Combinator → ℕ → Name → List Binder → List Frame → (List Frame → Trace → Res Trace Unit) → Trace → Res Trace Unit
-  goInto true c p base env fs on t = do
+  -- one step, at the deepest frame
+  unfoldable pub goInto : Bool → Combinator → ℕ → Name → List Binder → List Frame → Trace → Res Trace (List Frame)
+  goInto true c p base env fs t = do
     (n, t) ← entering c p base env t
-    on (record { todo = whole c p; name = n; env = env; closes = just p } ∷ fs) t
-  goInto false c p base env fs on t = on (record { todo = whole c p; name = base; env = env; closes = absent } ∷ fs) t
+    ok (record { todo = whole c p; name = n; env = env; closes = just p } ∷ fs) t
+  goInto false c p base env fs t = ok (record { todo = whole c p; name = base; env = env; closes = absent } ∷ fs) t
 
-  unfoldable pub move : Next → Frame → List Frame → (List Frame → Trace → Res Trace Unit) → Trace → Res Trace Unit
-  move leave f fs on t = on fs (closed (f .closes) t)
-  move (stay d) f fs on t = on (record { todo = d; name = f .name; env = f .env; closes = f .closes } ∷ fs) t
-  move (into c p base d env) f fs on t = goInto (anonymous c) c p base (f .env) (record { todo = d; name = f .name; env = env; closes = f .closes } ∷ fs) on t
+  unfoldable pub move : Next → Frame → List Frame → Trace → Res Trace (List Frame)
+  move leave f fs t = ok fs (closed (f .closes) t)
+  move (stay d) f fs t = ok (record { todo = d; name = f .name; env = f .env; closes = f .closes } ∷ fs) t
+  move (into c p base d env) f fs t = goInto (anonymous c) c p base (f .env) (record { todo = d; name = f .name; env = env; closes = f .closes } ∷ fs) t
 
+  unfoldable pub step : Frame → List Frame → Trace → Res Trace (List Frame)
+  step f fs t = move (next (f .todo) (f .name) (f .env)) f fs t
+
+  -- so many steps
   unfoldable pub run : ℕ → List Frame → Trace → Res Trace Unit
   run zero fs t = ok tt t
   run (suc k) [] t = ok tt t
-  run (suc k) (f ∷ fs) t = move (next (f .todo) (f .name) (f .env)) f fs (λ fs t. run k fs t) t
+  run (suc k) (f ∷ fs) t = do
+    (fs, t) ← step f fs t
+    run k fs t
 
 -- how many steps a node takes
 unfoldable mutual
@@ -138,3 +144,8 @@ abbrev pub Shallower : Todo → Next → Type 0
 Shallower d leave = Unit {0}
 Shallower d (stay e) = depth e ≤ depth d
 Shallower d (into c p base e env) = (suc (levels c) ≤ depth d) × (depth e ≤ depth d)
+
+-- every frame stands at its place in s, and the deepest is at most at the level m
+abbrev pub AllAt : List ℕ → ℕ → List Frame → Type 0
+AllAt s m [] = Unit {0}
+AllAt s m (f ∷ fs) = (At s (f .todo) × (length fs + depth (f .todo) ≤ m)) × AllAt s m fs
