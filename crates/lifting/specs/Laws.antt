@@ -18,7 +18,7 @@ use Rattle.writer.specs.Buf.{part}
 use Rattle.lifting.specs.Records.{Record, find, call}
 use Rattle.lifting.specs.After.{definitionOf, outAll, liftsAll, firstAt, Stands, AllFound}
 use Rattle.lifting.specs.Calls.{withCalls, resultBytes, paramRoom, byteHead, namesRoom, callRoom}
-use Rattle.lifting.specs.Frames.{Todo, whole, next, run, steps, At, AtNext, Shallower}
+use Rattle.lifting.specs.Frames.{Todo, whole, Frame, next, step, run, steps, At, AtNext, Shallower, AllAt}
 use Rattle.lifting.specs.Trace.{Trace, Binder, enter, trace, treeHead, traceBook, traced}
 
 -- The walk that makes records -------------------------------------------------------------------
@@ -57,6 +57,9 @@ StepsStand = (s : List ℕ) (d : Todo) (n : Name) (env : List Binder) → At s d
 
 abbrev pub StepsAreShallow : Type 0
 StepsAreShallow = (d : Todo) (n : Name) (env : List Binder) → Shallower d (next d n env)
+
+abbrev pub StepsKeep : Type 0
+StepsKeep = (headOf : List Record → Record → ℕ) (s : List ℕ) (m : ℕ) (f : Frame) (fs gs : List Frame) (t u : Trace) → AllAt s m (f ∷ fs) → step headOf f fs t ≡ ok gs u → AllAt s m gs
 
 -- "A lifted name is taken before its own children are named": the names taken are those of the records, the last first, and those at the start
 unfoldable pub namesBack : List Record → List Name → List Name
