@@ -1,11 +1,11 @@
 -- The whole list: `liftBook` and `traceBook` say the same.
 use mathlib.Core.Path.{_≡_, refl, sym, ap, _∙_}
-use mathlib.Core.Logic.{inl}
+use mathlib.Core.Logic.{_⊎_, inl, inr}
 use mathlib.Core.List.{List, [], _∷_, map}
-use Prim.Native.Nat.{ℕ, suc, _+_}
+use Prim.Native.Nat.{ℕ, suc, _+_, _<_}
 use native.Mathlib.Omega.{arith}
 use lib.ListN.{length, length-append, length-map}
-use Rattle.definition.specs.Res.{Res, ok}
+use Rattle.definition.specs.Res.{absent, just, Res, ok}
 use Rattle.definition.specs.Answer.{outcome}
 use Rattle.definition.specs.Tree.{Param, Definition, format, constant, byte-order, macro}
 use Rattle.definition.specs.Write.{wAll, wDefinition, sizeOf}
@@ -14,12 +14,12 @@ use Rattle.laws.proofs.Splits.{s-definition}
 use Rattle.laws.proofs.Sizes.{adds, head, size-format}
 use Rattle.laws.proofs.Measure.{measures}
 use Rattle.lifting.specs.Records.{Record, find}
-use Rattle.lifting.specs.After.{typeOf, outD, liftsD, outAll, liftsAll, firstAt}
+use Rattle.lifting.specs.After.{typeOf, outD, liftsD, outAll, liftsAll, firstAt, Lift, Stands, Found, AllFound}
 use Rattle.lifting.specs.Trace.{Trace, treeHead, ownBinders, paramsAt, traceAll, begin, traceBook, traced}
 use Rattle.lifting.specs.Laws.{Traced}
 use Rattle.lifting.proofs.Both.{Both, refusals, values, then, first-then}
-use Rattle.lifting.proofs.Found.{later-self}
-use Rattle.lifting.proofs.Ranges.{Between, none, wider, both, apart, in-range}
+use Rattle.lifting.proofs.Found.{later-self, at-or-none}
+use Rattle.lifting.proofs.Ranges.{Between, none, wider, both, apart, in-range, size-some}
 use Rattle.lifting.proofs.Agree.{Matches, paramOf, Means, New, Makes, nothing-made, one, two, new-left, new-right, walk-both}
 
 -- the bytes of the bodies
@@ -81,6 +81,16 @@ unfolding outAll
 length-outAll [] p rs = refl
 length-outAll (d ∷ ds) p rs = ap suc (length-outAll ds _ rs)
 
+forward : (rs : List Record) (ls : List Lift) → AllFound rs ls → ((x : ℕ) → (Stands x ls → ⊥) → find rs x ≡ absent) → (x : ℕ) (r : Record) → find rs x ≡ just r → (r .at ≡ x) × (x < r .end)
+forward rs ls f only x r e = of (at-or-none rs ls x f)
+  where
+    of : ((l : Lift) × Found rs l × (l .at ≡ x)) ⊎ (Stands x ls → ⊥) → (r .at ≡ x) × (x < r .end)
+    of (inl (l, h, k)) =
+        let g : find rs x ≡ just (h .of) = rw k at (h .found) in
+        let same : h .of ≡ r = cc in
+        rw (← same) (h .begins ∙ k, omega (arith, h .ends, size-some (l .what)))
+    of (inr n) = let a : find rs x ≡ absent = only x n in let z : _≡_ {A = ℕ} 0 1 = cc in absurd (omega arith)
+
 pub was-traced : (ds : List Definition) (t : Trace) → traceBook treeHead ds ≡ ok tt t → Traced ds t
 unfolding begin start find
 was-traced ds t e = of (walkAll full ds (start ds)) refl (rw e at (book-both ds))
@@ -94,6 +104,7 @@ was-traced ds t e = of (walkAll full ds (start ds)) refl (rw e at (book-both ds)
         record {
           found = g .found (t .records) l;
           only = λ x h. g .only x h;
+          forward = forward (t .records) (liftsAll ds (firstAt ds)) (g .found (t .records) l) (λ x h. g .only x h);
           finished = g .finished;
           bytes = sym (g .same .bytes) ∙ (rw (← b, ← k) (z .0));
           defns = sym (g .same .defns) ∙ z .1 ∙ (rw (b, k) (simp (length-append, length-map, length-outAll) (omega arith)));

@@ -13,28 +13,30 @@ use Rattle.lifting.specs.Calls.{placed, going, withCalls}
 
 module _ (s : List ℕ) (rs : List Record) where
   -- leaving out a number of places is going on after them
-  skips : (k n at : ℕ) → going s rs (n + k) at k ≡ going s rs n (at + k) 0
+  skips : (k n at : ℕ) → going s rs n at k ≡ going s rs (n - k) (at + k) 0
   unfolding going
-  skips zero n at = let e : n + 0 ≡ n = omega arith in let f : at + 0 ≡ at = omega arith in rw (e, f)
-  skips (suc k) n at =
-      let e : n + suc k ≡ suc (n + k) = omega arith in
+  skips zero n at = let e : n - 0 ≡ n = omega arith in let f : at + 0 ≡ at = omega arith in rw (e, f)
+  skips (suc k) zero at = let e : 0 - suc k ≡ 0 = omega arith in rw e
+  skips (suc k) (suc n) at =
+      let e : suc n - suc k ≡ n - k = omega arith in
       let f : at + suc k ≡ suc at + k = omega arith in
       rw (e, f) (skips k n (suc at))
 
-  pub calls-end : (to : ℕ) → withCalls s rs to to ≡ []
+  pub calls-end : (from to : ℕ) → to ≤ from → withCalls s rs from to ≡ []
   unfolding withCalls going
-  calls-end to = let e : to - to ≡ 0 = omega arith in rw e
+  calls-end from to h = let e : to - from ≡ 0 = omega arith in rw e
 
   pub calls-copy : (from to : ℕ) → from < to → find rs from ≡ absent → withCalls s rs from to ≡ getD s from 0 ∷ withCalls s rs (suc from) to
   unfolding withCalls going placed
   calls-copy from to p e = let n : to - from ≡ suc (to - suc from) = omega arith in rw (n, e)
 
-  pub calls-call : (from to : ℕ) (r : Record) → find rs from ≡ just r → from < r .end → r .end ≤ to → withCalls s rs from to ≡ wCombinator (call r) (withCalls s rs (r .end) to)
+  pub calls-call : (from to : ℕ) (r : Record) → from < to → find rs from ≡ just r → from < r .end → withCalls s rs from to ≡ wCombinator (call r) (withCalls s rs (r .end) to)
   unfolding withCalls going placed
-  calls-call from to r e p q =
-      let n : to - from ≡ suc ((to - r .end) + (r .end - suc from)) = omega arith in
+  calls-call from to r p e q =
+      let n : to - from ≡ suc (to - suc from) = omega arith in
+      let k : (to - suc from) - (r .end - suc from) ≡ to - r .end = omega arith in
       let m : suc from + (r .end - suc from) ≡ r .end = omega arith in
-      rw (n, e, skips (r .end - suc from) (to - r .end) (suc from), m)
+      rw (n, e, skips (r .end - suc from) (to - suc from) (suc from), k, m)
 
   -- what stands from a place on, up to `to`, is r
   pub record Goes (to from : ℕ) (r : List ℕ) : Type 0 where
@@ -42,13 +44,13 @@ module _ (s : List ℕ) (rs : List Record) where
     pub is : withCalls s rs from to ≡ r
 
   pub ends : (to : ℕ) → Goes to to []
-  ends to = record { before = omega arith; is = calls-end to }
+  ends to = record { before = omega arith; is = calls-end to to (omega arith) }
 
   pub copies : {to from : ℕ} {r : List ℕ} (b : ℕ) → find rs from ≡ absent → getD s from 0 ≡ b → Goes to (suc from) r → Goes to from (b ∷ r)
   copies {to} {from} b e f g = record { before = let h = g .before in omega arith; is = calls-copy from to (let h = g .before in omega arith) e ∙ (rw (f, g .is)) }
 
   pub calls : {to from : ℕ} {r : List ℕ} (k : Record) → find rs from ≡ just k → from < k .end → Goes to (k .end) r → Goes to from (wCombinator (call k) r)
-  calls {to} {from} k e p g = record { before = let h = g .before in omega arith; is = calls-call from to k e p (g .before) ∙ ap (wCombinator (call k)) (g .is) }
+  calls {to} {from} k e p g = record { before = let h = g .before in omega arith; is = calls-call from to k (let h = g .before in omega arith) e p ∙ ap (wCombinator (call k)) (g .is) }
 
   -- the same from the second place on: at the first place of a body nothing is looked up
   pub record Opens (to from : ℕ) (r : List ℕ) : Type 0 where

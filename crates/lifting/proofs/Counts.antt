@@ -1,7 +1,7 @@
 -- What a lift adds to code 10's numbers: bounds for every table of the naming pass.
-use mathlib.Core.Path.{_≡_, refl}
-use mathlib.Core.Bool.{Bool, true, false, _&&_}
-use mathlib.Core.List.{List, [], _∷_, _++_}
+use mathlib.Core.Path.{_≡_, refl, _∙_}
+use mathlib.Core.Bool.{Bool, true, false, cond, _&&_, _||_}
+use mathlib.Core.List.{List, [], _∷_, _++_, map}
 use Prim.Native.Nat.{ℕ, _+_, _*_, _≤_}
 use native.Mathlib.Omega.{arith}
 use lib.Dec.{leb}
@@ -10,12 +10,13 @@ use lib.ListN.{length, length-append}
 use Rattle.definition.specs.Code.{result-long}
 use Rattle.definition.specs.Res.{ok, require}
 use Rattle.definition.specs.Tree.{Name}
+use Rattle.definition.specs.Names.{eqName, elem}
 use Rattle.laws.proofs.Tests.{both-true}
 use Rattle.laws.proofs.Steps.{no-ok}
 use Rattle.lifting.specs.Records.{Ref, Record}
 use Rattle.lifting.specs.Calls.{paramRoom, byteHead, namesRoom, callRoom}
 use Rattle.lifting.specs.Trace.{Trace, enter, finish, fits}
-use Rattle.lifting.specs.Laws.{takes, Counted}
+use Rattle.lifting.specs.Laws.{namesBack, Taken, takes, Counted}
 use Rattle.lifting.proofs.Measured.{size-call}
 
 -- the closed sum
@@ -53,3 +54,24 @@ fits-within t v e = of (leb (t .bytes) 16384 && leb (t .defns) 512) refl e
     of : (b : Bool) → leb (t .bytes) 16384 && leb (t .defns) 512 ≡ b → require b result-long t ≡ ok tt v → (t ≡ v) × (t .bytes ≤ 16384) × (t .defns ≤ 512)
     of true h k = let w = both-true (leb (t .bytes) 16384) (leb (t .defns) 512) h in (cc, leb-true (t .bytes) 16384 (w .0), leb-true (t .defns) 512 (w .1))
     of false h k = no-ok k
+
+-- the names taken
+names-snoc : (rs : List Record) (r : Record) (ns : List Name) → namesBack (rs ++ (r ∷ [])) ns ≡ r .name ∷ namesBack rs ns
+unfolding namesBack
+names-snoc [] r ns = refl
+names-snoc (x ∷ rs) r ns = names-snoc rs r (x .name ∷ ns)
+
+pub taken-enter : (headOf : List Record → Record → ℕ) (ns : List Name) (r : Record) (t : Trace) → Taken ns t → Taken ns (enter headOf r t)
+unfolding enter
+taken-enter headOf ns r t e = rw (names-snoc (t .records) r ns, e)
+
+pub elem-taken : (rs : List Record) (ns : List Name) (n : Name) → elem n (namesBack rs ns) ≡ elem n (map (λ r. r .name) rs) || elem n ns
+unfolding namesBack elem
+elem-taken [] ns n = refl
+elem-taken (r ∷ rs) ns n = elem-taken rs (r .name ∷ ns) n ∙ of (elem n (map (λ r. r .name) rs)) (eqName n (r .name)) (elem n ns)
+  where
+    of : (a b c : Bool) → a || cond b true c ≡ cond b true a || c
+    of true true c = refl
+    of true false c = refl
+    of false true c = refl
+    of false false c = refl

@@ -6,10 +6,10 @@ use mathlib.Core.List.{List, [], _∷_, _++_}
 use Prim.Native.Nat.{ℕ}
 use native.Mathlib.Omega.{arith}
 use lib.Dec.{eqb}
-use borrow.Author.Tests.{eq-eqb, ne-eqb}
+use borrow.Author.Tests.{eqb-true, eqb-false, eq-eqb, ne-eqb}
 use Rattle.definition.specs.Res.{absent, just}
 use Rattle.lifting.specs.Records.{Record, orElse, find}
-use Rattle.lifting.specs.After.{Lift, Stands, AllFound}
+use Rattle.lifting.specs.After.{Lift, Stands, Found, AllFound}
 
 -- a record appended is what is found at its place
 pub find-snoc : (a : List Record) (r : Record) (x : ℕ) → find (a ++ (r ∷ [])) x ≡ cond (eqb (r .at) x) (just r) (find a x)
@@ -68,3 +68,17 @@ found-left rs (l ∷ a) b f = (f .0, found-left rs a b (f .1))
 pub found-right : (rs : List Record) (a b : List Lift) → AllFound rs (a ++ b) → AllFound rs b
 found-right rs [] b f = f
 found-right rs (l ∷ a) b f = found-right rs a b (f .1)
+
+-- a lift at the place, or none
+pub at-or-none : (rs : List Record) (ls : List Lift) (x : ℕ) → AllFound rs ls → ((l : Lift) × Found rs l × (l .at ≡ x)) ⊎ (Stands x ls → ⊥)
+at-or-none rs [] x f = inr (λ h. h)
+at-or-none rs (l ∷ ls) x f = of (eqb (l .at) x) refl (at-or-none rs ls x (f .1))
+  where
+    of : (b : Bool) → eqb (l .at) x ≡ b → ((l : Lift) × Found rs l × (l .at ≡ x)) ⊎ (Stands x ls → ⊥) → ((l : Lift) × Found rs l × (l .at ≡ x)) ⊎ (Stands x (l ∷ ls) → ⊥)
+    of true e h = inl (l, f .0, eqb-true (l .at) x e)
+    of false e (inl h) = inl h
+    of false e (inr n) = inr (λ k. none e n k)
+      where
+        none : eqb (l .at) x ≡ false → (Stands x ls → ⊥) → (l .at ≡ x) ⊎ Stands x ls → ⊥
+        none e n (inl k) = eqb-false (l .at) x e k
+        none e n (inr k) = n k

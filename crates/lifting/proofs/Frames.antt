@@ -16,7 +16,7 @@ use Rattle.laws.proofs.Sizes.{sizeI, sizeF, sizeC, size-plain, size-chained, si
 use Rattle.lifting.specs.Records.{Record}
 use Rattle.lifting.specs.After.{chainAt, fieldsAt, casesAt, shellAt, fieldAt, constEnd, caseAt}
 use Rattle.lifting.specs.Trace.{Trace, Binder, refs, enter, finish, fits, bindRef, Tracing, lifting, traceBy, trace, traceI, traceF, traceC}
-use Rattle.lifting.specs.Frames.{Todo, whole, within, fields, cases, done, Frame, Next, leave, stay, into, next, closed, entering, goInto, move, run, steps, stepsI, stepsF, stepsC, depth}
+use Rattle.lifting.specs.Frames.{Todo, whole, within, fields, cases, done, Frame, next, closed, entering, goInto, move, step, run, steps, stepsI, stepsF, stepsC, depth, Shallower}
 use Rattle.lifting.proofs.Ranges.{open-some, label-some, sizeI-some}
 
 module _ {S A B C : Type 0} where
@@ -47,14 +47,15 @@ module _ (headOf : List Record → Record → ℕ) where
 
   module _ (c : Combinator) (p : ℕ) (ih : (n : Name) (env : List Binder) (cl : Maybe ℕ) (fs : List Frame) (t : Trace) (k : ℕ) → run headOf (steps c + k) (on-top (whole c p) n env cl fs) t ≡ trace headOf c p n env t >>= λ (u, t). run headOf k fs (closed cl t)) where
     goes : (a : Bool) (base : Name) (env : List Binder) (fs : List Frame) (t : Trace) (k : ℕ)
-        → goInto headOf a c p base env fs (λ fs t. run headOf (steps c + k) fs t) t ≡ traceBy headOf a c p (λ n e t. trace headOf c p n e t) base env t >>= λ (u, t). run headOf k fs t
+        → goInto headOf a c p base env fs t >>= (λ (fs, t). run headOf (steps c + k) fs t) ≡ traceBy headOf a c p (λ n e t. trace headOf c p n e t) base env t >>= λ (u, t). run headOf k fs t
     unfolding goInto traceBy closed
     goes true base env fs t k = rw (lifting-enters c p (λ n e t. trace headOf c p n e t) base env t) (
-        follows (entering headOf c p base env t) _ _ (λ n t. ih n env (just p) fs t k ∙ sym (assoc (trace headOf c p n env t) _ _)) ∙ sym (assoc (entering headOf c p base env t) _ _))
+        assoc (entering headOf c p base env t) _ _
+        ∙ (follows (entering headOf c p base env t) _ _ (λ n t. ih n env (just p) fs t k ∙ sym (assoc (trace headOf c p n env t) _ _)) ∙ sym (assoc (entering headOf c p base env t) _ _)))
     goes false base env fs t k = ih base env absent fs t k
 
   mutual
-    unfolding run move next trace steps
+    unfolding run step move next trace steps
 
     pub run-node : (c : Combinator) (p : ℕ) (n : Name) (env : List Binder) (cl : Maybe ℕ) (fs : List Frame) (t : Trace) (k : ℕ)
         → run headOf (steps c + k) (on-top (whole c p) n env cl fs) t ≡ trace headOf c p n env t >>= λ (u, t). run headOf k fs (closed cl t)
@@ -136,12 +137,6 @@ mutual
   stepsC-size : (f : Cases) (k : CaseKind) → stepsC f ≤ 2 * sizeC f k + 1
   stepsC-size no-case k = omega arith
   stepsC-size (case l c f) k = omega (arith, steps-size c, stepsC-size f k, size-case l c f k, label-some k l)
-
--- a child is one level deeper, and what is left is no deeper
-abbrev pub Shallower : Todo → Next → Type 0
-Shallower d leave = Unit {0}
-Shallower d (stay e) = depth e ≤ depth d
-Shallower d (into c p base e env) = (suc (levels c) ≤ depth d) × (depth e ≤ depth d)
 
 pub next-shallower : (d : Todo) (n : Name) (env : List Binder) → Shallower d (next d n env)
 unfolding next depth levels

@@ -12,4 +12,6 @@ pub mod Written
 pub mod Measured
 pub mod Frames
 pub mod Counts
+pub mod Places
 pub mod Laws
+pub mod Worked

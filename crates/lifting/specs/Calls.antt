@@ -15,7 +15,7 @@ unfoldable pub placed : Maybe Record → ℕ → ℕ → (ℕ → List ℕ) → 
 placed absent at b on = b ∷ on 0
 placed (just r) at b on = wCombinator (call r) (on (r .end - suc at))
 
--- n places from `at` on, the first of them left out
+-- n places from `at` on, the first `left` of them left out
 unfoldable pub going : List ℕ → List Record → ℕ → ℕ → ℕ → List ℕ
 going s rs zero at left = []
 going s rs (suc n) at (suc left) = going s rs n (suc at) left

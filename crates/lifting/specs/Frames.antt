@@ -1,13 +1,15 @@
 -- The trace as one loop over frames, one for each level: "The walk's call stack may become one frame for each of the 64 levels."
+use mathlib.Core.Path.{_≡_}
 use mathlib.Core.Bool.{Bool, true, false, not}
 use mathlib.Core.List.{List, [], _∷_}
-use Prim.Native.Nat.{ℕ, zero, suc, _+_}
+use Prim.Native.Nat.{ℕ, zero, suc, _+_, _≤_}
 use lib.Dec.{leb}
-use lib.ListN.{length}
+use lib.ListN.{length, drop}
 use Rattle.definition.specs.Code.{leftover-macro, name-long}
 use Rattle.definition.specs.Res.{Maybe, absent, just, Res, ok, require, _>>=_}
 use Rattle.definition.specs.Tree.{Name, CaseKind, Combinator, plain, chained, Inner, leaf, struct, choice, shell, bytes, invocation, macro-invocation, Fields, no-field, field, const, Cases, no-case, case}
 use Rattle.definition.specs.Names.{sorted, segment, child, caseSegment, shellSegment, fresh}
+use Rattle.definition.specs.Write.{wCombinator, wInner, wFields, wCases}
 use Rattle.definition.specs.Size.{size, levels, levelsI, levelsF, levelsC}
 use Rattle.definition.specs.Collect.{anonymous, free, leftover}
 use Rattle.lifting.specs.Records.{Record}
@@ -69,22 +71,28 @@ module _ (headOf : List Record → Record → ℕ) where
         (u, t) ← fits (enter headOf (record { at = p; end = p + size c; name = n; params = ns; types = rs }) t)
         ok n t
 
-  -- so many steps over the frames, the deepest first
-  unfoldable pub goInto : Bool → Combinator → ℕ → Name → List Binder → List Frame → (List Frame → Trace → Res Trace Unit) → Trace → Res Trace Unit
-  goInto true c p base env fs on t = do
+  -- one step, at the deepest frame
+  unfoldable pub goInto : Bool → Combinator → ℕ → Name → List Binder → List Frame → Trace → Res Trace (List Frame)
+  goInto true c p base env fs t = do
     (n, t) ← entering c p base env t
-    on (record { todo = whole c p; name = n; env = env; closes = just p } ∷ fs) t
-  goInto false c p base env fs on t = on (record { todo = whole c p; name = base; env = env; closes = absent } ∷ fs) t
+    ok (record { todo = whole c p; name = n; env = env; closes = just p } ∷ fs) t
+  goInto false c p base env fs t = ok (record { todo = whole c p; name = base; env = env; closes = absent } ∷ fs) t
 
-  unfoldable pub move : Next → Frame → List Frame → (List Frame → Trace → Res Trace Unit) → Trace → Res Trace Unit
-  move leave f fs on t = on fs (closed (f .closes) t)
-  move (stay d) f fs on t = on (record { todo = d; name = f .name; env = f .env; closes = f .closes } ∷ fs) t
-  move (into c p base d env) f fs on t = goInto (anonymous c) c p base (f .env) (record { todo = d; name = f .name; env = env; closes = f .closes } ∷ fs) on t
+  unfoldable pub move : Next → Frame → List Frame → Trace → Res Trace (List Frame)
+  move leave f fs t = ok fs (closed (f .closes) t)
+  move (stay d) f fs t = ok (record { todo = d; name = f .name; env = f .env; closes = f .closes } ∷ fs) t
+  move (into c p base d env) f fs t = goInto (anonymous c) c p base (f .env) (record { todo = d; name = f .name; env = env; closes = f .closes } ∷ fs) t
 
+  unfoldable pub step : Frame → List Frame → Trace → Res Trace (List Frame)
+  step f fs t = move (next (f .todo) (f .name) (f .env)) f fs t
+
+  -- so many steps
   unfoldable pub run : ℕ → List Frame → Trace → Res Trace Unit
   run zero fs t = ok tt t
   run (suc k) [] t = ok tt t
-  run (suc k) (f ∷ fs) t = move (next (f .todo) (f .name) (f .env)) f fs (λ fs t. run k fs t) t
+  run (suc k) (f ∷ fs) t = do
+    (fs, t) ← step f fs t
+    run k fs t
 
 -- how many steps a node takes
 unfoldable mutual
@@ -117,3 +125,27 @@ depth (within i p) = suc (levelsI i)
 depth (fields f p) = suc (levelsF f)
 depth (cases f k i p) = suc (levelsC f)
 depth done = 1
+
+-- what is to do stands at its place in s
+abbrev pub At : List ℕ → Todo → Type 0
+At s (whole c p) = (z : List ℕ) × (drop p s ≡ wCombinator c z)
+At s (within i p) = (z : List ℕ) × (drop p s ≡ wInner i z)
+At s (fields f p) = (z : List ℕ) × (drop p s ≡ wFields f z)
+At s (cases f k i p) = (z : List ℕ) × (drop p s ≡ wCases f k z)
+At s done = Unit {0}
+
+abbrev pub AtNext : List ℕ → Next → Type 0
+AtNext s leave = Unit {0}
+AtNext s (stay d) = At s d
+AtNext s (into c p base d env) = At s (whole c p) × At s d
+
+-- a child is one level deeper, and what is left is no deeper
+abbrev pub Shallower : Todo → Next → Type 0
+Shallower d leave = Unit {0}
+Shallower d (stay e) = depth e ≤ depth d
+Shallower d (into c p base e env) = (suc (levels c) ≤ depth d) × (depth e ≤ depth d)
+
+-- every frame stands at its place in s, and the deepest is at most at the level m
+abbrev pub AllAt : List ℕ → ℕ → List Frame → Type 0
+AllAt s m [] = Unit {0}
+AllAt s m (f ∷ fs) = (At s (f .todo) × (length fs + depth (f .todo) ≤ m)) × AllAt s m fs

@@ -1,5 +1,6 @@
 -- The laws of lifting by place, statement by statement. The proofs are in proofs/Laws.antt.
 use mathlib.Core.Path.{_≡_}
+use mathlib.Core.Bool.{_||_}
 use mathlib.Core.List.{List, [], _∷_, _++_, map}
 use Prim.Native.Nat.{ℕ, suc, _+_, _*_, _-_, _≤_, _<_}
 use lib.ListN.{length, getD}
@@ -7,6 +8,7 @@ use Rattle.definition.specs.Code.{Code}
 use Rattle.definition.specs.Res.{absent, just, Res, bad, ok}
 use Rattle.definition.specs.Out.{Out, refused, done}
 use Rattle.definition.specs.Tree.{Name, Combinator, Param, Definition, format}
+use Rattle.definition.specs.Names.{elem}
 use Rattle.definition.specs.Write.{wCombinator, sizeOf, wBook}
 use Rattle.definition.specs.Size.{size, sizeBook}
 use Rattle.definition.specs.Lift.{liftBook}
@@ -16,7 +18,7 @@ use Rattle.writer.specs.Buf.{part}
 use Rattle.lifting.specs.Records.{Record, find, call}
 use Rattle.lifting.specs.After.{definitionOf, outAll, liftsAll, firstAt, Stands, AllFound}
 use Rattle.lifting.specs.Calls.{withCalls, resultBytes, paramRoom, byteHead, namesRoom, callRoom}
-use Rattle.lifting.specs.Frames.{whole, run, steps}
+use Rattle.lifting.specs.Frames.{Todo, whole, Frame, next, step, run, steps, At, AtNext, Shallower, AllAt}
 use Rattle.lifting.specs.Trace.{Trace, Binder, enter, trace, treeHead, traceBook, traced}
 
 -- The walk that makes records -------------------------------------------------------------------
@@ -30,6 +32,8 @@ pub record Traced (ds : List Definition) (t : Trace) : Type 0 where
   -- each lift has its record, and no record stands elsewhere
   pub found : AllFound (t .records) (liftsAll ds (firstAt ds))
   pub only : (x : ℕ) → (Stands x (liftsAll ds (firstAt ds)) → ⊥) → find (t .records) x ≡ absent
+  -- what is found at a place begins there, and ends behind it
+  pub forward : (x : ℕ) (r : Record) → find (t .records) x ≡ just r → (r .at ≡ x) × (x < r .end)
   -- the lifts in the order of their definitions
   pub finished : t .finished ≡ map (λ l. l .at) (liftsAll ds (firstAt ds))
   -- code 10's numbers are the result's
@@ -39,13 +43,37 @@ pub record Traced (ds : List Definition) (t : Trace) : Type 0 where
 abbrev pub RecordsOfLifts : Type 0
 RecordsOfLifts = (ds : List Definition) (t : Trace) → traceBook treeHead ds ≡ ok tt t → Traced ds t
 
--- the trace of a body is a loop over frames; what it steps into is one level deeper
+-- the trace of a body is a loop over frames
 abbrev pub LoopIsTrace : Type 0
 LoopIsTrace = (headOf : List Record → Record → ℕ) (c : Combinator) (p : ℕ) (n : Name) (env : List Binder) (t : Trace)
     → run headOf (steps c) (record { todo = whole c p; name = n; env = env; closes = absent } ∷ []) t ≡ trace headOf c p n env t
 
 abbrev pub StepsAreFew : Type 0
 StepsAreFew = (c : Combinator) → steps c ≤ 2 * size c
+
+-- what it steps to stands at its place, and a child is one level deeper
+abbrev pub StepsStand : Type 0
+StepsStand = (s : List ℕ) (d : Todo) (n : Name) (env : List Binder) → At s d → AtNext s (next d n env)
+
+abbrev pub StepsAreShallow : Type 0
+StepsAreShallow = (d : Todo) (n : Name) (env : List Binder) → Shallower d (next d n env)
+
+abbrev pub StepsKeep : Type 0
+StepsKeep = (headOf : List Record → Record → ℕ) (s : List ℕ) (m : ℕ) (f : Frame) (fs gs : List Frame) (t u : Trace) → AllAt s m (f ∷ fs) → step headOf f fs t ≡ ok gs u → AllAt s m gs
+
+-- "A lifted name is taken before its own children are named": the names taken are those of the records, the last first, and those at the start
+unfoldable pub namesBack : List Record → List Name → List Name
+namesBack [] ns = ns
+namesBack (r ∷ rs) ns = namesBack rs (r .name ∷ ns)
+
+abbrev pub Taken : List Name → Trace → Type 0
+Taken ns t = t .taken ≡ namesBack (t .records) ns
+
+abbrev pub EachLiftTakes : Type 0
+EachLiftTakes = (headOf : List Record → Record → ℕ) (ns : List Name) (r : Record) (t : Trace) → Taken ns t → Taken ns (enter headOf r t)
+
+abbrev pub TakenAreNamed : Type 0
+TakenAreNamed = (rs : List Record) (ns : List Name) (n : Name) → elem n (namesBack rs ns) ≡ elem n (map (λ r. r .name) rs) || elem n ns
 
 -- Code 10 -----------------------------------------------------------------------------------------
 
@@ -81,10 +109,10 @@ CountedInBytes = (ds : List Definition) (z : List ℕ) → traceBook treeHead ds
 
 -- a range with its calls, gone over from left to right
 pub record LeftToRight (s : List ℕ) (rs : List Record) : Type 0 where
-  pub at-end : (to : ℕ) → withCalls s rs to to ≡ []
+  pub at-end : (from to : ℕ) → to ≤ from → withCalls s rs from to ≡ []
   pub at-byte : (from to : ℕ) → from < to → find rs from ≡ absent → withCalls s rs from to ≡ getD s from 0 ∷ withCalls s rs (suc from) to
   pub at-stretch : (from mid to : ℕ) → from ≤ mid → mid ≤ to → mid ≤ length s → ((x : ℕ) → from ≤ x → x < mid → find rs x ≡ absent) → withCalls s rs from to ≡ part from mid s ++ withCalls s rs mid to
-  pub at-lift : (from to : ℕ) (r : Record) → find rs from ≡ just r → from < r .end → r .end ≤ to → withCalls s rs from to ≡ wCombinator (call r) (withCalls s rs (r .end) to)
+  pub at-lift : (from to : ℕ) (r : Record) → from < to → find rs from ≡ just r → from < r .end → withCalls s rs from to ≡ wCombinator (call r) (withCalls s rs (r .end) to)
 
 abbrev pub GoesLeftToRight : Type 0
 GoesLeftToRight = (s : List ℕ) (rs : List Record) → LeftToRight s rs
