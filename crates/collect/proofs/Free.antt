@@ -12,7 +12,7 @@ use Rattle.definition.specs.Size.{levels}
 use Rattle.definition.specs.Collect.{free, leftover}
 use Rattle.writer.specs.Buf.{put}
 use Rattle.writer.proofs.Put.{take-written}
-use Rattle.writer.proofs.Wrote.{place-fits}
+use Rattle.writer.proofs.Wrote.{place-fits, same-length}
 use Rattle.seek.specs.At.{byteAt}
 use Rattle.seek.specs.Here.{Here}
 use Rattle.seek.proofs.Here.{here-length}
@@ -24,7 +24,7 @@ use Rattle.collect.proofs.Gathered.{Gathered}
 use Rattle.collect.proofs.Link.{gather}
 use Rattle.collect.proofs.Room.{free-room}
 
-length-names : (s l : List ℕ) → length (namesIn s l) ≡ length l
+pub length-names : (s l : List ℕ) → length (namesIn s l) ≡ length l
 unfolding namesIn
 length-names s [] = refl
 length-names s (x ∷ l) = let h = length-names s l in omega arith
@@ -34,6 +34,9 @@ module _ (s : List ℕ) (p : ℕ) (c : Combinator) (z : List ℕ) (small : (i : 
     gathered : Gathered s z (free c) (leftover c) 0 0 false bound uses (collectAt s p bound uses)
     unfolding collectAt
     gathered = gather s small short c 64 deep (walk p 0 0 false) bound uses z record { here = h; room = omega (arith, here-length h); fits = omega arith }
+
+    pub uses-long : length (collectAt s p bound uses .2) ≡ length uses
+    uses-long = same-length (gathered .wrote)
 
     pub collect-leftover : leftover c ≡ true → answerOf (collectAt s p bound uses .0) ≡ Leftover
     collect-leftover e = rw (gathered .left, e)
