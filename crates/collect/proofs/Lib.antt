@@ -1,0 +1,8 @@
+pub mod Uses
+pub mod Level
+pub mod Anonymous
+pub mod Without
+pub mod Gathered
+pub mod Link
+pub mod Room
+pub mod Free
