@@ -13,8 +13,8 @@ use Rattle.definition.specs.Tree.{Name}
 use Rattle.definition.specs.Names.{eqName, elem, remove, root}
 use Rattle.definition.specs.Write.{wName}
 use Rattle.laws.proofs.Tests.{yes-no}
-use Rattle.laws.proofs.FreshName.{eqName-true, eqName-refl}
-use Rattle.laws.proofs.Elem.{eqName-swap}
+use Rattle.laws.proofs.Members.{eqName-true, eqName-refl}
+use Rattle.laws.proofs.Members.{eqName-swap}
 use Rattle.lookup.specs.Name.{nameAt}
 use Rattle.lookup.proofs.Names.{stands}
 use Rattle.seek.specs.At.{byteAt, pastAt}

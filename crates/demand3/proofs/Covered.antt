@@ -28,7 +28,7 @@ unfolding each remove elem
 each-remove l [] ns = refl
 each-remove l (u ∷ us) ns = ⊎-elim
     (λ (q : eqName l u ≡ true). let e = eqName-true l u q in rw (q, ← e, eqName-refl l) (each-remove l us ns))
-    (λ (q : eqName l u ≡ false). rw (q, Rattle.demand3.proofs.Elem.eqName-swap l u q, each-remove l us ns))
+    (λ (q : eqName l u ≡ false). rw (q, Rattle.laws.proofs.Members.eqName-swap l u q, each-remove l us ns))
     (yes-no (eqName l u))
 
 each-unbound : (k : FieldKind) (l : Name) (us ns : List Name) → each (unbound k l us) ns ≡ each us (binds k l ns)

@@ -12,13 +12,7 @@ use Rattle.definition.specs.Lift.{names}
 use Rattle.definition.specs.PutBack.{bodyOf}
 use Rattle.laws.specs.Lists.{Distinct}
 use Rattle.laws.proofs.Tests.{yes-no, not-both}
-use Rattle.laws.proofs.Members.{eqName-true, eqName-refl}
-
-pub eqName-swap : (a b : Name) → eqName a b ≡ false → eqName b a ≡ false
-eqName-swap a b e = ⊎-elim
-    (λ (p : eqName b a ≡ true). let q = eqName-true b a p in not-both (eqName a b) (rw q (eqName-refl a)) e)
-    (λ p. p)
-    (yes-no (eqName b a))
+use Rattle.laws.proofs.Members.{eqName-true, eqName-refl, eqName-swap}
 
 -- one is in a list in which the other is not
 pub apart : (m n : Name) (l : List Name) → elem m l ≡ true → elem n l ≡ false → eqName m n ≡ false

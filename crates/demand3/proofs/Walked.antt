@@ -16,7 +16,8 @@ use Rattle.laws.proofs.Tests.{not-both}
 use Rattle.laws.proofs.Steps.{did}
 use Rattle.laws.proofs.Lifted.{Lifted, lifted}
 use Rattle.demand3.specs.Flat.{CalmLeaf, Calm, CalmI, CalmF, CalmC, Flat, FlatI, FlatAll}
-use Rattle.demand3.proofs.Elem.{eqName-swap, apart, elem-here, elem-there, elem-tail, elem-snoc, distinct-snoc, names-snoc, bodyOf-lasts}
+use Rattle.laws.proofs.Members.{eqName-swap}
+use Rattle.demand3.proofs.Elem.{apart, elem-here, elem-there, elem-tail, elem-snoc, distinct-snoc, names-snoc, bodyOf-lasts}
 
 -- the name of every definition made is taken
 unfoldable pub Known : State → Type 0

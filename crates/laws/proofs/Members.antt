@@ -29,6 +29,11 @@ unfolding eqName
 eqName-refl [] = refl
 eqName-refl (x ∷ xs) = simp (eq-eqb x x refl, eqName-refl xs)
 
+pub eqName-swap : (a b : Name) → eqName a b ≡ false → eqName b a ≡ false
+eqName-swap a b e = by-test (eqName b a)
+    (λ p. let q = eqName-true b a p in not-both (eqName a b) (rw q (eqName-refl a)) e)
+    (λ p. p)
+
 pub elem-in : (n : Name) (l : List Name) → elem n l ≡ true → List·Memᴰ n l
 unfolding elem
 elem-in n [] e = not-both false e refl
