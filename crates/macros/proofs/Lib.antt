@@ -1,3 +1,7 @@
 mod Copied
 mod Stands
 mod Subst
+mod Depth
+mod Room
+mod Marks
+mod Turns

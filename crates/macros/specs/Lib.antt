@@ -1,1 +1,3 @@
 pub mod Substituted
+pub mod Deep
+pub mod Instance
