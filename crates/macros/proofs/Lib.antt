@@ -5,3 +5,5 @@ mod Depth
 mod Room
 mod Marks
 mod Turns
+mod Listed
+mod Rows

@@ -1,3 +1,4 @@
 pub mod Substituted
 pub mod Deep
 pub mod Instance
+pub mod Table

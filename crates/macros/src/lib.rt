@@ -1,4 +1,6 @@
 // Macro expansion on validated bytes: document 01's "Macro rules".
+pub mod table;
+
 use calls::combinator;
 use calls::skip_inner;
 use calls::Walk;
