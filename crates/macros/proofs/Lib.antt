@@ -7,3 +7,4 @@ mod Marks
 mod Turns
 mod Listed
 mod Rows
+mod Opening

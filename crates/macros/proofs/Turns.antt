@@ -58,7 +58,7 @@ long-size : (d : Combinator) → length (wCombinator d []) ≡ size d
 unfolding size
 long-size d = refl
 
-from-zero : (n : ℕ) → n ≡ 0 + n
+pub from-zero : (n : ℕ) → n ≡ 0 + n
 from-zero n = omega arith
 
 module _ (d : Combinator) where
@@ -69,6 +69,24 @@ module _ (d : Combinator) where
   within-size : size d ≤ 16384 → limited d ≡ given (leb (levels d) 64) macro-growth d
   unfolding limited
   within-size h = rw (le-leb (size d) 16384 h)
+
+-- a combinator that was written at the front of a, and walked over
+module _ (d : Combinator) (dd : levels d ≤ 127) (fits : size d ≤ 16384) (a m : List ℕ) {a₁ m₂ : List ℕ} (la : length a ≡ 16384) (lm : length m ≡ 8192) (w : Walk) (ha : a₁ ≡ put a 0 (wCombinator d []))
+    (hw : w ≡ combinatorAt 129 a₁ (walk 0 0 129 true) m .0) (hm₂ : m₂ ≡ combinatorAt 129 a₁ (walk 0 0 129 true) m .1) where
+  front : Here a₁ 0 (wCombinator d (drop (size d) a))
+  front = rw ha (front-here a d (omega arith))
+
+  over-made : Walked a₁ d 129 (drop (size d) a) (walk 0 0 129 true) m w m₂
+  over-made = rw (hw, hm₂) (walked a₁ (omega (arith, length-put a 0 (wCombinator d []), ap length ha)) d 129 (omega arith) (walk 0 0 129 true) m (drop (size d) a) front (omega (arith, marks-room 0 d)))
+
+  pub holds : levels d ≤ 64 → Holds a₁ m₂ (w .at) (w .n) d
+  holds h = record {
+    rest = drop (size d) a;
+    here = front;
+    end = over-made .place ∙ sym (from-zero (size d));
+    marked = rw (over-made .count, over-made .marks) (take-written m 0 (places 0 (pieces d [])) (omega (arith, marks-room 0 d)));
+    deep = h;
+  }
 
 -- the test of the levels: of 129 at least 65 are left
 deep-test : (n l : ℕ) → l ≡ min 129 (129 - n) → leb 65 l ≡ leb n 64
@@ -89,27 +107,13 @@ module _ {macros book a b marks : List ℕ} (t : Turn) where
     -- the combinator d that was written into b, and copied back to a
     module _ (d : Combinator) (dd : levels d ≤ 127) (r : Turn) (a₁ m : List ℕ) (w : Walk) (m₂ : List ℕ) (fits : size d ≤ 16384) (ha : a₁ ≡ put a 0 (wCombinator d [])) (hm : m ≡ marks)
         (hw : w ≡ combinatorAt 129 a₁ (walk 0 0 129 true) m .0) (hm₂ : m₂ ≡ combinatorAt 129 a₁ (walk 0 0 129 true) m .1) where
-      here₁ : Here a₁ 0 (wCombinator d (drop (size d) a))
-      here₁ = rw ha (front-here a d (omega (arith, ar .a-long)))
-
-      over-made : Walked a₁ d 129 (drop (size d) a) (walk 0 0 129 true) m (combinatorAt 129 a₁ (walk 0 0 129 true) m .0) (combinatorAt 129 a₁ (walk 0 0 129 true) m .1)
-      over-made = walked a₁ (omega (arith, ar .a-long, length-put a 0 (wCombinator d []), ap length ha)) d 129 (omega arith) (walk 0 0 129 true) m (drop (size d) a) here₁ (omega (arith, marks-room 0 d, ar .marks-long, ap length hm))
-
-      holds : levels d ≤ 64 → Holds a₁ m₂ (w .at) (w .n) d
-      holds h = record {
-        rest = drop (size d) a;
-        here = here₁;
-        end = rw hw (over-made .place ∙ sym (from-zero (size d)));
-        marked = rw (hw, hm₂, over-made .count, over-made .marks) (take-written m 0 (places 0 (pieces d [])) (omega (arith, marks-room 0 d, ar .marks-long, ap length hm)));
-        deep = h;
-      }
-
       -- the test tells what `limited` says
       went : r .good ≡ leb 65 (w .left) → r .len ≡ w .at → r .n ≡ w .n → Here macros (r .param) z → Here book (r .arg) y → Went macros book a₁ m₂ r z y (limited d)
       went e₁ e₂ e₃ g₁ g₂ =
-          let q : leb 65 (w .left) ≡ leb (levels d) 64 = deep-test (levels d) (w .left) (rw hw (over-made .deep)) in
+          let lm = ap length hm ∙ ar .marks-long in
+          let q : leb 65 (w .left) ≡ leb (levels d) 64 = deep-test (levels d) (w .left) (over-made d dd fits a m (ar .a-long) lm w ha hw hm₂ .deep) in
           ⊎-elim
-          (λ (h : leb (levels d) 64 ≡ true). rw (within-size d fits, h) (e₁ ∙ q ∙ h, g₁, g₂, rw (e₂, e₃) (holds (leb-true (levels d) 64 h))))
+          (λ (h : leb (levels d) 64 ≡ true). rw (within-size d fits, h) (e₁ ∙ q ∙ h, g₁, g₂, rw (e₂, e₃) (holds d dd fits a m (ar .a-long) lm w ha hw hm₂ (leb-true (levels d) 64 h))))
           (λ (h : leb (levels d) 64 ≡ false). rw (within-size d fits, h) (e₁ ∙ q ∙ h))
           (yes-no (leb (levels d) 64))
 

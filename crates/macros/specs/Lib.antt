@@ -2,3 +2,4 @@ pub mod Substituted
 pub mod Deep
 pub mod Instance
 pub mod Table
+pub mod Expand

@@ -1,4 +1,5 @@
 // Macro expansion on validated bytes: document 01's "Macro rules".
+mod call;
 pub mod table;
 
 use calls::combinator;
