@@ -8,3 +8,5 @@ mod Turns
 mod Listed
 mod Rows
 mod Opening
+mod Next
+mod Expanding

@@ -1,5 +1,6 @@
 // Macro expansion on validated bytes: document 01's "Macro rules".
 mod call;
+pub mod expand;
 pub mod table;
 
 use calls::combinator;
