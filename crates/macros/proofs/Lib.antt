@@ -10,3 +10,6 @@ mod Rows
 mod Opening
 mod Next
 mod Expanding
+mod Format
+mod Leftover
+mod Passing

@@ -87,15 +87,16 @@ rows-kept : (s pl hs : List ℕ) (n x y k : ℕ) → k ≤ n → (ms : List Macr
 rows-kept s pl hs n x y k h [] r = r
 rows-kept s pl hs n x y k h (m ∷ ms) r =
     let w = r .1 in
-    let z = r .0 in
-    (r .0,
-    record {
-      places-long = simp length-set (w .places-long);
-      hashes-long = simp length-set (w .hashes-long);
-      defined = rw (getD-set-other pl n (k - 1) x 0 (λ (e : k - 1 ≡ n). absurd (omega arith))) (w .defined);
-      hash = rw (getD-set-other hs n (k - 1) y 0 (λ (e : k - 1 ≡ n). absurd (omega arith))) (w .hash);
-    },
-    rows-kept s pl hs n x y (k - 1) (omega arith) ms (r .2))
+    let z = r .0 in (
+      r .0,
+      record {
+        places-long = simp length-set (w .places-long);
+        hashes-long = simp length-set (w .hashes-long);
+        defined = rw (getD-set-other pl n (k - 1) x 0 (λ (e : k - 1 ≡ n). absurd (omega arith))) (w .defined);
+        hash = rw (getD-set-other hs n (k - 1) y 0 (λ (e : k - 1 ≡ n). absurd (omega arith))) (w .hash);
+      },
+      rows-kept s pl hs n x y (k - 1) (omega arith) ms (r .2),
+    )
 
 module _ {s pl hs : List ℕ} {kind at n : ℕ} where
   pub taken-not : (kind ≡ 4 → ⊥) → Taken s kind at pl hs n pl hs n
@@ -126,16 +127,17 @@ module _ {s pl hs : List ℕ} {kind at n : ℕ} where
       row (macro m ps c) z ms l w k dd hp hh r =
           let x : n + 1 - 1 ≡ n = omega arith in
           let a : at % 65536 ≡ at = omega (arith, w .reach) in
-          let def : Defined s at (record { name = m; params = ps; body = c }) = record { rest = z; here = w; deep = omega arith } in
-          (omega arith,
-          rw (x, a)
-          (record {
-            places-long = simp length-set hp;
-            hashes-long = simp length-set hh;
-            defined = rw (getD-set-same pl n at 0 hp) def;
-            hash = rw (getD-set-same hs n h 0 hh) (g ∙ rw (e, defined-name (record { name = m; params = ps; body = c }) def));
-          }),
-          rw x (rows-kept s pl hs n (at % 65536) h n (omega arith) ms r))
+          let def : Defined s at (record { name = m; params = ps; body = c }) = record { rest = z; here = w; deep = omega arith } in (
+            omega arith,
+            rw (x, a)
+                (record {
+                  places-long = simp length-set hp;
+                  hashes-long = simp length-set hh;
+                  defined = rw (getD-set-same pl n at 0 hp) def;
+                  hash = rw (getD-set-same hs n h 0 hh) (g ∙ rw (e, defined-name (record { name = m; params = ps; body = c }) def));
+                }),
+            rw x (rows-kept s pl hs n (at % 65536) h n (omega arith) ms r),
+          )
 
 macros-step : (d : Definition) (ds : List Definition) (ms : List Macro) → macros (d ∷ ds) ms ≡ macros ds (macros (d ∷ []) ms)
 unfolding macros
@@ -179,14 +181,15 @@ book-listed s ds e b =
     let h₂ : Here s 2 (wEntries at es all) = rw two at (number-past (length es) h₀) in
     let h₃ : Here s 2 (wEntries at es [] ++ all) = rw (entries-apart at ds all) at h₂ in
     let l : length (wEntries at es []) ≡ 6 * length ds = entries-size at ds in
-    let p : pastAt s 2 (6 * length ds) ≡ 2 + 6 * length ds = rw (← l) (past-is {p = 2} (wEntries at es []) all h₃) in
-    (number-here (length es) (wEntries at es all) h₀ ∙ n,
-    record {
-      behind = all;
-      entries = rw (two, p, ← n) h₂;
-      bodies = rw (← l) (past-here (wEntries at es []) h₃);
-      deep = b .deep;
-    })
+    let p : pastAt s 2 (6 * length ds) ≡ 2 + 6 * length ds = rw (← l) (past-is {p = 2} (wEntries at es []) all h₃) in (
+      number-here (length es) (wEntries at es all) h₀ ∙ n,
+      record {
+        behind = all;
+        entries = rw (two, p, ← n) h₂;
+        bodies = rw (← l) (past-here (wEntries at es []) h₃);
+        deep = b .deep;
+      },
+    )
 
 pub tabled : {s pl hs pl′ hs′ : List ℕ} {r left entry at : ℕ} → left ≡ numberAt s 0 → entry ≡ pastAt s 0 2 → at ≡ pastAt s 2 (6 * left) → Tabling s pl hs 0 entry at left pl′ hs′ r → Tabled s pl hs pl′ hs′ r
 unfolding sizeBook

@@ -1,7 +1,7 @@
 // The calls of a combinator, one after the other: the bytes between are copied, and a known macro's call is expanded.
 use crate::call::expand_call;
-use crate::table::find_macro;
 use crate::table::Found;
+use crate::table::find_macro;
 use lookup::name_at;
 use seek::byte;
 use seek::past;
@@ -9,7 +9,14 @@ use writer::put_part;
 ghost use Rattle.macros.specs.Expand.{MacroOf, Expanding};
 
 // The macro that is called at a place.
-fn macro_of(book: &[u8], call: usize, macros: &[u8], places: &[u16], hashes: &[u16], rows: usize) -> Found
+fn macro_of(
+    book: &[u8],
+    call: usize,
+    macros: &[u8],
+    places: &[u16],
+    hashes: &[u16],
+    rows: usize,
+) -> Found
     ensures { λ r. ⌜ MacroOf (now (book .entry)) call (now (macros .entry)) (now (places .entry)) (now (hashes .entry)) rows r ⌝ }
 {
     let tag = byte(book, call);

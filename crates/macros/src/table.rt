@@ -27,7 +27,14 @@ fn name_hash(name: &[u8]) -> u16
 }
 
 // Whether a row's name is this one, whose hash is given.
-fn same_row(name: &[u8], hash: u16, macros: &[u8], places: &[u16], hashes: &[u16], i: usize) -> Found
+fn same_row(
+    name: &[u8],
+    hash: u16,
+    macros: &[u8],
+    places: &[u16],
+    hashes: &[u16],
+    i: usize,
+) -> Found
     ensures { λ r. ⌜ SameRow (now (name .entry)) hash (now (macros .entry)) (now (places .entry)) (now (hashes .entry)) i r ⌝ }
 {
     if places.len() <= i {
@@ -67,7 +74,14 @@ pub fn find_macro(name: &[u8], macros: &[u8], places: &[u16], hashes: &[u16], n:
 }
 
 // The definition at a place gets row n if it is a macro; the number of rows then.
-fn take_macro(macros: &[u8], kind: u8, at: usize, places: &mut [u16], hashes: &mut [u16], n: usize) -> usize
+fn take_macro(
+    macros: &[u8],
+    kind: u8,
+    at: usize,
+    places: &mut [u16],
+    hashes: &mut [u16],
+    n: usize,
+) -> usize
     ensures { λ r. ⌜ Taken (now (macros .entry)) kind at (now (places .entry)) (now (hashes .entry)) n (now (places .exit)) (now (hashes .exit)) r ⌝ }
 {
     if kind != 4 {
