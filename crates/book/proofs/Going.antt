@@ -1,0 +1,149 @@
+-- The bodies in order.
+use mathlib.Core.Path.{_≡_, refl, ap, sym, _∙_, subst}
+use mathlib.Core.List.{List, [], _∷_, _++_}
+use mathlib.Core.Bool.{Bool, true, false}
+use Prim.Native.Nat.{ℕ, zero, suc, _+_, _-_, _*_, _≤_, _<_}
+use native.Mathlib.Nat.{add-sub-cancel-left, add-zero}
+use native.Mathlib.Omega.{arith}
+use borrow.Author.Tests.{le-leb}
+use lib.ListN.{length, take, drop, length-drop, length-append, getD}
+use Rattle.definition.specs.Code.{Code, number, not-a-book}
+use Rattle.definition.specs.Res.{Maybe, absent, just, Res, bad, ok, _>>=_}
+use Rattle.definition.specs.Tree.{Entry, Definition}
+use Rattle.definition.specs.Read.{part, known, kinds, definition}
+use Rattle.definition.specs.Contents.{entries, contents, cut, whole, atEnd, within, bodies, book, Body}
+use Rattle.cursor.specs.declared.Fault.{Fault}
+use Rattle.cursor.proofs.Lists.{part-at}
+use Rattle.reader.specs.Verdict.{verdict, ofKind, bodyVerdict}
+use Rattle.reader.specs.declared.Verdict.{Verdict}
+use Rattle.reader.specs.declared.Verdict.the-variants.{Sound, Unsound}
+use Rattle.book.specs.Table.{total, Holds}
+use Rattle.book.proofs.Entries.{Opened, opened, sizeAt}
+use Rattle.book.proofs.Rows.{First, first-of, none-of, cut-fits, no-value}
+
+-- the bodies of entries, of which the first starts at `at`
+unfoldable pub bodiesAt : List ℕ → ℕ → List Entry → Res (List ℕ) (List Definition)
+bodiesAt s at es = do
+  (bs, z) ← cut es (drop at s)
+  bodies bs
+
+sound-never : (f : Fault) → Unsound f ≡ Sound → ⊥
+sound-never f e = let z : _≡_ {A = ℕ} 0 1 = cc in omega arith
+
+-- what a verdict on one body says of all from there on
+module _ {A B C : Type 0} (s : List ℕ) (end : ℕ) (h : end ≤ length s) (m : Res (List ℕ) B) (g : A → B → C) where
+  unfoldable rest : Res (List ℕ) A → Res (List ℕ) C
+  rest d = within (drop end s) d >>= λ y. m >>= λ z. ok (g (y .0) (z .0)) []
+
+  made-verdict : (a : A) → verdict (length s) (m >>= λ z. ok (g a (z .0)) []) ≡ verdict (length s) m
+  unfolding verdict
+  made-verdict a = elim m as (λ x. verdict (length s) (x >>= λ z. ok (g a (z .0)) []) ≡ verdict (length s) x) [ bad k r ↦ refl | ok b r ↦ refl ]
+
+  place : (r : List ℕ) → length s - length (r ++ drop end s) ≡ end - length r
+  place r = simp (length-append, length-drop) (omega arith)
+
+  one-bad : (d : Res (List ℕ) A) (f : Fault) → Unsound f ≡ verdict end d → Unsound f ≡ verdict (length s) (rest d)
+  unfolding verdict within rest
+  one-bad (bad k r) f e = e ∙ rw (place r)
+  one-bad (ok a r) f e = absurd (sound-never f e)
+
+  one-sound : (d : Res (List ℕ) A) → Sound ≡ verdict end d → verdict (length s) (rest d) ≡ verdict (length s) m
+  unfolding verdict within rest
+  one-sound (bad k r) e = absurd (sound-never _ (sym e))
+  one-sound (ok a r) e = made-verdict a
+
+-- one body and the others
+module _ (s : List ℕ) (at : ℕ) (e : Entry) (es : List Entry) (h : at + e .size + total es ≤ length s) where
+  abbrev own : Res (List ℕ) Definition
+  own = whole (definition (e .kind) (take (at + e .size - at) (drop at s)))
+
+  split : bodiesAt s at (e ∷ es) ≡ (within (drop (at + e .size) s) own >>= λ y. bodiesAt s (at + e .size) es >>= λ z. ok (y .0 ∷ z .0) [])
+  unfolding bodiesAt cut bodies
+  split =
+      let u = cut-fits s 0 es (at + e .size) h in
+      rw (part-at s at (e .size) (omega arith), u .1)
+
+  judged : (b : ℕ) → getD kinds b absent ≡ just (e .kind) → bodyVerdict b at (at + e .size) s ≡ verdict (at + e .size) own
+  unfolding bodyVerdict ofKind known
+  judged b k = rw (le-leb (at + e .size) (length s) (omega arith), le-leb at (at + e .size) (omega arith), k)
+
+  pub first-bad : (b : ℕ) (f : Fault) → getD kinds b absent ≡ just (e .kind) → Unsound f ≡ bodyVerdict b at (at + e .size) s → Unsound f ≡ verdict (length s) (bodiesAt s at (e ∷ es))
+  unfolding rest
+  first-bad b f k w = rw split (one-bad s (at + e .size) (omega arith) (bodiesAt s (at + e .size) es) (λ x xs. x ∷ xs) own f (w ∙ judged b k))
+
+  pub first-sound : (b : ℕ) → getD kinds b absent ≡ just (e .kind) → Sound ≡ bodyVerdict b at (at + e .size) s → verdict (length s) (bodiesAt s at (e ∷ es)) ≡ verdict (length s) (bodiesAt s (at + e .size) es)
+  unfolding rest
+  first-sound b k w = rw split (one-sound s (at + e .size) (omega arith) (bodiesAt s (at + e .size) es) (λ x xs. x ∷ xs) own (w ∙ judged b k))
+
+whole-open : {A : Type 0} (m : Res (List ℕ) A) (a : A) (r : List ℕ) → whole m ≡ ok a r → (z : List ℕ) × (m ≡ ok a z)
+unfolding whole atEnd
+whole-open (bad k x) a r e = absurd (no-value k x r a e)
+whole-open (ok b []) a r e = let v : b ≡ a = cc in ([], rw v)
+whole-open (ok b (x ∷ l)) a r e = absurd (no-value not-a-book (x ∷ l) r a e)
+
+-- the loop's invariant: the entries that are left, and that the verdict on their bodies is the book's
+pub record Going (s : List ℕ) (more left want here : ℕ) : Type 0 where
+  pub rows : List Entry
+  pub after : List ℕ
+  pub reads : entries (6 + more) (length s) left want (drop here s) ≡ ok rows after
+  pub full : want + total rows ≡ length s
+  pub goes : (v : Verdict) → v ≡ verdict (length s) (bodiesAt s want rows) → v ≡ verdict (length s) (book (6 + more) s)
+
+pub begin : (s : List ℕ) (more n : ℕ) → Holds s (6 + more) n → Going s more n (2 + (6 + more) * n) 2
+unfolding book contents bodiesAt
+begin s more n h =
+    let o = whole-open (cut (h .rows) (drop (2 + (6 + more) * n) s)) (h .bodies) [] (h .cuts) in
+    record {
+      rows = h .rows;
+      after = drop (2 + (6 + more) * n) s;
+      reads = h .reads;
+      full = h .full;
+      goes = λ v e. e ∙ rw (h .counted, h .reads, h .cuts, o .1)
+    }
+
+module _ (s : List ℕ) (more left want here : ℕ) (g : Going s more left want here) where
+  pub go-end : left ≤ 0 → Sound ≡ verdict (length s) (book (6 + more) s)
+  unfolding bodiesAt cut bodies verdict
+  go-end h = g .goes Sound (rw (← (none-of (6 + more) (length s) left want (drop here s) (g .rows) (g .after) h (g .reads))))
+
+  module _ (h : 0 < left) where
+    first : First (6 + more) (length s) (left - 1) want (drop here s) (g .rows) (g .after)
+    first = first-of (6 + more) (length s) left want (drop here s) (g .rows) (g .after) h (g .reads)
+
+    taken : Opened s here want more (first .first) (first .later)
+    taken = opened s here want more (first .first) (first .later) (first .reads)
+
+    pub room : here + (6 + more) ≤ length s
+    room = taken .room
+
+    pub in-book : want + sizeAt s here ≤ length s
+    in-book = rw (← (taken .sized)) (taken .fits)
+
+    ends : want + first .first .size + total (first .others) ≡ length s
+    unfolding total
+    ends = let e = g .full in let w = first .both in omega (arith, rw (← w) at e)
+
+    pub go-bad : (t : ℕ) (f : Fault) → t ≡ sizeAt s here → Unsound f ≡ bodyVerdict (getD s here 0) want (want + t) s → Unsound f ≡ verdict (length s) (book (6 + more) s)
+    go-bad t f e w =
+        let o = taken in
+        let d = first in
+        let i = ends in
+        g .goes (Unsound f) (rw (← (d .both)) (first-bad s want (d .first) (d .others) (omega arith) (getD s here 0) f (o .kinded) (rw (e, ← (o .sized)) at w)))
+
+    pub go-on : (t w : ℕ) → t ≡ sizeAt s here → w ≡ 6 + more → Sound ≡ bodyVerdict (getD s here 0) want (want + t) s → Going s more (left - 1) (want + t) (here + w)
+    go-on t w e q v =
+        let o = taken in
+        let d = first in
+        let i = ends in
+        let y : Sound ≡ bodyVerdict (getD s here 0) want (want + d .first .size) s = rw (e, ← (o .sized)) at v in
+        rw (e, ← (o .sized), q)
+        (record {
+          rows = d .others;
+          after = g .after;
+          reads = rw (o .rest) at (d .then);
+          full = i;
+          goes = λ x u. g .goes x (rw (← (d .both)) (u ∙ sym (first-sound s want (d .first) (d .others) (omega arith) (getD s here 0) (o .kinded) y)))
+        })
+
+pub start-going : (s : List ℕ) (more w n : ℕ) → w ≡ more → Holds s (6 + more) n → Going s more n (2 + (6 + w) * n) 2
+start-going s more w n e h = rw e (begin s more n h)

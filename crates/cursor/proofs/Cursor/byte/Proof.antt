@@ -1,0 +1,21 @@
+use Rattle.cursor.proofs.Laws.{number-laws}
+use borrow.Author.Needs.{needs}
+use Rattle.cursor.proofs.Cursor.byte.Statement.{statement}
+use Rattle.cursor.proofs.Cursor.byte.Tie as tie
+use Rattle.cursor.proofs.Cursor.byte.Reads as reads
+use Rattle.cursor.proofs.Cursor.byte.Lts as lts
+
+returns : tie.Need-returns
+returns c = search number-laws
+
+shared-slice-read-t8 : tie.Need-shared-slice-read-t8
+shared-slice-read-t8 c = search needs
+
+add-t4 : tie.Need-add-t4
+add-t4 c = search needs
+
+returns-2 : tie.Need-returns-2
+returns-2 c = search number-laws
+
+pub byte-spec : {M : Type 1} → statement M
+byte-spec = tie.close (tie.spec returns shared-slice-read-t8 add-t4 returns-2)

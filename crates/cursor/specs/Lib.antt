@@ -1,0 +1,3 @@
+pub mod Ranges
+pub mod Item
+pub mod Ends

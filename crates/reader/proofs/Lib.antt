@@ -1,0 +1,5 @@
+pub mod Bind
+pub mod Table
+pub mod Rows
+pub mod Laws
+pub mod Judge

@@ -1,0 +1,27 @@
+use Rattle.definition.specs.Read.{label, name, text}
+use Rattle.reader.specs.Rows.{caseKindOf}
+use Rattle.reader.proofs.Bind.{walked}
+use Rattle.reader.proofs.Table.{case-text}
+use borrow.Author.Needs.{needs}
+use Rattle.reader.proofs.label.Statement.{statement}
+use Rattle.reader.proofs.label.Tie as tie
+use Rattle.reader.proofs.label.Reads as reads
+use Rattle.reader.proofs.label.Lts as lts
+use Rattle.cursor.proofs.Cursor.name.Reads as name-reads
+use Rattle.cursor.proofs.Cursor.text.Reads as text-reads
+
+name-requires : tie.Need-name-requires
+name-requires c κs = search needs
+
+returns : tie.Need-returns
+unfolding label caseKindOf name
+returns c = rw (c .before .if1 .taken) (walked (c .name .ensures))
+
+text-requires : tie.Need-text-requires
+text-requires c κs = search needs
+
+returns-2 : tie.Need-returns-2
+returns-2 c = rw (case-text _ _ (c .before .if1 .left)) (walked (c .text .ensures))
+
+pub label-spec : {M : Type 1} → statement M
+label-spec = tie.close (tie.spec name-requires returns text-requires returns-2)

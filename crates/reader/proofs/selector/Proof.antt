@@ -1,0 +1,45 @@
+use mathlib.Core.Path.{ap}
+use Rattle.definition.specs.Read.{name}
+use Rattle.cursor.specs.Ends.{ofByte}
+use Rattle.reader.proofs.Bind.{walked}
+use Rattle.reader.proofs.Laws.{no-selector, unselected, selected}
+use borrow.Author.Needs.{needs}
+use Rattle.reader.proofs.selector.Statement.{statement}
+use Rattle.reader.proofs.selector.Tie as tie
+use Rattle.reader.proofs.selector.Reads as reads
+use Rattle.reader.proofs.selector.Lts as lts
+use Rattle.cursor.proofs.Cursor.among.Reads as among-reads
+use Rattle.cursor.proofs.Cursor.name.Reads as name-reads
+
+among-requires : tie.Need-among-requires
+among-requires c κs = search needs
+
+enum-known-f : tie.Need-enum-known-f
+enum-known-f c = search needs
+
+enum-known-flag : tie.Need-enum-known-flag
+enum-known-flag c = search needs
+
+returns : tie.Need-returns
+returns c = unselected (c .before .before .before .before .among .ensures) (ap ofByte (c .before .before .flag .given .1)) (c .if1 .taken)
+
+name-requires : tie.Need-name-requires
+name-requires c κs = search needs
+
+returns-2 : tie.Need-returns-2
+returns-2 c = no-selector (c .before .before .before .among .ensures) (ap ofByte (c .before .f .given .1))
+
+returns-3 : tie.Need-returns-3
+returns-3 c = selected (c .before .before .before .before .before .among .ensures) (ap ofByte (c .before .before .before .flag .given .1)) (c .before .if1 .left) (walked (c .name .ensures))
+
+pub selector-spec : {M : Type 1} → statement M
+selector-spec =
+    tie.close
+    (tie.spec
+    among-requires
+    enum-known-f
+    enum-known-flag
+    returns
+    name-requires
+    returns-2
+    returns-3)

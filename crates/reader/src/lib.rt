@@ -1,0 +1,392 @@
+// Reading a definition book: codes 3, 4 and 5, each with the place of the item at fault. Document 01, "The definition book".
+use cursor::ByteStep;
+use cursor::Cursor;
+use cursor::Fault;
+use cursor::NumberStep;
+use cursor::Walked;
+ghost use mathlib.Core.Path.{_≡_};
+ghost use mathlib.Core.Bool.{true, false};
+ghost use Prim.Native.Nat.{ℕ, _+_};
+ghost use lib.ListN.{length, drop};
+ghost use Rattle.definition.specs.Read.{combinator as combinatorOf, arg, items as itemsOf, fields as fieldsOf, cases as casesOf, inners, namesBy, len, selector as selectorOf, label as labelOf, params as paramsOf, definition as definitionOf, Tag, isStruct, isWrap, isChoice, isArray, isMacroInvocation, isInvocation, Reader};
+ghost use Rattle.definition.specs.Tree.{Combinator, Inner, isFormat, isConstant, isMacro};
+ghost use Rattle.cursor.specs.Ends.{Ends};
+ghost use Rattle.cursor.specs.Item.{tested};
+ghost use Rattle.reader.specs.Rows.{counted, Leads, tagOf, caseKindOf, itemsAt};
+ghost use Rattle.reader.specs.Verdict.{ofKind, bodyVerdict};
+
+// What a judgement says: nothing is wrong, or the first fault.
+pub enum Verdict {
+    Sound,
+    Unsound(Fault),
+}
+
+// A count, and as many names.
+fn names(s: &[u8], c: Cursor, dots: bool) -> Walked
+    ensures { λ r. ⌜ Ends (now (s .entry)) (c .at) r (counted (namesBy (tested dots)) (drop (c .at) (now (s .entry)))) ⌝ }
+{
+    match c.u16(s) {
+        NumberStep::NoNumber(f) => Walked::Refused(f),
+        NumberStep::Number(n, e) => {
+            let mut left = n;
+            let mut here = e;
+            while 0 < left {
+                match here.name(s, dots) {
+                    Walked::Refused(f) => {
+                        return Walked::Refused(f);
+                    }
+                    Walked::Past(d) => {
+                        here = d;
+                    }
+                }
+                left -= 1;
+            }
+            Walked::Past(here)
+        }
+    }
+}
+
+// The selector of a choice: none, or a name.
+fn selector(s: &[u8], c: Cursor) -> Walked
+    ensures { λ r. ⌜ Ends (now (s .entry)) (c .at) r (selectorOf (drop (c .at) (now (s .entry)))) ⌝ }
+{
+    match c.among(s, 0, 1) {
+        ByteStep::NoByte(f) => Walked::Refused(f),
+        ByteStep::Byte(flag, d) => {
+            if flag == 0 {
+                return Walked::Past(d);
+            }
+            d.name(s, true)
+        }
+    }
+}
+
+// What stands before a case's combinator: a label in Enums, else a text.
+fn label(s: &[u8], c: Cursor, kind: u8) -> Walked
+    ensures { λ r. ⌜ Ends (now (s .entry)) (c .at) r (labelOf (caseKindOf kind) (drop (c .at) (now (s .entry)))) ⌝ }
+{
+    if kind == 1 {
+        return c.name(s, false);
+    }
+    c.text(s)
+}
+
+// A length: root names and a text.
+fn length_past(s: &[u8], c: Cursor) -> Walked
+    ensures { λ r. ⌜ Ends (now (s .entry)) (c .at) r (len (drop (c .at) (now (s .entry)))) ⌝ }
+{
+    match names(s, c, false) {
+        Walked::Refused(f) => Walked::Refused(f),
+        Walked::Past(d) => d.text(s),
+    }
+}
+
+// A call: a name and arguments.
+fn invocation(s: &[u8], c: Cursor) -> Walked
+    ensures { λ r. ⌜ ((c′ : Reader Combinator) (a : Reader Inner) → Ends (now (s .entry)) (c .at) r (itemsOf c′ a isInvocation (drop (c .at) (now (s .entry))))) ⌝ }
+{
+    match c.name(s, false) {
+        Walked::Refused(f) => Walked::Refused(f),
+        Walked::Past(d) => names(s, d, true),
+    }
+}
+
+// A combinator, with so many levels left: an inner, and a chain or none.
+pub fn combinator(s: &[u8], c: Cursor, levels: usize) -> Walked
+    ensures { λ r. ⌜ Ends (now (s .entry)) (c .at) r (combinatorOf levels (drop (c .at) (now (s .entry)))) ⌝ }
+{
+    match inner(s, c, levels) {
+        Walked::Refused(f) => Walked::Refused(f),
+        Walked::Past(d) => match d.among(s, 0, 1) {
+            ByteStep::NoByte(f) => Walked::Refused(f),
+            ByteStep::Byte(flag, e) => {
+                if flag == 0 {
+                    return Walked::Past(e);
+                }
+                combinator(s, e, levels - 1)
+            }
+        },
+    }
+}
+
+// A tag and its items: an unknown tag is 3 before its level is tested.
+pub fn inner(s: &[u8], c: Cursor, levels: usize) -> Walked
+    ensures { λ r. ⌜ Ends (now (s .entry)) (c .at) r (arg levels (drop (c .at) (now (s .entry)))) ⌝ }
+{
+    let at = c.at;
+    match c.among(s, 1, 16) {
+        ByteStep::NoByte(f) => Walked::Refused(f),
+        ByteStep::Byte(tag, d) => {
+            if levels == 0 {
+                return Walked::Refused(Fault { code: 5, at: at });
+            }
+            items(s, d, tag, levels - 1)
+        }
+    }
+}
+
+// What stands behind a tag; `levels` are those left for what is inside.
+fn items(s: &[u8], c: Cursor, tag: u8, levels: usize) -> Walked
+    ensures { λ r. ⌜ Ends (now (s .entry)) (c .at) r (itemsAt levels (tagOf tag) (drop (c .at) (now (s .entry)))) ⌝ }
+{
+    match tag {
+        4 => fields(s, c, levels),
+        5 => wrap(s, c, levels),
+        7 => choice(s, c, levels),
+        8 => combinator(s, c, levels),
+        9 => array(s, c, levels),
+        10 => length_past(s, c),
+        12 => combinator(s, c, levels),
+        15 => invocation(s, c),
+        16 => macro_invocation(s, c, levels),
+        _ => c.text(s),
+    }
+}
+
+fn field(s: &[u8], c: Cursor, levels: usize) -> Walked
+    ensures { λ r. ⌜ Leads (now (s .entry)) (c .at) r (fieldsOf (combinatorOf levels)) ⌝ }
+{
+    match c.among(s, 1, 3) {
+        ByteStep::NoByte(f) => Walked::Refused(f),
+        ByteStep::Byte(kind, d) => match d.name(s, false) {
+            Walked::Refused(f) => Walked::Refused(f),
+            Walked::Past(e) => {
+                if kind == 3 {
+                    return e.text(s);
+                }
+                combinator(s, e, levels)
+            }
+        },
+    }
+}
+
+// A struct: a count, and as many fields.
+fn fields(s: &[u8], c: Cursor, levels: usize) -> Walked
+    ensures { λ r. ⌜ Ends (now (s .entry)) (c .at) r (itemsAt levels isStruct (drop (c .at) (now (s .entry)))) ⌝ }
+{
+    match c.u16(s) {
+        NumberStep::NoNumber(f) => Walked::Refused(f),
+        NumberStep::Number(n, e) => {
+            let mut left = n;
+            let mut here = e;
+            while 0 < left {
+                match field(s, here, levels) {
+                    Walked::Refused(f) => {
+                        return Walked::Refused(f);
+                    }
+                    Walked::Past(d) => {
+                        here = d;
+                    }
+                }
+                left -= 1;
+            }
+            Walked::Past(here)
+        }
+    }
+}
+
+fn wrap(s: &[u8], c: Cursor, levels: usize) -> Walked
+    ensures { λ r. ⌜ Ends (now (s .entry)) (c .at) r (itemsAt levels isWrap (drop (c .at) (now (s .entry)))) ⌝ }
+{
+    match c.text(s) {
+        Walked::Refused(f) => Walked::Refused(f),
+        Walked::Past(d) => match combinator(s, d, levels) {
+            Walked::Refused(f) => Walked::Refused(f),
+            Walked::Past(e) => e.text(s),
+        },
+    }
+}
+
+fn case(s: &[u8], c: Cursor, kind: u8, levels: usize) -> Walked
+    ensures { λ r. ⌜ Leads (now (s .entry)) (c .at) r (casesOf (combinatorOf levels) (caseKindOf kind)) ⌝ }
+{
+    match label(s, c, kind) {
+        Walked::Refused(f) => Walked::Refused(f),
+        Walked::Past(d) => combinator(s, d, levels),
+    }
+}
+
+// A count, and as many cases.
+fn cases(s: &[u8], c: Cursor, kind: u8, levels: usize) -> Walked
+    ensures { λ r. ⌜ Ends (now (s .entry)) (c .at) r (counted (casesOf (combinatorOf levels) (caseKindOf kind)) (drop (c .at) (now (s .entry)))) ⌝ }
+{
+    match c.u16(s) {
+        NumberStep::NoNumber(f) => Walked::Refused(f),
+        NumberStep::Number(n, e) => {
+            let mut left = n;
+            let mut here = e;
+            while 0 < left {
+                match case(s, here, kind, levels) {
+                    Walked::Refused(f) => {
+                        return Walked::Refused(f);
+                    }
+                    Walked::Past(d) => {
+                        here = d;
+                    }
+                }
+                left -= 1;
+            }
+            Walked::Past(here)
+        }
+    }
+}
+
+fn choice(s: &[u8], c: Cursor, levels: usize) -> Walked
+    ensures { λ r. ⌜ Ends (now (s .entry)) (c .at) r (itemsAt levels isChoice (drop (c .at) (now (s .entry)))) ⌝ }
+{
+    match selector(s, c) {
+        Walked::Refused(f) => Walked::Refused(f),
+        Walked::Past(d) => match d.among(s, 1, 3) {
+            ByteStep::NoByte(f) => Walked::Refused(f),
+            ByteStep::Byte(kind, e) => cases(s, e, kind, levels),
+        },
+    }
+}
+
+fn array(s: &[u8], c: Cursor, levels: usize) -> Walked
+    ensures { λ r. ⌜ Ends (now (s .entry)) (c .at) r (itemsAt levels isArray (drop (c .at) (now (s .entry)))) ⌝ }
+{
+    match length_past(s, c) {
+        Walked::Refused(f) => Walked::Refused(f),
+        Walked::Past(d) => combinator(s, d, levels),
+    }
+}
+
+// A count, and as many inners.
+fn arguments(s: &[u8], c: Cursor, levels: usize) -> Walked
+    ensures { λ r. ⌜ Ends (now (s .entry)) (c .at) r (counted (inners (arg levels)) (drop (c .at) (now (s .entry)))) ⌝ }
+{
+    match c.u16(s) {
+        NumberStep::NoNumber(f) => Walked::Refused(f),
+        NumberStep::Number(n, e) => {
+            let mut left = n;
+            let mut here = e;
+            while 0 < left {
+                match inner(s, here, levels) {
+                    Walked::Refused(f) => {
+                        return Walked::Refused(f);
+                    }
+                    Walked::Past(d) => {
+                        here = d;
+                    }
+                }
+                left -= 1;
+            }
+            Walked::Past(here)
+        }
+    }
+}
+
+// A macro call: a name and arguments.
+fn macro_invocation(s: &[u8], c: Cursor, levels: usize) -> Walked
+    ensures { λ r. ⌜ Ends (now (s .entry)) (c .at) r (itemsAt levels isMacroInvocation (drop (c .at) (now (s .entry)))) ⌝ }
+{
+    match c.name(s, false) {
+        Walked::Refused(f) => Walked::Refused(f),
+        Walked::Past(d) => arguments(s, d, levels),
+    }
+}
+
+// A parameter of a format: a name and its type.
+fn param(s: &[u8], c: Cursor) -> Walked
+    ensures { λ r. ⌜ Leads (now (s .entry)) (c .at) r paramsOf ⌝ }
+{
+    match c.name(s, false) {
+        Walked::Refused(f) => Walked::Refused(f),
+        Walked::Past(d) => inner(s, d, 64),
+    }
+}
+
+// A count, and as many parameters.
+fn params(s: &[u8], c: Cursor) -> Walked
+    ensures { λ r. ⌜ Ends (now (s .entry)) (c .at) r (counted paramsOf (drop (c .at) (now (s .entry)))) ⌝ }
+{
+    match c.u16(s) {
+        NumberStep::NoNumber(f) => Walked::Refused(f),
+        NumberStep::Number(n, e) => {
+            let mut left = n;
+            let mut here = e;
+            while 0 < left {
+                match param(s, here) {
+                    Walked::Refused(f) => {
+                        return Walked::Refused(f);
+                    }
+                    Walked::Past(d) => {
+                        here = d;
+                    }
+                }
+                left -= 1;
+            }
+            Walked::Past(here)
+        }
+    }
+}
+
+fn format(s: &[u8], c: Cursor) -> Walked
+    ensures { λ r. ⌜ Ends (now (s .entry)) (c .at) r (definitionOf isFormat (drop (c .at) (now (s .entry)))) ⌝ }
+{
+    match c.name(s, false) {
+        Walked::Refused(f) => Walked::Refused(f),
+        Walked::Past(d) => match params(s, d) {
+            Walked::Refused(f) => Walked::Refused(f),
+            Walked::Past(e) => combinator(s, e, 64),
+        },
+    }
+}
+
+fn constant(s: &[u8], c: Cursor) -> Walked
+    ensures { λ r. ⌜ Ends (now (s .entry)) (c .at) r (definitionOf isConstant (drop (c .at) (now (s .entry)))) ⌝ }
+{
+    match c.name(s, false) {
+        Walked::Refused(f) => Walked::Refused(f),
+        Walked::Past(d) => d.text(s),
+    }
+}
+
+fn macro_body(s: &[u8], c: Cursor) -> Walked
+    ensures { λ r. ⌜ Ends (now (s .entry)) (c .at) r (definitionOf isMacro (drop (c .at) (now (s .entry)))) ⌝ }
+{
+    match c.name(s, false) {
+        Walked::Refused(f) => Walked::Refused(f),
+        Walked::Past(d) => match names(s, d, false) {
+            Walked::Refused(f) => Walked::Refused(f),
+            Walked::Past(e) => combinator(s, e, 64),
+        },
+    }
+}
+
+// A definition of a kind, from the cursor on.
+pub fn definition(s: &[u8], c: Cursor, kind: u8) -> Walked
+    ensures { λ r. ⌜ Ends (now (s .entry)) (c .at) r (ofKind kind (drop (c .at) (now (s .entry)))) ⌝ }
+{
+    let at = c.at;
+    match kind {
+        1 => format(s, c),
+        2 => constant(s, c),
+        3 => c.text(s),
+        4 => macro_body(s, c),
+        _ => Walked::Refused(Fault { code: 3, at: at }),
+    }
+}
+
+// One body alone: the bytes from a place up to another, read as a definition of a kind that fills them.
+pub fn body(s: &[u8], kind: u8, from: usize, to: usize) -> Verdict
+    ensures { λ r. ⌜ r ≡ bodyVerdict kind from to (now (s .entry)) ⌝ }
+{
+    if s.len() < to {
+        return Verdict::Unsound(Fault { code: 3, at: from });
+    }
+    if to < from {
+        return Verdict::Unsound(Fault { code: 3, at: from });
+    }
+    match definition(&s[..to], Cursor { at: from }, kind) {
+        Walked::Refused(f) => Verdict::Unsound(f),
+        Walked::Past(c) => {
+            let end = c.at;
+            if end < to {
+                return Verdict::Unsound(Fault { code: 3, at: end });
+            }
+            Verdict::Sound
+        }
+    }
+}
