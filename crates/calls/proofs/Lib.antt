@@ -1,0 +1,4 @@
+pub mod Splits
+pub mod Written
+pub mod Expanded
+pub mod Level

@@ -1,0 +1,31 @@
+use borrow.Author.Tests.{eq-eqb, ne-eqb}
+use Rattle.calls.specs.Walk.{selectorPast}
+use borrow.Author.Needs.{needs}
+use Rattle.calls.proofs.selector_past.Statement.{statement}
+use Rattle.calls.proofs.selector_past.Tie as tie
+use Rattle.calls.proofs.selector_past.Reads as reads
+use Rattle.calls.proofs.selector_past.Lts as lts
+use Rattle.seek.proofs.byte.Reads as byte-reads
+use Rattle.seek.proofs.name_past.Reads as name-past-reads
+use Rattle.seek.proofs.past.Reads as past-reads
+
+byte-requires : tie.Need-byte-requires
+byte-requires c κs = search needs
+
+past-requires : tie.Need-past-requires
+past-requires c κs = search needs
+
+name-past-requires : tie.Need-name-past-requires
+name-past-requires c κs = search needs
+
+returns : tie.Need-returns
+unfolding selectorPast
+returns c = rw (← (c .before .before .before .byte .ensures), ← (c .before .before .past .ensures), eq-eqb _ _ (c .before .if1 .taken)) (c .name-past .ensures)
+
+returns-2 : tie.Need-returns-2
+unfolding selectorPast
+returns-2 c = rw (← (c .before .before .byte .ensures), ← (c .before .past .ensures), ne-eqb _ _ (c .if1 .left))
+
+pub selector-past-spec : {M : Type 1} → statement M
+selector-past-spec =
+    tie.close (tie.spec byte-requires past-requires name-past-requires returns returns-2)

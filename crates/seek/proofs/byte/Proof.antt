@@ -1,0 +1,21 @@
+use mathlib.Core.Path.{refl}
+use Rattle.seek.specs.At.{byteAt}
+use Rattle.seek.proofs.Laws.{byte-out}
+use borrow.Author.Needs.{needs}
+use Rattle.seek.proofs.byte.Statement.{statement}
+use Rattle.seek.proofs.byte.Tie as tie
+use Rattle.seek.proofs.byte.Reads as reads
+use Rattle.seek.proofs.byte.Lts as lts
+
+shared-slice-read-result : tie.Need-shared-slice-read-result
+shared-slice-read-result c = search needs
+
+returns : tie.Need-returns
+unfolding byteAt
+returns c = refl
+
+returns-2 : tie.Need-returns-2
+returns-2 c = byte-out _ _ (c .if1 .left)
+
+pub byte-spec : {M : Type 1} → statement M
+byte-spec = tie.close (tie.spec shared-slice-read-result returns returns-2)

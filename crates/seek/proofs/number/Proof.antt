@@ -1,0 +1,46 @@
+use Rattle.seek.specs.At.{numberAt}
+use borrow.Author.Needs.{needs}
+use Rattle.seek.proofs.number.Statement.{statement}
+use Rattle.seek.proofs.number.Tie as tie
+use Rattle.seek.proofs.number.Reads as reads
+use Rattle.seek.proofs.number.Lts as lts
+use Rattle.seek.proofs.byte.Reads as byte-reads
+use Rattle.seek.proofs.past.Reads as past-reads
+
+byte-requires : tie.Need-byte-requires
+byte-requires c κs = search needs
+
+cast-low : tie.Need-cast-low
+cast-low c = search needs
+
+past-requires : tie.Need-past-requires
+past-requires c κs = search needs
+
+byte-requires-2 : tie.Need-byte-requires-2
+byte-requires-2 c κs = search needs
+
+cast-high : tie.Need-cast-high
+cast-high c = search needs
+
+mul-result : tie.Need-mul-result
+mul-result c = search needs
+
+add-result : tie.Need-add-result
+add-result c = search needs
+
+returns : tie.Need-returns
+unfolding numberAt
+returns c = rw (← (c .before .before .byte .ensures), ← (c .before .past .ensures), ← (c .byte2 .ensures))
+
+pub number-spec : {M : Type 1} → statement M
+number-spec =
+    tie.close
+    (tie.spec
+    byte-requires
+    cast-low
+    past-requires
+    byte-requires-2
+    cast-high
+    mul-result
+    add-result
+    returns)

@@ -1,0 +1,28 @@
+use native.Mathlib.Omega.{arith}
+use Rattle.seek.specs.At.{pastAt}
+use borrow.Author.Needs.{needs}
+use Rattle.seek.proofs.past.Statement.{statement}
+use Rattle.seek.proofs.past.Tie as tie
+use Rattle.seek.proofs.past.Reads as reads
+use Rattle.seek.proofs.past.Lts as lts
+
+returns : tie.Need-returns
+unfolding pastAt
+returns c = omega arith
+
+sub-if2 : tie.Need-sub-if2
+sub-if2 c = search needs
+
+returns-2 : tie.Need-returns-2
+unfolding pastAt
+returns-2 c = omega arith
+
+add-result : tie.Need-add-result
+add-result c = search needs
+
+returns-3 : tie.Need-returns-3
+unfolding pastAt
+returns-3 c = omega arith
+
+pub past-spec : {M : Type 1} → statement M
+past-spec = tie.close (tie.spec returns sub-if2 returns-2 add-result returns-3)
