@@ -1,0 +1,81 @@
+-- Going over a range from left to right.
+use mathlib.Core.Path.{_≡_, refl, sym, ap, _∙_}
+use mathlib.Core.List.{List, [], _∷_, _++_}
+use Prim.Native.Nat.{ℕ, zero, suc, _+_, _-_, _≤_, _<_}
+use native.Mathlib.Omega.{arith}
+use lib.ListN.{length, drop, getD}
+use Rattle.definition.specs.Res.{absent, just}
+use Rattle.definition.specs.Write.{wCombinator}
+use Rattle.lifting.specs.Records.{Record, find, call}
+use Rattle.lifting.specs.Calls.{placed, going, withCalls}
+
+module _ (s : List ℕ) (rs : List Record) where
+  -- leaving out a number of places is going on after them
+  skips : (k n at : ℕ) → going s rs (n + k) at k ≡ going s rs n (at + k) 0
+  unfolding going
+  skips zero n at = let e : n + 0 ≡ n = omega arith in let f : at + 0 ≡ at = omega arith in rw (e, f)
+  skips (suc k) n at =
+      let e : n + suc k ≡ suc (n + k) = omega arith in
+      let f : at + suc k ≡ suc at + k = omega arith in
+      rw (e, f) (skips k n (suc at))
+
+  pub calls-end : (to : ℕ) → withCalls s rs to to ≡ []
+  unfolding withCalls going
+  calls-end to = let e : to - to ≡ 0 = omega arith in rw e
+
+  pub calls-copy : (from to : ℕ) → from < to → find rs from ≡ absent → withCalls s rs from to ≡ getD s from 0 ∷ withCalls s rs (suc from) to
+  unfolding withCalls going placed
+  calls-copy from to p e = let n : to - from ≡ suc (to - suc from) = omega arith in rw (n, e)
+
+  pub calls-call : (from to : ℕ) (r : Record) → find rs from ≡ just r → from < r .end → r .end ≤ to → withCalls s rs from to ≡ wCombinator (call r) (withCalls s rs (r .end) to)
+  unfolding withCalls going placed
+  calls-call from to r e p q =
+      let n : to - from ≡ suc ((to - r .end) + (r .end - suc from)) = omega arith in
+      let m : suc from + (r .end - suc from) ≡ r .end = omega arith in
+      rw (n, e, skips (r .end - suc from) (to - r .end) (suc from), m)
+
+  -- what stands from a place on, up to `to`, is r
+  pub record Goes (to from : ℕ) (r : List ℕ) : Type 0 where
+    pub before : from ≤ to
+    pub is : withCalls s rs from to ≡ r
+
+  pub ends : (to : ℕ) → Goes to to []
+  ends to = record { before = omega arith; is = calls-end to }
+
+  pub copies : {to from : ℕ} {r : List ℕ} (b : ℕ) → find rs from ≡ absent → getD s from 0 ≡ b → Goes to (suc from) r → Goes to from (b ∷ r)
+  copies {to} {from} b e f g = record { before = let h = g .before in omega arith; is = calls-copy from to (let h = g .before in omega arith) e ∙ (rw (f, g .is)) }
+
+  pub calls : {to from : ℕ} {r : List ℕ} (k : Record) → find rs from ≡ just k → from < k .end → Goes to (k .end) r → Goes to from (wCombinator (call k) r)
+  calls {to} {from} k e p g = record { before = let h = g .before in omega arith; is = calls-call from to k e p (g .before) ∙ ap (wCombinator (call k)) (g .is) }
+
+  -- the same from the second place on: at the first place of a body nothing is looked up
+  pub record Opens (to from : ℕ) (r : List ℕ) : Type 0 where
+    pub before : from < to
+    pub is : r ≡ getD s from 0 ∷ withCalls s rs (suc from) to
+
+  pub opened : {to from : ℕ} {r : List ℕ} (b : ℕ) → getD s from 0 ≡ b → Goes to (suc from) r → Opens to from (b ∷ r)
+  opened {to} {from} b f g = record { before = let h = g .before in omega arith; is = rw (f, g .is) }
+
+  pub goes-on : {to from : ℕ} {r : List ℕ} → find rs from ≡ absent → Opens to from r → Goes to from r
+  goes-on {to} {from} e o = record { before = let h = o .before in omega arith; is = calls-copy from to (o .before) e ∙ sym (o .is) }
+
+  -- bytes that stand at a place
+  pub first-byte : (p : ℕ) (l : List ℕ) (b : ℕ) (z : List ℕ) → drop p l ≡ b ∷ z → (getD l p 0 ≡ b) × (drop (suc p) l ≡ z)
+  first-byte zero (x ∷ l) b z e = (cc, cc)
+  first-byte (suc p) (x ∷ l) b z e = first-byte p l b z e
+  first-byte zero [] b z e = let h : _≡_ {A = ℕ} 0 1 = cc in absurd (omega arith)
+  first-byte (suc p) [] b z e = let h : _≡_ {A = ℕ} 0 1 = cc in absurd (omega arith)
+
+  pub raw-goes : {to : ℕ} {r : List ℕ} (l : List ℕ) (p : ℕ) (z : List ℕ) → drop p s ≡ l ++ z → ((x : ℕ) → p ≤ x → x < p + length l → find rs x ≡ absent) → Goes to (p + length l) r → Goes to p (l ++ r)
+  raw-goes {to} [] p z e h g = let f : p + 0 ≡ p = omega arith in rw f at g
+  raw-goes {to} (b ∷ l) p z e h g =
+      let w = first-byte p s b (l ++ z) e in
+      let f : p + suc (length l) ≡ suc p + length l = omega arith in
+      copies b (h p (omega arith) (omega arith)) (w .0) (raw-goes l (suc p) z (w .1) (λ x a c. h x (omega arith) (omega arith)) (rw f at g))
+
+  pub raw-opens : {to : ℕ} {r : List ℕ} (l : List ℕ) (p : ℕ) (z : List ℕ) → 0 < length l → drop p s ≡ l ++ z → ((x : ℕ) → suc p ≤ x → x < p + length l → find rs x ≡ absent) → Goes to (p + length l) r → Opens to p (l ++ r)
+  raw-opens [] p z n e h g = absurd (omega arith)
+  raw-opens (b ∷ l) p z n e h g =
+      let w = first-byte p s b (l ++ z) e in
+      let f : p + suc (length l) ≡ suc p + length l = omega arith in
+      opened b (w .0) (raw-goes l (suc p) z (w .1) (λ x a c. h x (omega arith) (omega arith)) (rw f at g))

@@ -1,0 +1,4 @@
+pub mod Records
+pub mod After
+pub mod Trace
+pub mod Calls
