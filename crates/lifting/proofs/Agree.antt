@@ -1,6 +1,6 @@
 -- The walk that makes records says the same as the definition's walk: the same refusals, and bodies and definitions by the records.
 use mathlib.Core.Path.{_≡_, refl, sym, ap, _∙_}
-use mathlib.Core.Logic.{_⊎_, inl, inr}
+use mathlib.Core.Logic.{inl, inr}
 use mathlib.Core.Bool.{Bool, true, false, cond, not, _&&_}
 use mathlib.Core.List.{List, [], _∷_, _++_, map, append-assoc, append-nil, map-append}
 use Prim.Native.Nat.{ℕ, suc, _+_, _-_, _≤_}
@@ -8,22 +8,20 @@ use native.Mathlib.Omega.{arith}
 use lib.Dec.{leb}
 use borrow.Author.Tests.{leb-true}
 use lib.ListN.{length}
-use Rattle.definition.specs.Code.{Code}
-use Rattle.definition.specs.Res.{Maybe, absent, just, Res, bad, ok, _>>=_, require}
-use Rattle.definition.specs.Tree.{Name, CaseKind, FieldKind, ordinary, dependent, Combinator, plain, chained, Inner, leaf, struct, choice, shell, bytes, invocation, macro-invocation, Fields, no-field, field, const, Cases, no-case, case, Param, Definition, format, constant, byte-order, macro}
+use Rattle.definition.specs.Res.{Maybe, absent, just, ok, _>>=_}
+use Rattle.definition.specs.Tree.{Name, CaseKind, FieldKind, ordinary, dependent, Combinator, plain, chained, Inner, leaf, struct, choice, shell, bytes, invocation, macro-invocation, Fields, no-field, field, const, Cases, no-case, case, Param, format}
 use Rattle.definition.specs.Names.{eqName, sorted, segment, child, caseSegment, shellSegment, fresh}
 use Rattle.definition.specs.Write.{sizeOf}
 use Rattle.definition.specs.Size.{size}
-use Rattle.definition.specs.Macros.{innerOf}
 use Rattle.definition.specs.Collect.{anonymous, free, leftover}
-use Rattle.definition.specs.Lift.{full, State, Walk, binder, bound, typed, take, grow, measured, append, lift, childBy, bind, walk, walkI, walkF, walkC, walkAll}
+use Rattle.definition.specs.Lift.{full, State, Walk, binder, bound, typed, take, grow, measured, append, lift, childBy, bind, walk, walkI, walkF, walkC}
 use Rattle.laws.proofs.Sizes.{head, size-format}
-use Rattle.lifting.specs.Records.{Ref, own, passed, Record, find, call}
-use Rattle.lifting.specs.After.{chainAt, fieldsAt, casesAt, shellAt, fieldAt, constEnd, caseAt, replaced, out, outI, outF, outC, Lift, itself, lifts, liftsI, liftsF, liftsC, typeOf, paramsOf, madeBy, definitionOf}
-use Rattle.lifting.specs.Trace.{Trace, Binder, first, refOf, refs, enter, finish, fits, bindRef, Tracing, lifting, traceBy, trace, traceI, traceF, traceC}
+use Rattle.lifting.specs.Records.{Ref, passed, Record, find, call}
+use Rattle.lifting.specs.After.{chainAt, fieldsAt, casesAt, shellAt, fieldAt, constEnd, caseAt, replaced, out, outI, outF, outC, Lift, itself, lifts, liftsI, liftsF, liftsC, liftsK, typeOf, paramsOf, madeBy, definitionOf, Stands, AllFound}
+use Rattle.lifting.specs.Trace.{Trace, treeHead, Binder, first, refOf, refs, enter, finish, fits, bindRef, Tracing, lifting, traceBy, trace, traceI, traceF, traceC}
 use Rattle.lifting.proofs.Both.{Both, refusals, values, then, first-then, ask, ask-alike, Still, still}
-use Rattle.lifting.proofs.Found.{Later, later-self, later-one, later-on, find-here, find-other, Stands, stands-left, stands-right, stands-either, Found, AllFound, all-found}
-use Rattle.lifting.proofs.Ranges.{Between, apart, in-range, in-rangeI, in-rangeF, in-rangeC, in-rangeK}
+use Rattle.lifting.proofs.Found.{Later, later-self, later-one, later-on, find-here, find-other, stands-left, stands-right, all-found}
+use Rattle.lifting.proofs.Ranges.{apart, in-range, in-rangeI, in-rangeF, in-rangeC, in-rangeK}
 
 -- the two states tell the same
 pub record Matches (s : State) (t : Trace) : Type 0 where
@@ -153,19 +151,23 @@ module _ (c : Combinator) (p : ℕ) (inside : Walk) (trail : Tracing)
     new-inside : New (lifts c p) (t .records ++ (r ∷ []))
     new-inside = record { new = λ x h. find-other (t .records) r x (λ e. let k = in-range c p .range x h in omega arith) ∙ n .new x (stands-left x (lifts c p) (this ∷ []) h) }
 
+    none-yet : find (t .records) p ≡ absent
+    none-yet = n .new p (stands-right p (lifts c p) (this ∷ []) (inl refl))
+
+    later-made : Later (t .records) (t .records ++ (r ∷ []))
+    later-made = later-one (t .records) r p at none-yet
+
     found-here : (rs : List Record) → Later (t .records ++ (r ∷ [])) rs → find rs p ≡ just r
-    found-here rs l =
-        let e : find (t .records) p ≡ absent = n .new p (stands-right p (lifts c p) (this ∷ []) (inl refl)) in
-        rw (l .grown, append-assoc (t .records) (r ∷ []) (l .more), ← at) (find-here (t .records) r (l .more) (rw at e))
+    found-here rs l = l .keeps p r (find-here (t .records) r p at)
 
     -- what was lifted out of it, and then itself
-    finishes : (ps : List Param) (s₁ : State) (d : Combinator) (u : State) (v : Trace) → s₁ .made ≡ s .made → Did (out c p) (lifts c p) s₁ (enter r t) d u v
+    finishes : (ps : List Param) (s₁ : State) (d : Combinator) (u : State) (v : Trace) → s₁ .made ≡ s .made → Did (out c p) (lifts c p) s₁ (enter treeHead r t) d u v
         → ((rs : List Record) → Later (t .records) rs → ps ≡ paramsOf rs (r .params) (r .types)) → r .end ≡ p + size c → length (r .name) ≤ 255 → r .params ≡ sorted (free c)
         → Did (λ rs. replaced true (out c p rs) (find rs p)) (lifts c p ++ (this ∷ [])) s t (call r) (append (format (r .name) ps d) u) (finish p v)
     unfolding enter finish append replaced definitionOf madeBy
     finishes ps s₁ d u v e g types ends short needed = record {
       same = record { taken = g .same .taken; bytes = g .same .bytes; defns = g .same .defns };
-      later = later-on (later-one (t .records) r) (g .later);
+      later = later-on later-made (g .later);
       only = λ x h. g .only x (λ k. h (stands-left x (lifts c p) (this ∷ []) k)) ∙ find-other (t .records) r x (λ k. h (stands-right x (lifts c p) (this ∷ []) (inl (sym at ∙ k))));
       finished = rw (g .finished, map-append (λ l. l .at) (lifts c p) (this ∷ [])) (append-assoc (t .finished) _ _);
       body = λ rs l. rw (found-here rs (later-on (g .later) l));
@@ -174,7 +176,7 @@ module _ (c : Combinator) (p : ℕ) (inside : Walk) (trail : Tracing)
         e,
         map-append (definitionOf rs) (lifts c p) (this ∷ []),
         found-here rs (later-on (g .later) l),
-        types rs (later-on (later-one (t .records) r) (later-on (g .later) l)),
+        types rs (later-on later-made (later-on (g .later) l)),
         g .body rs l,
       ) (append-assoc (s .made) _ _);
       found = λ rs l. all-found rs (lifts c p) (this ∷ []) (g .found rs l) (record { of = r; found = found-here rs (later-on (g .later) l); begins = at; ends = ends; named = short; needed = needed }, tt);
@@ -189,18 +191,18 @@ module _ (c : Combinator) (p : ℕ) (inside : Walk) (trail : Tracing)
     abbrev grown : State
     grown = grow (format n ps c) (call made) c s
 
-    sum : grown .bytes ≡ (enter made t) .bytes
-    unfolding grow enter
+    sum : grown .bytes ≡ (enter treeHead made t) .bytes
+    unfolding grow enter treeHead
     sum = rw (m .bytes, ← (types (t .records) (later-self (t .records)))) (sum-closed n ps c (call made) (t .bytes))
 
-    count : grown .defns ≡ (enter made t) .defns
+    count : grown .defns ≡ (enter treeHead made t) .defns
     unfolding grow enter
     count = rw (m .defns)
 
-    tests : leb (grown .bytes) 16384 && leb (grown .defns) 512 ≡ leb ((enter made t) .bytes) 16384 && leb ((enter made t) .defns) 512
+    tests : leb (grown .bytes) 16384 && leb (grown .defns) 512 ≡ leb ((enter treeHead made t) .bytes) 16384 && leb ((enter treeHead made t) .defns) 512
     tests = rw (sum, count)
 
-    entered : Matches (take n grown) (enter made t)
+    entered : Matches (take n grown) (enter treeHead made t)
     unfolding take grow enter
     entered = record { taken = ap (n ∷_) (m .taken); bytes = sum; defns = count }
 
@@ -210,16 +212,16 @@ module _ (c : Combinator) (p : ℕ) (inside : Walk) (trail : Tracing)
           (d, s) ← inside n b (take n s)
           ok (call made) (append (format n ps d) s))
         (do
-          (u, t) ← fits (enter made t)
+          (u, t) ← fits (enter treeHead made t)
           (u, t) ← trail n env t
           ok tt (finish p t))
     unfolding measured fits enter take grow
-    measured-both = ask-alike _ _ tests _ grown (enter made t) _ _ (
-        then (ih n b env (take n grown) (enter made t) entered (means-on w (later-one (t .records) made)) (new-inside made refl s t new)) _ _ λ d u x v g.
+    measured-both = ask-alike _ _ tests _ grown (enter treeHead made t) _ _ (
+        then (ih n b env (take n grown) (enter treeHead made t) entered (means-on w (later-made made refl s t new)) (new-inside made refl s t new)) _ _ λ d u x v g.
         values (finishes made refl s t new ps (take n grown) d u v refl g types refl short refl))
 
   lift-both : (base : Name) (b : List Param) (env : List Binder) (s : State) (t : Trace) → Matches s t → Means b env (t .records) → New (lifts c p ++ (this ∷ [])) (t .records)
-      → Both (Makes (λ rs. replaced true (out c p rs) (find rs p)) (lifts c p ++ (this ∷ [])) s t) (lift full c inside base b s) (lifting c p trail base env t)
+      → Both (Makes (λ rs. replaced true (out c p rs) (find rs p)) (lifts c p ++ (this ∷ [])) s t) (lift full c inside base b s) (lifting treeHead c p trail base env t)
   unfolding lift lifting call
   lift-both base b env s t m w new = rw (ap (fresh base) (m .taken)) (
       let n = fresh base (t .taken) in
@@ -228,13 +230,13 @@ module _ (c : Combinator) (p : ℕ) (inside : Walk) (trail : Tracing)
 
   -- a child: "An anonymous child is lifted ..; any other child is walked."
   kid-both : (a : Bool) (base : Name) (b : List Param) (env : List Binder) (s : State) (t : Trace) → Matches s t → Means b env (t .records) → New (lifts c p ++ itself a c p) (t .records)
-      → Both (Makes (λ rs. replaced a (out c p rs) (find rs p)) (lifts c p ++ itself a c p) s t) (childBy full a c inside base b s) (traceBy a c p trail base env t)
+      → Both (Makes (λ rs. replaced a (out c p rs) (find rs p)) (lifts c p ++ itself a c p) s t) (childBy full a c inside base b s) (traceBy treeHead a c p trail base env t)
   unfolding childBy traceBy itself replaced
   kid-both true base b env s t m w new = lift-both base b env s t m w new
   kid-both false base b env s t m w new = rw (append-nil (lifts c p)) (ih base b env s t m w (rw (append-nil (lifts c p)) at new))
 
 -- "A Dependent field binds its label for the fields after it", "types as they stand after lifting, without chain"
-bind-means : (k : FieldKind) (l : Name) (c : Combinator) (p : ℕ) {b : List Param} {env : List Binder} {ls : List Lift} {s u : State} {t v : Trace} {d : Combinator} → Means b env (t .records)
+pub bind-means : (k : FieldKind) (l : Name) (c : Combinator) (p : ℕ) {b : List Param} {env : List Binder} {ls : List Lift} {s u : State} {t v : Trace} {d : Combinator} → Means b env (t .records)
     → Did (λ rs. replaced (anonymous c) (out c p rs) (find rs p)) ls s t d u v → Means (bind k l d b) (bindRef k l c p env) (v .records)
 unfolding bind bindRef typeOf
 bind-means ordinary l c p w g = means-on w (g .later)
@@ -244,39 +246,43 @@ mutual
   unfolding walk trace out lifts
 
   pub walk-both : (c : Combinator) (p : ℕ) (n : Name) (b : List Param) (env : List Binder) (s : State) (t : Trace) → Matches s t → Means b env (t .records) → New (lifts c p) (t .records)
-      → Both (Makes (out c p) (lifts c p) s t) (walk full c n b s) (trace c p n env t)
+      → Both (Makes (out c p) (lifts c p) s t) (walk full c n b s) (trace treeHead c p n env t)
   walk-both (plain i) p n b env s t m w new = first-then (walkI-both i p n b env s t m w new) _ λ j u x v g. values (one plain g)
   walk-both (chained i c) p n b env s t m w new =
-      then (kid-both c (chainAt p i) (λ n b s. walk full c n b s) (λ n e t. trace c (chainAt p i) n e t) (λ n b e s t m w z. walk-both c (chainAt p i) n b e s t m w z) (anonymous c) n b env s t m w (new-left _ _ new)) _ _ λ d u x v g.
+      then (kid-both c (chainAt p i) (λ n b s. walk full c n b s) (λ n e t. trace treeHead c (chainAt p i) n e t) (λ n b e s t m w z. walk-both c (chainAt p i) n b e s t m w z) (anonymous c) n b env s t m w (new-left _ _ new)) _ _ λ d u x v g.
       first-then (walkI-both i p n b env u v (g .same) (means-on w (g .later)) (new-right new g (apart (in-rangeK c (chainAt p i)) (in-rangeI i p) (inr (omega arith))))) _ λ j u y v h.
       values (two (λ d j. chained j d) g h)
 
   walkI-both : (i : Inner) (p : ℕ) (n : Name) (b : List Param) (env : List Binder) (s : State) (t : Trace) → Matches s t → Means b env (t .records) → New (liftsI i p) (t .records)
-      → Both (Makes (outI i p) (liftsI i p) s t) (walkI full i n b s) (traceI i p n env t)
+      → Both (Makes (outI i p) (liftsI i p) s t) (walkI full i n b s) (traceI treeHead i p n env t)
   walkI-both (leaf k x) p n b env s t m w new = values (nothing-made (leaf k x) m)
   walkI-both (struct f) p n b env s t m w new = first-then (walkF-both f (fieldsAt p) n b env s t m w new) _ λ g u x v h. values (one struct h)
   walkI-both (choice x k f) p n b env s t m w new = first-then (walkC-both f k 0 (casesAt p x) n b env s t m w new) _ λ g u y v h. values (one (λ g. choice x k g) h)
   walkI-both (shell x c) p n b env s t m w new =
-      first-then (kid-both c (shellAt p x) (λ n b s. walk full c n b s) (λ n e t. trace c (shellAt p x) n e t) (λ n b e s t m w z. walk-both c (shellAt p x) n b e s t m w z) (anonymous c) (child n (shellSegment x)) b env s t m w new) _ λ d u y v g.
+      first-then (kid-both c (shellAt p x) (λ n b s. walk full c n b s) (λ n e t. trace treeHead c (shellAt p x) n e t) (λ n b e s t m w z. walk-both c (shellAt p x) n b e s t m w z) (anonymous c) (child n (shellSegment x)) b env s t m w new) _ λ d u y v g.
       values (one (λ d. shell x d) g)
   walkI-both (bytes l) p n b env s t m w new = values (nothing-made (bytes l) m)
   walkI-both (invocation l a) p n b env s t m w new = values (nothing-made (invocation l a) m)
   walkI-both (macro-invocation l a) p n b env s t m w new = values (nothing-made (macro-invocation l a) m)
 
   walkF-both : (f : Fields) (p : ℕ) (n : Name) (b : List Param) (env : List Binder) (s : State) (t : Trace) → Matches s t → Means b env (t .records) → New (liftsF f p) (t .records)
-      → Both (Makes (outF f p) (liftsF f p) s t) (walkF full f n b s) (traceF f p n env t)
+      → Both (Makes (outF f p) (liftsF f p) s t) (walkF full f n b s) (traceF treeHead f p n env t)
   walkF-both no-field p n b env s t m w new = values (nothing-made no-field m)
   walkF-both (field k l c f) p n b env s t m w new =
-      then (kid-both c (fieldAt p l) (λ n b s. walk full c n b s) (λ n e t. trace c (fieldAt p l) n e t) (λ n b e s t m w z. walk-both c (fieldAt p l) n b e s t m w z) (anonymous c) (child n (segment l)) b env s t m w (new-left _ _ new)) _ _ λ d u x v g.
+      then (kid-both c (fieldAt p l) (λ n b s. walk full c n b s) (λ n e t. trace treeHead c (fieldAt p l) n e t) (λ n b e s t m w z. walk-both c (fieldAt p l) n b e s t m w z) (anonymous c) (child n (segment l)) b env s t m w (new-left _ _ new)) _ _ λ d u x v g.
       first-then (walkF-both f (fieldAt p l + size c) n (bind k l d b) (bindRef k l c (fieldAt p l) env) u v (g .same) (bind-means k l c (fieldAt p l) w g)
       (new-right new g (apart (in-rangeK c (fieldAt p l)) (in-rangeF f (fieldAt p l + size c)) (inl (omega arith))))) _ λ j u y v h.
       values (two (λ d j. field k l d j) g h)
   walkF-both (const l x f) p n b env s t m w new = first-then (walkF-both f (constEnd p l x) n b env s t m w new) _ λ g u y v h. values (one (λ g. const l x g) h)
 
   walkC-both : (f : Cases) (k : CaseKind) (i p : ℕ) (n : Name) (b : List Param) (env : List Binder) (s : State) (t : Trace) → Matches s t → Means b env (t .records) → New (liftsC f k p) (t .records)
-      → Both (Makes (outC f k p) (liftsC f k p) s t) (walkC full f k i n b s) (traceC f k i p n env t)
+      → Both (Makes (outC f k p) (liftsC f k p) s t) (walkC full f k i n b s) (traceC treeHead f k i p n env t)
   walkC-both no-case k i p n b env s t m w new = values (nothing-made no-case m)
   walkC-both (case l c f) k i p n b env s t m w new =
-      then (kid-both c (caseAt p k l) (λ n b s. walk full c n b s) (λ n e t. trace c (caseAt p k l) n e t) (λ n b e s t m w z. walk-both c (caseAt p k l) n b e s t m w z) (anonymous c) (child n (caseSegment k l i)) b env s t m w (new-left _ _ new)) _ _ λ d u x v g.
+      then (kid-both c (caseAt p k l) (λ n b s. walk full c n b s) (λ n e t. trace treeHead c (caseAt p k l) n e t) (λ n b e s t m w z. walk-both c (caseAt p k l) n b e s t m w z) (anonymous c) (child n (caseSegment k l i)) b env s t m w (new-left _ _ new)) _ _ λ d u x v g.
       first-then (walkC-both f k (suc i) (caseAt p k l + size c) n b env u v (g .same) (means-on w (g .later)) (new-right new g (apart (in-rangeK c (caseAt p k l)) (in-rangeC f k (caseAt p k l + size c)) (inl (omega arith))))) _ λ j u y v h.
       values (two (λ d j. case l d j) g h)
+
+pub child-both : (c : Combinator) (p : ℕ) (n : Name) (b : List Param) (env : List Binder) (s : State) (t : Trace) → Matches s t → Means b env (t .records) → New (liftsK c p) (t .records)
+    → Both (Makes (λ rs. replaced (anonymous c) (out c p rs) (find rs p)) (liftsK c p) s t) (childBy full (anonymous c) c (λ n b s. walk full c n b s) n b s) (traceBy treeHead (anonymous c) c p (λ n e t. trace treeHead c p n e t) n env t)
+child-both c p n b env s t m w new = kid-both c p (λ n b s. walk full c n b s) (λ n e t. trace treeHead c p n e t) (walk-both c p) (anonymous c) n b env s t m w new

@@ -1,26 +1,26 @@
 -- The whole list: `liftBook` and `traceBook` say the same.
 use mathlib.Core.Path.{_≡_, refl, sym, ap, _∙_}
-use mathlib.Core.Logic.{_⊎_, inl, inr}
-use mathlib.Core.List.{List, [], _∷_, _++_, map}
-use Prim.Native.Nat.{ℕ, suc, _+_, _≤_, _<_}
+use mathlib.Core.Logic.{inl}
+use mathlib.Core.List.{List, [], _∷_, map}
+use Prim.Native.Nat.{ℕ, suc, _+_}
 use native.Mathlib.Omega.{arith}
 use lib.ListN.{length, length-append, length-map}
-use Rattle.definition.specs.Res.{absent, Res, bad, ok}
-use Rattle.definition.specs.Size.{sizeBook}
+use Rattle.definition.specs.Res.{Res, ok}
 use Rattle.definition.specs.Answer.{outcome}
-use Rattle.definition.specs.Tree.{Name, Combinator, Param, Definition, format, constant, byte-order, macro}
+use Rattle.definition.specs.Tree.{Param, Definition, format, constant, byte-order, macro}
 use Rattle.definition.specs.Write.{wAll, wDefinition, sizeOf}
 use Rattle.definition.specs.Lift.{full, State, walkAll, start, liftBook}
 use Rattle.laws.proofs.Splits.{s-definition}
 use Rattle.laws.proofs.Sizes.{adds, head, size-format}
 use Rattle.laws.proofs.Measure.{measures}
 use Rattle.lifting.specs.Records.{Record, find}
-use Rattle.lifting.specs.After.{Lift, lifts, typeOf, definitionOf, outAll, liftsAll, firstAt}
-use Rattle.lifting.specs.Trace.{Trace, ownBinders, paramsAt, traceAll, begin, traceBook, traced}
+use Rattle.lifting.specs.After.{typeOf, outD, liftsD, outAll, liftsAll, firstAt}
+use Rattle.lifting.specs.Trace.{Trace, treeHead, ownBinders, paramsAt, traceAll, begin, traceBook, traced}
+use Rattle.lifting.specs.Laws.{Traced}
 use Rattle.lifting.proofs.Both.{Both, refusals, values, then, first-then}
-use Rattle.lifting.proofs.Found.{later-self, Stands, AllFound}
+use Rattle.lifting.proofs.Found.{later-self}
 use Rattle.lifting.proofs.Ranges.{Between, none, wider, both, apart, in-range}
-use Rattle.lifting.proofs.Agree.{Matches, paramOf, Means, means-on, New, Did, Makes, nothing-made, one, two, new-left, new-right, walk-both}
+use Rattle.lifting.proofs.Agree.{Matches, paramOf, Means, New, Makes, nothing-made, one, two, new-left, new-right, walk-both}
 
 -- the bytes of the bodies
 abbrev pub bodies : List Definition → ℕ
@@ -30,18 +30,20 @@ pub bodies-cons : (d : Definition) (ds : List Definition) → bodies (d ∷ ds) 
 unfolding wAll sizeOf
 bodies-cons d ds = adds (wDefinition d) (s-definition d) (wAll wDefinition ds [])
 
+pub in-rangeD : (d : Definition) (p : ℕ) → Between p (p + sizeOf d) (liftsD d p)
+unfolding liftsD
+in-rangeD (format n ps c) p = wider (in-range c (p + head n ps)) (omega arith) (omega (arith, size-format n ps c))
+in-rangeD (constant n x) p = none
+in-rangeD (byte-order x) p = none
+in-rangeD (macro n ps c) p = none
+
 pub in-rangeAll : (ds : List Definition) (p : ℕ) → Between p (p + bodies ds) (liftsAll ds p)
 unfolding liftsAll
 in-rangeAll [] p = none
-in-rangeAll (format n ps c ∷ ds) p = both
-    (wider (in-range c (p + head n ps)) (omega arith) (omega (arith, size-format n ps c, bodies-cons (format n ps c) ds)))
-    (wider (in-rangeAll ds (p + sizeOf (format n ps c))) (omega arith) (omega (arith, bodies-cons (format n ps c) ds)))
-in-rangeAll (constant n x ∷ ds) p = wider (in-rangeAll ds (p + sizeOf (constant n x))) (omega arith) (omega (arith, bodies-cons (constant n x) ds))
-in-rangeAll (byte-order x ∷ ds) p = wider (in-rangeAll ds (p + sizeOf (byte-order x))) (omega arith) (omega (arith, bodies-cons (byte-order x) ds))
-in-rangeAll (macro n ps c ∷ ds) p = wider (in-rangeAll ds (p + sizeOf (macro n ps c))) (omega arith) (omega (arith, bodies-cons (macro n ps c) ds))
+in-rangeAll (d ∷ ds) p = both (wider (in-rangeD d p) (omega arith) (omega (arith, bodies-cons d ds))) (wider (in-rangeAll ds (p + sizeOf d)) (omega arith) (omega (arith, bodies-cons d ds)))
 
 -- the definition's own parameters
-own-means : (ps : List Param) (p : ℕ) (rs : List Record) → Means ps (ownBinders ps p) rs
+pub own-means : (ps : List Param) (p : ℕ) (rs : List Record) → Means ps (ownBinders ps p) rs
 unfolding ownBinders typeOf
 own-means ps p rs = record { meant = λ later l. same later ps p }
   where
@@ -50,8 +52,8 @@ own-means ps p rs = record { meant = λ later l. same later ps p }
     same later (x ∷ ps) p = ap (x ∷_) (same later ps _)
 
 walkAll-both : (ds : List Definition) (p : ℕ) (s : State) (t : Trace) → Matches s t → New (liftsAll ds p) (t .records)
-    → Both (Makes (outAll ds p) (liftsAll ds p) s t) (walkAll full ds s) (traceAll ds p t)
-unfolding walkAll traceAll outAll liftsAll
+    → Both (Makes (outAll ds p) (liftsAll ds p) s t) (walkAll full ds s) (traceAll treeHead ds p t)
+unfolding walkAll traceAll outAll liftsAll outD liftsD
 walkAll-both [] p s t m new = values (nothing-made [] m)
 walkAll-both (format n ps c ∷ ds) p s t m new =
     then (walk-both c (p + head n ps) n ps (ownBinders ps (paramsAt p n)) s t m (own-means ps (paramsAt p n) (t .records)) (new-left _ _ new)) _ _ λ d u x v g.
@@ -61,12 +63,12 @@ walkAll-both (constant n x ∷ ds) p s t m new = first-then (walkAll-both ds (p 
 walkAll-both (byte-order x ∷ ds) p s t m new = first-then (walkAll-both ds (p + sizeOf (byte-order x)) s t m new) _ λ es u y v h. values (one (byte-order x ∷_) h)
 walkAll-both (macro n ps c ∷ ds) p s t m new = first-then (walkAll-both ds (p + sizeOf (macro n ps c)) s t m new) _ λ es u y v h. values (one (macro n ps c ∷_) h)
 
-book-both : (ds : List Definition) → Both (Makes (outAll ds (firstAt ds)) (liftsAll ds (firstAt ds)) (start ds) (begin ds)) (walkAll full ds (start ds)) (traceBook ds)
+book-both : (ds : List Definition) → Both (Makes (outAll ds (firstAt ds)) (liftsAll ds (firstAt ds)) (start ds) (begin ds)) (walkAll full ds (start ds)) (traceBook treeHead ds)
 unfolding traceBook begin start find
 book-both ds = walkAll-both ds (firstAt ds) (start ds) (begin ds) (record { taken = refl; bytes = refl; defns = refl }) (record { new = λ x h. refl })
 
 -- the result of codes 7 to 10, by the records
-pub elaborated-by : (ds : List Definition) → outcome (liftBook ds) ≡ traced ds (traceBook ds)
+pub elaborated-by : (ds : List Definition) → outcome (liftBook ds) ≡ traced ds (traceBook treeHead ds)
 unfolding liftBook outcome traced
 elaborated-by ds = of (book-both ds)
   where
@@ -74,26 +76,12 @@ elaborated-by ds = of (book-both ds)
     of refusals = refl
     of (values {t = t} g) = let l = later-self (t .records) in rw (g .body (t .records) l, g .made (t .records) l)
 
-length-outAll : (ds : List Definition) (p : ℕ) (rs : List Record) → length (outAll ds p rs) ≡ length ds
+pub length-outAll : (ds : List Definition) (p : ℕ) (rs : List Record) → length (outAll ds p rs) ≡ length ds
 unfolding outAll
 length-outAll [] p rs = refl
-length-outAll (format n ps c ∷ ds) p rs = ap suc (length-outAll ds _ rs)
-length-outAll (constant n x ∷ ds) p rs = ap suc (length-outAll ds _ rs)
-length-outAll (byte-order x ∷ ds) p rs = ap suc (length-outAll ds _ rs)
-length-outAll (macro n ps c ∷ ds) p rs = ap suc (length-outAll ds _ rs)
+length-outAll (d ∷ ds) p rs = ap suc (length-outAll ds _ rs)
 
--- what the finished records are
-pub record Traced (ds : List Definition) (t : Trace) : Type 0 where
-  -- each lift has its record, and no record stands elsewhere
-  pub found : AllFound (t .records) (liftsAll ds (firstAt ds))
-  pub only : (x : ℕ) → (Stands x (liftsAll ds (firstAt ds)) → ⊥) → find (t .records) x ≡ absent
-  -- the lifts in the order of their definitions
-  pub finished : t .finished ≡ map (λ l. l .at) (liftsAll ds (firstAt ds))
-  -- code 10's numbers are the result's
-  pub bytes : t .bytes ≡ sizeBook (outAll ds (firstAt ds) (t .records) ++ map (definitionOf (t .records)) (liftsAll ds (firstAt ds)))
-  pub defns : t .defns ≡ length ds + length (liftsAll ds (firstAt ds))
-
-pub was-traced : (ds : List Definition) (t : Trace) → traceBook ds ≡ ok tt t → Traced ds t
+pub was-traced : (ds : List Definition) (t : Trace) → traceBook treeHead ds ≡ ok tt t → Traced ds t
 unfolding begin start find
 was-traced ds t e = of (walkAll full ds (start ds)) refl (rw e at (book-both ds))
   where

@@ -45,3 +45,9 @@ module _ {S A T B A′ B′ : Type 0} {R : A → B → Type 0} {Q : A′ → S �
       → ((a : A) (b : B) → R a b → Both Q (f (a, s)) (g (b, t))) → Both Q (m >>= f) (n >>= g)
   still refusals f g go = refusals
   still (values {a = a} {b = b} h) f g go = rw (h .left, h .right) (go a b (h .holds))
+
+-- a second step that refuses and gives as the first does
+module _ {S A T B C : Type 0} {P : A → S → B → T → Type 0} where
+  pub alike : {m : Res S A} {n l : Res T B} → Both P m n → n ≡ l → (f g : B × T → Res T C) → ((a : A) (s : S) (b : B) (t : T) → P a s b t → f (b, t) ≡ g (b, t)) → n >>= f ≡ l >>= g
+  alike refusals e f g go = rw (← e)
+  alike (values p) e f g go = rw (← e) (go _ _ _ _ p)

@@ -1,9 +1,11 @@
 -- Going over a range from left to right.
-use mathlib.Core.Path.{_≡_, refl, sym, ap, _∙_}
+use mathlib.Core.Path.{_≡_, sym, ap, _∙_}
 use mathlib.Core.List.{List, [], _∷_, _++_}
 use Prim.Native.Nat.{ℕ, zero, suc, _+_, _-_, _≤_, _<_}
 use native.Mathlib.Omega.{arith}
-use lib.ListN.{length, drop, getD}
+use lib.ListN.{length, take, drop, getD, length-take, length-drop, take-append-drop}
+use lib.Seq.{drop-drop}
+use Rattle.writer.specs.Buf.{part}
 use Rattle.definition.specs.Res.{absent, just}
 use Rattle.definition.specs.Write.{wCombinator}
 use Rattle.lifting.specs.Records.{Record, find, call}
@@ -79,3 +81,14 @@ module _ (s : List ℕ) (rs : List Record) where
       let w = first-byte p s b (l ++ z) e in
       let f : p + suc (length l) ≡ suc p + length l = omega arith in
       opened b (w .0) (raw-goes l (suc p) z (w .1) (λ x a c. h x (omega arith) (omega arith)) (rw f at g))
+
+  -- a stretch without a lift
+  pub calls-stretch : (from mid to : ℕ) → from ≤ mid → mid ≤ to → mid ≤ length s → ((x : ℕ) → from ≤ x → x < mid → find rs x ≡ absent) → withCalls s rs from to ≡ part from mid s ++ withCalls s rs mid to
+  unfolding part
+  calls-stretch from mid to i j k h =
+      let l = take (mid - from) (drop from s) in
+      let n : length l ≡ mid - from = simp (length-take, length-drop) (omega arith) in
+      let m : from + (mid - from) ≡ mid = omega arith in
+      let e : drop from s ≡ l ++ drop mid s = sym (take-append-drop (mid - from) (drop from s)) ∙ ap (l ++_) (drop-drop (mid - from) from s ∙ ap (λ x. drop x s) m) in
+      let g : Goes to (from + length l) (withCalls s rs mid to) = record { before = omega arith; is = rw (n, m) } in
+      raw-goes l from (drop mid s) e (λ x a b. h x a (omega arith)) g .is

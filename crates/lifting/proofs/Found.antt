@@ -1,60 +1,44 @@
 -- Looking up a record by its place, as records are appended; where lifts stand.
-use mathlib.Core.Path.{_≡_, refl, sym, ap, _∙_}
+use mathlib.Core.Path.{_≡_, refl, sym, _∙_}
 use mathlib.Core.Logic.{_⊎_, inl, inr}
 use mathlib.Core.Bool.{Bool, true, false, cond}
-use mathlib.Core.List.{List, [], _∷_, _++_, append-assoc}
-use Prim.Native.Nat.{ℕ, _+_, _≤_}
+use mathlib.Core.List.{List, [], _∷_, _++_}
+use Prim.Native.Nat.{ℕ}
 use native.Mathlib.Omega.{arith}
 use lib.Dec.{eqb}
 use borrow.Author.Tests.{eq-eqb, ne-eqb}
-use lib.ListN.{length}
-use Rattle.definition.specs.Res.{Maybe, absent, just}
-use Rattle.definition.specs.Tree.{Name}
-use Rattle.definition.specs.Names.{sorted}
-use Rattle.definition.specs.Collect.{free}
-use Rattle.definition.specs.Size.{size}
-use Rattle.lifting.specs.Records.{Record, find}
-use Rattle.lifting.specs.After.{Lift}
+use Rattle.definition.specs.Res.{absent, just}
+use Rattle.lifting.specs.Records.{Record, orElse, find}
+use Rattle.lifting.specs.After.{Lift, Stands, AllFound}
 
--- records are only appended
+-- a record appended is what is found at its place
+pub find-snoc : (a : List Record) (r : Record) (x : ℕ) → find (a ++ (r ∷ [])) x ≡ cond (eqb (r .at) x) (just r) (find a x)
+unfolding find
+find-snoc [] r x = refl
+find-snoc (y ∷ a) r x = rw (find-snoc a r x) (of (eqb (r .at) x))
+  where
+    of : (b : Bool) → orElse (cond b (just r) (find a x)) (cond (eqb (y .at) x) (just y) absent) ≡ cond b (just r) (orElse (find a x) (cond (eqb (y .at) x) (just y) absent))
+    of true = refl
+    of false = refl
+
+pub find-here : (a : List Record) (r : Record) (x : ℕ) → r .at ≡ x → find (a ++ (r ∷ [])) x ≡ just r
+find-here a r x e = rw (find-snoc a r x, eq-eqb (r .at) x e)
+
+pub find-other : (a : List Record) (r : Record) (x : ℕ) → (r .at ≡ x → ⊥) → find (a ++ (r ∷ [])) x ≡ find a x
+find-other a r x n = rw (find-snoc a r x, ne-eqb (r .at) x n)
+
+-- what was found is found later
 pub record Later (a b : List Record) : Type 0 where
-  pub more : List Record
-  pub grown : b ≡ a ++ more
+  pub keeps : (x : ℕ) (r : Record) → find a x ≡ just r → find b x ≡ just r
 
 pub later-self : (a : List Record) → Later a a
-later-self a = record { more = []; grown = sym (append-nil a) }
-  where
-    append-nil : (a : List Record) → a ++ [] ≡ a
-    append-nil [] = refl
-    append-nil (r ∷ a) = ap (r ∷_) (append-nil a)
-
-pub later-one : (a : List Record) (r : Record) → Later a (a ++ (r ∷ []))
-later-one a r = record { more = r ∷ []; grown = refl }
+later-self a = record { keeps = λ x r e. e }
 
 pub later-on : {a b c : List Record} → Later a b → Later b c → Later a c
-later-on {a} g h = record { more = g .more ++ h .more; grown = h .grown ∙ (rw (g .grown) (append-assoc a (g .more) (h .more))) }
+later-on g h = record { keeps = λ x r e. h .keeps x r (g .keeps x r e) }
 
--- a place at which no record was
-pub find-here : (a : List Record) (r : Record) (more : List Record) → find a (r .at) ≡ absent → find (a ++ (r ∷ more)) (r .at) ≡ just r
-unfolding find
-find-here [] r more e = rw (eq-eqb (r .at) (r .at) refl)
-find-here (x ∷ a) r more e = step (eqb (x .at) (r .at)) (λ h. find-here a r more h) e
-  where
-    step : (b : Bool) → (find a (r .at) ≡ absent → find (a ++ (r ∷ more)) (r .at) ≡ just r) → cond b (just x) (find a (r .at)) ≡ absent
-        → cond b (just x) (find (a ++ (r ∷ more)) (r .at)) ≡ just r
-    step true go h = let z : _≡_ {A = ℕ} 0 1 = cc in absurd (omega arith)
-    step false go h = go h
-
--- another place
-pub find-other : (a : List Record) (r : Record) (x : ℕ) → (r .at ≡ x → ⊥) → find (a ++ (r ∷ [])) x ≡ find a x
-unfolding find
-find-other [] r x n = rw (ne-eqb (r .at) x n)
-find-other (y ∷ a) r x n = rw (find-other a r x n)
-
--- a lift stands at a place
-abbrev pub Stands : ℕ → List Lift → Type 0
-Stands x [] = ⊥
-Stands x (l ∷ ls) = (l .at ≡ x) ⊎ Stands x ls
+pub later-one : (a : List Record) (r : Record) (x : ℕ) → r .at ≡ x → find a x ≡ absent → Later a (a ++ (r ∷ []))
+later-one a r x h n = record { keeps = λ y q e. find-other a r y (λ k. let f : find a x ≡ just q = rw (sym h ∙ k) e in let z : _≡_ {A = ℕ} 0 1 = cc in omega arith) ∙ e }
 
 pub stands-left : (x : ℕ) (a b : List Lift) → Stands x a → Stands x (a ++ b)
 stands-left x (l ∷ a) b (inl e) = inl e
@@ -73,19 +57,14 @@ stands-either x (l ∷ a) b (inr h) = over (stands-either x a b h)
     over (inl h) = inl (inr h)
     over (inr h) = inr h
 
--- the record of a lift
-pub record Found (rs : List Record) (l : Lift) : Type 0 where
-  pub of : Record
-  pub found : find rs (l .at) ≡ just of
-  pub begins : of .at ≡ l .at
-  pub ends : of .end ≡ l .at + size (l .what)
-  pub named : length (of .name) ≤ 255
-  pub needed : of .params ≡ sorted (free (l .what))
-
-abbrev pub AllFound : List Record → List Lift → Type 0
-AllFound rs [] = Unit {0}
-AllFound rs (l ∷ ls) = Found rs l × AllFound rs ls
-
 pub all-found : (rs : List Record) (a b : List Lift) → AllFound rs a → AllFound rs b → AllFound rs (a ++ b)
 all-found rs [] b f g = g
 all-found rs (l ∷ a) b f g = (f .0, all-found rs a b (f .1) g)
+
+pub found-left : (rs : List Record) (a b : List Lift) → AllFound rs (a ++ b) → AllFound rs a
+found-left rs [] b f = tt
+found-left rs (l ∷ a) b f = (f .0, found-left rs a b (f .1))
+
+pub found-right : (rs : List Record) (a b : List Lift) → AllFound rs (a ++ b) → AllFound rs b
+found-right rs [] b f = f
+found-right rs (l ∷ a) b f = found-right rs a b (f .1)

@@ -4,3 +4,13 @@ pub mod Ranges
 pub mod Agree
 pub mod Book
 pub mod Calls
+pub mod Parts
+pub mod Bytes
+pub mod Refs
+pub mod Standing
+pub mod Written
+pub mod Measured
+pub mod Frames
+pub mod Counts
+pub mod Places
+pub mod Laws

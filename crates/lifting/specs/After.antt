@@ -1,14 +1,17 @@
 -- What bodies are after lifting, and which definitions come out of them: functions of the tree, its place and the records. Document 01, "Lifting rules".
+use mathlib.Core.Path.{_≡_}
+use mathlib.Core.Logic.{_⊎_}
 use mathlib.Core.Bool.{Bool, true, false}
-use mathlib.Core.List.{List, [], _∷_, _++_, map}
-use Prim.Native.Nat.{ℕ, _+_, _*_}
+use mathlib.Core.List.{List, [], _∷_, _++_}
+use Prim.Native.Nat.{ℕ, _+_, _*_, _≤_}
 use lib.ListN.{length}
 use Rattle.definition.specs.Res.{Maybe, absent, just}
 use Rattle.definition.specs.Tree.{Name, Text, Shell, Selector, CaseKind, Combinator, plain, chained, Inner, leaf, struct, choice, shell, bytes, invocation, macro-invocation, Fields, no-field, field, const, Cases, no-case, case, Param, Definition, format, constant, byte-order, macro}
+use Rattle.definition.specs.Names.{sorted}
 use Rattle.definition.specs.Write.{wName, wText, wSelector, wLabel, wOpen, sizeOf}
 use Rattle.definition.specs.Size.{size}
 use Rattle.definition.specs.Macros.{innerOf}
-use Rattle.definition.specs.Collect.{anonymous}
+use Rattle.definition.specs.Collect.{anonymous, free}
 use Rattle.laws.proofs.Sizes.{sizeI, head}
 use Rattle.lifting.specs.Records.{Ref, own, passed, Record, find, call}
 
@@ -96,6 +99,10 @@ unfoldable mutual
   liftsC no-case k p = []
   liftsC (case l c f) k p = (lifts c (caseAt p k l) ++ itself (anonymous c) c (caseAt p k l)) ++ liftsC f k (caseAt p k l + size c)
 
+-- out of a child, itself last
+abbrev pub liftsK : Combinator → ℕ → List Lift
+liftsK c p = lifts c p ++ itself (anonymous c) c p
+
 -- "types as they stand after lifting, without chain"
 unfoldable pub typeOf : List Record → Ref → Inner
 typeOf rs (own i p) = i
@@ -114,21 +121,46 @@ madeBy (just r) rs l = format (r .name) (paramsOf rs (r .params) (r .types)) (ou
 unfoldable pub definitionOf : List Record → Lift → Definition
 definitionOf rs l = madeBy (find rs (l .at)) rs l
 
--- the bodies of a list, of which the first begins at p
+-- a definition whose body begins at p
+unfoldable pub outD : Definition → ℕ → List Record → Definition
+outD (format n ps c) p rs = format n ps (out c (p + head n ps) rs)
+outD (constant n x) p rs = constant n x
+outD (byte-order x) p rs = byte-order x
+outD (macro n ps c) p rs = macro n ps c
+
+unfoldable pub liftsD : Definition → ℕ → List Lift
+liftsD (format n ps c) p = lifts c (p + head n ps)
+liftsD (constant n x) p = []
+liftsD (byte-order x) p = []
+liftsD (macro n ps c) p = []
+
+-- the definitions of a list, of which the first body begins at p
 unfoldable pub outAll : List Definition → ℕ → List Record → List Definition
 outAll [] p rs = []
-outAll (format n ps c ∷ ds) p rs = format n ps (out c (p + head n ps) rs) ∷ outAll ds (p + sizeOf (format n ps c)) rs
-outAll (constant n x ∷ ds) p rs = constant n x ∷ outAll ds (p + sizeOf (constant n x)) rs
-outAll (byte-order x ∷ ds) p rs = byte-order x ∷ outAll ds (p + sizeOf (byte-order x)) rs
-outAll (macro n ps c ∷ ds) p rs = macro n ps c ∷ outAll ds (p + sizeOf (macro n ps c)) rs
+outAll (d ∷ ds) p rs = outD d p rs ∷ outAll ds (p + sizeOf d) rs
 
 unfoldable pub liftsAll : List Definition → ℕ → List Lift
 liftsAll [] p = []
-liftsAll (format n ps c ∷ ds) p = lifts c (p + head n ps) ++ liftsAll ds (p + sizeOf (format n ps c))
-liftsAll (constant n x ∷ ds) p = liftsAll ds (p + sizeOf (constant n x))
-liftsAll (byte-order x ∷ ds) p = liftsAll ds (p + sizeOf (byte-order x))
-liftsAll (macro n ps c ∷ ds) p = liftsAll ds (p + sizeOf (macro n ps c))
+liftsAll (d ∷ ds) p = liftsD d p ++ liftsAll ds (p + sizeOf d)
 
 -- "the first offset is 2 + 6n"
 abbrev pub firstAt : List Definition → ℕ
 firstAt ds = 2 + 6 * length ds
+
+-- a lift of the list stands at a place
+abbrev pub Stands : ℕ → List Lift → Type 0
+Stands x [] = ⊥
+Stands x (l ∷ ls) = (l .at ≡ x) ⊎ Stands x ls
+
+-- the record of a lift
+pub record Found (rs : List Record) (l : Lift) : Type 0 where
+  pub of : Record
+  pub found : find rs (l .at) ≡ just of
+  pub begins : of .at ≡ l .at
+  pub ends : of .end ≡ l .at + size (l .what)
+  pub named : length (of .name) ≤ 255
+  pub needed : of .params ≡ sorted (free (l .what))
+
+abbrev pub AllFound : List Record → List Lift → Type 0
+AllFound rs [] = Unit {0}
+AllFound rs (l ∷ ls) = Found rs l × AllFound rs ls

@@ -2,3 +2,5 @@ pub mod Records
 pub mod After
 pub mod Trace
 pub mod Calls
+pub mod Frames
+pub mod Laws

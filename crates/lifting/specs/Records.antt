@@ -20,10 +20,15 @@ pub record Record : Type 0 where
   pub params : List Name
   pub types : List Ref
 
--- the record of the lift at a place
+-- the record of the lift at a place: the last one, so that a table by place takes a new record as it comes. No two stand at one place
+unfoldable pub orElse : Maybe Record → Maybe Record → Maybe Record
+orElse absent m = m
+orElse (just r) m = just r
+
 unfoldable pub find : List Record → ℕ → Maybe Record
+unfolding orElse
 find [] x = absent
-find (r ∷ rs) x = let m = find rs x in cond (eqb (r .at) x) (just r) m
+find (r ∷ rs) x = orElse (find rs x) (cond (eqb (r .at) x) (just r) absent)
 
 -- "replaced by a call without a chain"
 unfoldable pub call : Record → Combinator
