@@ -60,9 +60,9 @@ onFrom t from to = goes t (to - from) from 0
 unfoldable pub spliced : Tables → ℕ → ℕ → List ℕ
 spliced t from to = part from (min (suc from) to) (t .book) ++ onFrom t (suc from) to
 
--- where an inner ends
+-- where an inner ends. It has fewer levels than bytes
 unfoldable pub innerEnd : List ℕ → ℕ → ℕ
-innerEnd s at = skipAt 64 s (walk at 0 64 true) (0 ∷ []) .0 .at
+innerEnd s at = skipAt (length s) s (walk at 0 0 true) (0 ∷ []) .0 .at
 
 -- "types as they stand after lifting, without chain": of a Dependent field whose combinator is lifted itself, the call
 unfoldable pub passedBytes : Tables → ℕ → ℕ → List ℕ

@@ -147,7 +147,7 @@ pub fn put_spliced(
     put_part(s, gap, to, out, o)
 }
 
-// Where the inner at a place ends.
+// Where the inner at a place ends. It has fewer levels than bytes.
 fn inner_end(s: &[u8], at: usize) -> usize
     ensures { λ r. ⌜ r ≡ innerEnd (now (s .entry)) at ⌝ }
 {
@@ -155,10 +155,10 @@ fn inner_end(s: &[u8], at: usize) -> usize
     let w = Walk {
         at,
         n: 0,
-        left: 64,
+        left: 0,
         plain: true,
     };
-    let u = skip_inner(s, w, 64, &mut marks);
+    let u = skip_inner(s, w, s.len(), &mut marks);
     u.at
 }
 

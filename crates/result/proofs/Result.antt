@@ -1,0 +1,168 @@
+-- The book that is written is document 01's result, where the tables hold the records of the walk over the expanded book.
+use mathlib.Core.Path.{_≡_, refl, sym, ap, _∙_}
+use mathlib.Core.List.{List, [], _∷_, _++_, append-assoc, map}
+use Prim.Native.Nat.{ℕ, zero, suc, _+_, _*_, _%_, _/_, _≤_, _<_}
+use native.Mathlib.Omega.{arith}
+use lib.ListN.{length, getD, drop, length-append, length-map}
+use Rattle.definition.specs.Res.{absent, just, ok}
+use Rattle.definition.specs.Tree.{Kind, isFormat, Definition}
+use Rattle.definition.specs.Write.{wU16, wAll, wCombinator, wDefinition, kindOf, kindByte, sizeOf, wEntries, wParts, entryOf, wBook}
+use Rattle.definition.specs.Size.{size, sizeBook}
+use Rattle.laws.proofs.Splits.{s-comb}
+use Rattle.laws.proofs.Sizes.{adds, size-book, size-bodies}
+use Rattle.laws.proofs.Steps.{gave}
+use Rattle.seek.specs.At.{byteAt, numberAt}
+use Rattle.seek.specs.Here.{Here}
+use Rattle.seek.proofs.Here.{here-length, place, past-here, byte-here, number-here}
+use Rattle.tables.specs.Rows.{rowOf}
+use Rattle.lifting.specs.Records.{Record, find}
+use Rattle.lifting.specs.After.{Lift, definitionOf, outAll, liftsAll, firstAt, AllFound}
+use Rattle.lifting.specs.Calls as by-records
+use Rattle.lifting.specs.Calls.{withCalls, entriesOf, joined, bookOf}
+use Rattle.lifting.specs.Trace.{Trace, treeHead, traceAll, begin, traceBook}
+use Rattle.lifting.specs.Laws.{Traced}
+use Rattle.lifting.proofs.Ranges.{size-some}
+use Rattle.lifting.proofs.Refs.{AllTyped, WellTyped}
+use Rattle.lifting.proofs.Standing.{Stood, AllWhole}
+use Rattle.lifting.proofs.Book.{bodies, bodies-cons, was-traced}
+use Rattle.lifting.proofs.Written.{WholeD, WholeAll, bodies-stand, written}
+use Rattle.result.specs.Model as model
+use Rattle.result.specs.Model.{Tables, row, Piece, entryBytes, entries, keptFrom, liftedFrom, bookBytes, resultBytes}
+use Rattle.result.specs.Held.{Numbers, Agrees, Held}
+use Rattle.result.proofs.Held.{room, u16-is, spliced-goes, lifted-are}
+use Rattle.result.proofs.Bodies.{body-some, of-cons, first-clear, inside-all, types-stood, found-typed}
+
+-- kinds and bytes as definitions of a book
+unfoldable pub piecesOf : List Kind → List (List ℕ) → List Piece
+piecesOf [] bs = []
+piecesOf (k ∷ ks) [] = []
+piecesOf (k ∷ ks) (b ∷ bs) = record { kind = kindByte k; bytes = b } ∷ piecesOf ks bs
+
+pieces-append : (ks : List Kind) (bs : List (List ℕ)) (ls : List Kind) (ds : List (List ℕ)) → length ks ≡ length bs → piecesOf (ks ++ ls) (bs ++ ds) ≡ piecesOf ks bs ++ piecesOf ls ds
+unfolding piecesOf
+pieces-append [] [] ls ds e = refl
+pieces-append [] (b ∷ bs) ls ds e = absurd (omega arith)
+pieces-append (k ∷ ks) [] ls ds e = absurd (omega arith)
+pieces-append (k ∷ ks) (b ∷ bs) ls ds e = ap (record { kind = kindByte k; bytes = b } ∷_) (pieces-append ks bs ls ds (omega arith))
+
+entries-are : (ks : List Kind) (bs : List (List ℕ)) (at : ℕ) (r : List ℕ) → at + length (joined bs) ≤ 65535 → entries at (piecesOf ks bs) ++ r ≡ wEntries at (entriesOf ks bs) r
+unfolding entries piecesOf wEntries entriesOf joined entryBytes wU16
+entries-are [] bs at r h = refl
+entries-are (k ∷ ks) [] at r h = refl
+entries-are (k ∷ ks) (b ∷ bs) at r h =
+    let n : length (b ++ joined bs) ≡ length b + length (joined bs) = length-append b (joined bs) in
+    let e : at % 65536 ≡ at = omega arith in
+    let f : length b % 65536 ≡ length b = omega arith in
+    rw (e, f, entries-are ks bs (at + length b) r (omega arith))
+
+bodies-are : (ks : List Kind) (bs : List (List ℕ)) → length ks ≡ length bs → model.bodies (piecesOf ks bs) ≡ joined bs
+unfolding model.bodies piecesOf joined
+bodies-are [] [] e = refl
+bodies-are [] (b ∷ bs) e = absurd (omega arith)
+bodies-are (k ∷ ks) [] e = absurd (omega arith)
+bodies-are (k ∷ ks) (b ∷ bs) e = ap (b ++_) (bodies-are ks bs (omega arith))
+
+length-entries : (ks : List Kind) (bs : List (List ℕ)) (at : ℕ) (r : List ℕ) → length ks ≡ length bs → length (wEntries at (entriesOf ks bs) r) ≡ 6 * length bs + length r
+unfolding wEntries entriesOf wU16
+length-entries [] [] at r e = omega arith
+length-entries [] (b ∷ bs) at r e = absurd (omega arith)
+length-entries (k ∷ ks) [] at r e = absurd (omega arith)
+length-entries (k ∷ ks) (b ∷ bs) at r e = omega (arith, length-entries ks bs (at + length b) r (omega arith))
+
+book-is : (ks : List Kind) (bs : List (List ℕ)) → length ks ≡ length bs → length (bookOf ks bs) ≤ 65535 → bookBytes (length bs) (piecesOf ks bs) ≡ bookOf ks bs
+unfolding bookBytes bookOf wU16
+book-is ks bs e h =
+    let m = length-entries ks bs (2 + 6 * length bs) (joined bs) e in
+    let f : length bs % 65536 ≡ length bs = omega arith in
+    rw (f, bodies-are ks bs e, entries-are ks bs (2 + 6 * length bs) (joined bs) (omega arith))
+
+-- further on
+ahead : {s : List ℕ} {p : ℕ} (b : List ℕ) {z : List ℕ} → Here s p (b ++ z) → Here s (p + length b) z
+ahead b h = let k = past-here b h in rw (place b h k) at k
+
+module _ (t : Tables) (rs : List Record) (agree : (p : ℕ) → p < length (t .book) → Agrees t (find rs p) (getD (t .number) p 0)) where
+  body : (i at o : ℕ) → numberAt (t .book) (2 + 6 * i + 2) ≡ at → numberAt (t .book) (2 + 6 * i + 4) ≡ o → at < at + o → at + o ≤ length (t .book) → find rs at ≡ absent → model.keptBytes t i ≡ withCalls (t .book) rs at (at + o)
+  unfolding model.keptBytes
+  body i at o e f a b c = rw (e, f) (spliced-goes t rs agree at (at + o) a b c)
+
+  -- kept definitions: entry i of the contents is that of the i-th
+  kept-are : (ds : List Definition) (i at : ℕ) (y z : List ℕ) → Here (t .book) (2 + 6 * i) (wEntries at (map entryOf ds) y ++ z) → WholeAll (t .book) rs ds at → at + bodies ds ≤ length (t .book)
+      → keptFrom t i (length ds) ≡ piecesOf (map kindOf ds) (by-records.keptBytes (t .book) rs ds at)
+  unfolding keptFrom piecesOf by-records.keptBytes wEntries entryOf wU16
+  kept-are [] i at y z h w b = refl
+  kept-are (d ∷ ds) i at y z h w b =
+      let k : ℕ = kindByte (kindOf d) in
+      let o : ℕ = sizeOf d in
+      let p : ℕ = 2 + 6 * i in
+      let q = of-cons (t .book) rs d ds at w in
+      let m = bodies-cons d ds in
+      let next : 2 + 6 * i + 6 ≡ 2 + 6 * suc i = omega arith in
+      let h₂ : Here (t .book) (p + 2) (wU16 at (wU16 o (wEntries (at + o) (map entryOf ds) y ++ z))) = ahead (k ∷ 0 ∷ []) h in
+      let h₄ : Here (t .book) (p + 4) (wU16 o (wEntries (at + o) (map entryOf ds) y ++ z)) = ahead (k ∷ 0 ∷ at % 256 ∷ at / 256 ∷ []) h in
+      let h₆ : Here (t .book) (p + 6) (wEntries (at + o) (map entryOf ds) y ++ z) = ahead (k ∷ 0 ∷ at % 256 ∷ at / 256 ∷ o % 256 ∷ o / 256 ∷ []) h in
+      let e : model.keptBytes t i ≡ withCalls (t .book) rs at (at + o) = body i at o (number-here at _ h₂) (number-here o _ h₄) (omega (arith, body-some d)) (omega arith) (first-clear (t .book) rs d at (q .0)) in
+      rw (byte-here h, e, kept-are ds (suc i) (at + o) y z (rw next at h₆) (q .1) (omega arith))
+
+  -- lifted ones
+  module _ (short : length (t .book) ≤ 65535) (order : List ℕ) where
+    lift-is : (l : Lift) (i : ℕ) (m : Record) → suc (getD order i 0) ≡ getD (t .number) (l .at) 0 → Numbers t m (getD (t .number) (l .at) 0) → model.liftedBytes t (rowOf m) ≡ by-records.liftedBytes (t .book) rs (just m)
+        → model.liftedBytes t (row t (getD order i 0)) ≡ by-records.liftedBytes (t .book) rs (just m)
+    lift-is l i m e a b = let f : getD order i 0 ≡ a .of = omega (arith, a .is) in rw (f, a .holds) b
+
+    lifted-all : (ls : List Lift) (i : ℕ) → AllFound rs ls → AllWhole (t .book) rs ls → AllTyped (Stood (t .book) rs) rs
+        → ((k : ℕ) → k < length (map (λ l. l .at) ls) → suc (getD order (i + k) 0) ≡ getD (t .number) (getD (map (λ l. l .at) ls) k 0) 0)
+        → liftedFrom t order i (length (map (λ l. l .at) ls)) ≡ piecesOf (map (λ x. isFormat) (map (λ l. l .at) ls)) (map (λ x. by-records.liftedBytes (t .book) rs (find rs x)) (map (λ l. l .at) ls))
+    unfolding liftedFrom piecesOf kindByte size
+    lifted-all [] i f w a o = refl
+    lifted-all (l ∷ ls) i f w a o =
+        let g = f .0 in
+        let v = found-typed (Stood (t .book) rs) rs (l .at) (g .of) a (g .found) in
+        let n : length (wCombinator (l .what) (w .0 .rest)) ≡ size (l .what) + length (w .0 .rest) = adds (wCombinator (l .what)) (s-comb (l .what)) (w .0 .rest) in
+        let m = room (t .book) (l .at) (wCombinator (l .what) (w .0 .rest)) (w .0 .stands) (omega (arith, size-some (l .what))) in
+        let c : Numbers t (g .of) (getD (t .number) (l .at) 0) = rw (g .found) at (agree (l .at) (omega (arith, size-some (l .what)))) in
+        let b = lifted-are t rs agree short (g .of) (c .named) (c .needed) (v .refs) (omega (arith, g .begins, g .ends, size-some (l .what))) (omega (arith, g .ends)) in
+        let zero-more : i + 0 ≡ i = omega arith in
+        let e : suc (getD order i 0) ≡ getD (t .number) (l .at) 0 = rw zero-more at (o 0 (omega arith)) in
+        rw (g .found, lift-is l i (g .of) e c b, lifted-all ls (suc i) (f .1) (w .1) a (λ k h. let x : suc i + k ≡ i + suc k = omega arith in rw x (o (suc k) (omega arith))))
+
+length-kept : (s : List ℕ) (rs : List Record) (ds : List Definition) (p : ℕ) → length (by-records.keptBytes s rs ds p) ≡ length ds
+unfolding by-records.keptBytes
+length-kept s rs [] p = refl
+length-kept s rs (d ∷ ds) p = ap suc (length-kept s rs ds (p + sizeOf d))
+
+book-here : (t : Tables) (ds : List Definition) (z : List ℕ) → t .book ≡ wBook ds ++ z
+    → (numberAt (t .book) 0 ≡ length ds) × Here (t .book) (2 + 6 * 0) (wEntries (firstAt ds) (map entryOf ds) (wAll wDefinition ds []) ++ z)
+unfolding wBook wParts wU16
+book-here t ds z e =
+    let k : length (map entryOf ds) ≡ length ds = length-map ds entryOf in
+    let h : Here (t .book) 0 (wU16 (length ds) (wEntries (firstAt ds) (map entryOf ds) (wAll wDefinition ds []) ++ z)) = record { is = rw k at e; reach = omega arith } in
+    (number-here (length ds) _ h, ahead (length ds % 256 ∷ length ds / 256 ∷ []) h)
+
+pub result-written : (t : Tables) (order : List ℕ) (n : ℕ) (ds : List Definition) (z : List ℕ) (w : Trace) → traceBook treeHead ds ≡ ok tt w → Held t order n ds z w → w .bytes ≤ 65535
+    → resultBytes t order n ≡ wBook (outAll ds (firstAt ds) (w .records) ++ map (definitionOf (w .records)) (liftsAll ds (firstAt ds)))
+unfolding traceBook begin resultBytes by-records.resultBytes sizeBook
+result-written t order n ds z w e held small =
+    let s = t .book in
+    let rs = w .records in
+    let k = was-traced ds w e in
+    let all : WholeAll s rs ds (firstAt ds) = record { rest = z; stands = rw (held .book) (bodies-stand ds z); clear = λ x i j h. k .only x h; found = k .found } in
+    let a = gave (types-stood s rs treeHead ds (firstAt ds) (begin ds) all tt) e in
+    let h = book-here t ds z (held .book) in
+    let ks = map kindOf ds in
+    let bs = by-records.keptBytes s rs ds (firstAt ds) in
+    let ls = map (λ x. isFormat) (w .finished) in
+    let cs = map (λ x. by-records.liftedBytes s rs (find rs x)) (w .finished) in
+    let same : length ks ≡ length bs = length-map ds kindOf ∙ sym (length-kept s rs ds (firstAt ds)) in
+    let alike : length ls ≡ length cs = length-map (w .finished) (λ x. isFormat) ∙ sym (length-map (w .finished) (λ x. by-records.liftedBytes s rs (find rs x))) in
+    let long : length (bs ++ cs) ≡ length ds + n = length-append bs cs ∙ rw (length-kept s rs ds (firstAt ds), length-map (w .finished) (λ x. by-records.liftedBytes s rs (find rs x)), held .count) in
+    let fits : firstAt ds + bodies ds ≤ length s = rw (held .book, length-append (wBook ds) z) (omega (arith, size-book ds, size-bodies ds)) in
+    let kept : keptFrom t 0 (length ds) ≡ piecesOf ks bs = kept-are t rs (held .numbered) ds 0 (firstAt ds) (wAll wDefinition ds []) z (h .1) all fits in
+    let lifted : liftedFrom t order 0 n ≡ piecesOf ls cs =
+    rw (held .count, k .finished)
+    (lifted-all t rs (held .numbered) (held .short) order (liftsAll ds (firstAt ds)) 0 (k .found) (inside-all s rs ds (firstAt ds) all) a
+    (λ j o. let x : 0 + j ≡ j = omega arith in rw (x, ← (k .finished)) (held .ordered j (rw (held .count, k .finished) o)))) in
+    let whole : wBook (outAll ds (firstAt ds) rs ++ map (definitionOf rs) (liftsAll ds (firstAt ds))) ≡ bookOf (ks ++ ls) (bs ++ cs) =
+    written ds z w e ∙ ap (λ (x : List ℕ). by-records.resultBytes x ds rs (w .finished)) (sym (held .book)) in
+    let short : length (bookOf (ks ++ ls) (bs ++ cs)) ≤ 65535 = rw (← whole, ← (k .bytes)) small in
+    let lens : length (ks ++ ls) ≡ length (bs ++ cs) = length-append ks ls ∙ rw (same, alike) (sym (length-append bs cs)) in
+    rw (h .0, kept, lifted, ← long, ← (pieces-append ks bs ls cs same)) (book-is (ks ++ ls) (bs ++ cs) lens short ∙ sym whole)

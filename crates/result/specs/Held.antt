@@ -1,0 +1,39 @@
+-- What the naming pass hands over: the tables hold the records of the walk over the expanded book.
+use mathlib.Core.Path.{_≡_}
+use mathlib.Core.List.{List, [], _∷_, _++_}
+use Prim.Native.Nat.{ℕ, suc, _≤_, _<_}
+use lib.ListN.{length, getD}
+use Rattle.definition.specs.Res.{Maybe, absent, just}
+use Rattle.definition.specs.Tree.{Name, Definition}
+use Rattle.definition.specs.Write.{wBook}
+use Rattle.lifting.specs.Records.{Record, find}
+use Rattle.lifting.specs.Trace.{Trace}
+use Rattle.tables.specs.Rows.{rowOf}
+use Rattle.result.specs.Model.{Tables, row}
+
+-- "a name 255"
+abbrev pub Short : List Name → Type 0
+Short [] = Unit {0}
+Short (n ∷ ns) = (length n ≤ 255) × Short ns
+
+-- k is one more than the number of a row that is this record's
+pub record Numbers (t : Tables) (r : Record) (k : ℕ) : Type 0 where
+  pub of : ℕ
+  pub is : k ≡ suc of
+  pub holds : row t of ≡ rowOf r
+  pub named : length (r .name) ≤ 255
+  pub needed : Short (r .params)
+
+-- 0 where no record stands
+abbrev pub Agrees : Tables → Maybe Record → ℕ → Type 0
+Agrees t absent k = k ≡ 0
+Agrees t (just r) k = Numbers t r k
+
+-- the expanded book, whatever follows it, and the tables: the number at each place is that of the record found there, and the n numbers of
+-- `order` are those of the lifts in the order in which they were finished
+pub record Held (t : Tables) (order : List ℕ) (n : ℕ) (ds : List Definition) (z : List ℕ) (w : Trace) : Type 0 where
+  pub book : t .book ≡ wBook ds ++ z
+  pub short : length (t .book) ≤ 65535
+  pub numbered : (p : ℕ) → p < length (t .book) → Agrees t (find (w .records) p) (getD (t .number) p 0)
+  pub count : n ≡ length (w .finished)
+  pub ordered : (i : ℕ) → i < n → suc (getD order i 0) ≡ getD (t .number) (getD (w .finished) i 0) 0
