@@ -5,10 +5,10 @@ use mathlib.Core.List.{List, [], _∷_, _++_, append-assoc, append-nil}
 use Prim.Native.Nat.{ℕ, zero, suc, _+_, _*_, _-_, _%_, _≤_, _<_}
 use native.Mathlib.Numerals.{add-one}
 use native.Mathlib.Omega.{arith}
-use lib.ListN.{length, getD, take, drop, length-append, length-take, length-drop}
-use lib.Seq.{take-add, length-take-le, drop-drop, drop-at, take-append-add, take-all, take-length}
+use lib.ListN.{length, getD, take, drop, length-append, length-take}
+use lib.Seq.{take-add, length-take-le, drop-at, take-append-add}
 use Rattle.definition.specs.Write.{wU16}
-use Rattle.writer.specs.Buf.{put, after, Wrote}
+use Rattle.writer.specs.Buf.{put, Wrote}
 use Rattle.writer.proofs.Put.{length-put, put-nil, put-put, put-fits, take-put, drop-put}
 use Rattle.writer.proofs.Wrote.{same-length, place-fits}
 use Rattle.seek.specs.At.{byteAt, numberAt}

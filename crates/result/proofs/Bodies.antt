@@ -1,12 +1,11 @@
 -- The bodies of the expanded book, one after the other: where each begins no record stands, and what types a parameter stands at its place.
-use mathlib.Core.Path.{_≡_, refl, sym, ap, _∙_}
+use mathlib.Core.Path.{_≡_, refl}
 use mathlib.Core.Bool.{Bool, true, false, cond}
-use mathlib.Core.List.{List, [], _∷_, _++_}
-use Prim.Native.Nat.{ℕ, suc, _+_, _≤_, _<_}
+use mathlib.Core.List.{List, [], _∷_}
+use Prim.Native.Nat.{ℕ, _+_, _≤_, _<_}
 use native.Mathlib.Omega.{arith}
 use lib.Dec.{eqb}
-use lib.ListN.{length}
-use Rattle.definition.specs.Res.{Maybe, absent, just, ok}
+use Rattle.definition.specs.Res.{Maybe, absent, just}
 use Rattle.definition.specs.Tree.{Name, Combinator, Param, Definition, format, constant, byte-order, macro}
 use Rattle.definition.specs.Write.{wU16, wName, wText, wAll, wCombinator, wDefinition, sizeOf}
 use Rattle.definition.specs.Size.{size}
@@ -16,8 +15,8 @@ use Rattle.laws.proofs.Steps.{Gives, value, then}
 use Rattle.lifting.specs.Records.{Ref, Record, orElse, find}
 use Rattle.lifting.specs.After.{liftsD, liftsAll, Stands}
 use Rattle.lifting.specs.Trace.{Trace, Binder, ownBinders, paramsAt, traceAll}
-use Rattle.lifting.proofs.Ranges.{in-range, size-some}
-use Rattle.lifting.proofs.Parts.{appended, first-none, under, over, none-under, none-over, Part, Whole, Raw, split}
+use Rattle.lifting.proofs.Ranges.{in-range}
+use Rattle.lifting.proofs.Parts.{appended, first-none, under, over, none-under, Whole, Raw, split}
 use Rattle.lifting.proofs.Refs.{AllBinders, WellTyped, AllTyped, Typing, trace-types}
 use Rattle.lifting.proofs.Standing.{limit, Stood, AllWhole, all-whole, inside}
 use Rattle.lifting.proofs.Book.{bodies, bodies-cons, in-rangeD, in-rangeAll}

@@ -1,38 +1,33 @@
 -- Where the tables hold the records, the model is the one by places and records.
 use mathlib.Core.Path.{_≡_, refl, sym, ap, _∙_}
-use mathlib.Core.Logic.{_⊎_, inl, inr}
 use mathlib.Core.Bool.{true}
 use mathlib.Core.List.{List, [], _∷_, _++_, append-assoc, append-nil, map}
-use Prim.Native.Nat.{ℕ, zero, suc, _+_, _*_, _-_, _%_, _≤_, _<_, min}
+use Prim.Native.Nat.{ℕ, zero, suc, _+_, _-_, _%_, _≤_, _<_, min}
 use native.Mathlib.Numerals.{add-one, sub-one}
 use native.Mathlib.Omega.{arith}
 use lib.Dec.{eqb·suc-zero}
-use lib.ListN.{length, getD, drop, length-append, length-drop}
+use lib.ListN.{length, getD, drop, length-drop}
 use Rattle.definition.specs.Res.{Maybe, absent, just}
 use Rattle.definition.specs.Tree.{Name, Combinator, plain, chained, Inner, invocation}
 use Rattle.definition.specs.Write.{wU16, wName, wAll, wList, wCombinator, wInner}
 use Rattle.definition.specs.Macros.{innerOf}
-use Rattle.definition.specs.Size.{size, levelsI}
-use Rattle.laws.proofs.Splits.{s-name, s-inner, s-comb}
+use Rattle.laws.proofs.Splits.{s-inner}
 use Rattle.laws.proofs.Sizes.{adds, sizeI}
-use Rattle.seek.specs.Here.{Here}
-use Rattle.seek.proofs.Here.{here-length}
 use Rattle.writer.specs.Buf.{part, nameBytes}
 use Rattle.writer.proofs.Put.{part-none, part-more}
-use Rattle.calls.specs.Walk.{walk, skipAt}
+use Rattle.calls.specs.Walk.{walk}
 use Rattle.calls.proofs.Link.{skipped}
 use Rattle.tables.specs.Rows.{typeAt, rowOf}
 use Rattle.lifting.specs.Records.{Ref, own, passed, Record, find, call}
 use Rattle.lifting.specs.Calls as by-records
 use Rattle.lifting.specs.Calls.{going, withCalls, refAt, refEnd, refBytes, paramBytes}
-use Rattle.lifting.proofs.Ranges.{sizeI-some, size-some}
+use Rattle.lifting.proofs.Ranges.{sizeI-some}
 use Rattle.lifting.proofs.Calls.{calls-end, calls-copy, calls-stretch}
-use Rattle.lifting.proofs.Parts.{Part}
-use Rattle.lifting.proofs.Refs.{AllRefs, WellTyped}
+use Rattle.lifting.proofs.Refs.{AllRefs}
 use Rattle.lifting.proofs.Standing.{Stood}
 use Rattle.result.specs.Model as model
-use Rattle.result.specs.Model.{Tables, row, namesBytes, calledBytes, callBytes, goes, onFrom, spliced, innerEnd, passedBytes, paramsBytes}
-use Rattle.result.specs.Held.{Short, Numbers, Agrees}
+use Rattle.result.specs.Model.{Tables, namesBytes, calledBytes, callBytes, goes, onFrom, spliced, innerEnd, passedBytes, paramsBytes}
+use Rattle.result.specs.Held.{Short, Agrees}
 use Rattle.result.proofs.Levels.{fewI}
 
 -- names and calls

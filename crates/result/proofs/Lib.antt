@@ -4,3 +4,4 @@ pub mod Levels
 pub mod Held
 pub mod Bodies
 pub mod Result
+pub mod Numbered

@@ -1,35 +1,37 @@
 -- The book that is written is document 01's result, where the tables hold the records of the walk over the expanded book.
 use mathlib.Core.Path.{_≡_, refl, sym, ap, _∙_}
-use mathlib.Core.List.{List, [], _∷_, _++_, append-assoc, map}
-use Prim.Native.Nat.{ℕ, zero, suc, _+_, _*_, _%_, _/_, _≤_, _<_}
+use mathlib.Core.List.{List, [], _∷_, _++_, map}
+use Prim.Native.Nat.{ℕ, suc, _+_, _*_, _%_, _/_, _≤_, _<_}
 use native.Mathlib.Omega.{arith}
-use lib.ListN.{length, getD, drop, length-append, length-map}
+use lib.ListN.{length, getD, length-append, length-map}
 use Rattle.definition.specs.Res.{absent, just, ok}
+use Rattle.definition.specs.Out.{Out, done}
+use Rattle.definition.specs.Answer.{Result, all}
 use Rattle.definition.specs.Tree.{Kind, isFormat, Definition}
 use Rattle.definition.specs.Write.{wU16, wAll, wCombinator, wDefinition, kindOf, kindByte, sizeOf, wEntries, wParts, entryOf, wBook}
 use Rattle.definition.specs.Size.{size, sizeBook}
 use Rattle.laws.proofs.Splits.{s-comb}
 use Rattle.laws.proofs.Sizes.{adds, size-book, size-bodies}
 use Rattle.laws.proofs.Steps.{gave}
-use Rattle.seek.specs.At.{byteAt, numberAt}
+use Rattle.seek.specs.At.{numberAt}
 use Rattle.seek.specs.Here.{Here}
-use Rattle.seek.proofs.Here.{here-length, place, past-here, byte-here, number-here}
+use Rattle.seek.proofs.Here.{place, past-here, byte-here, number-here}
 use Rattle.tables.specs.Rows.{rowOf}
 use Rattle.lifting.specs.Records.{Record, find}
 use Rattle.lifting.specs.After.{Lift, definitionOf, outAll, liftsAll, firstAt, AllFound}
 use Rattle.lifting.specs.Calls as by-records
 use Rattle.lifting.specs.Calls.{withCalls, entriesOf, joined, bookOf}
-use Rattle.lifting.specs.Trace.{Trace, treeHead, traceAll, begin, traceBook}
-use Rattle.lifting.specs.Laws.{Traced}
+use Rattle.lifting.specs.Trace.{Trace, treeHead, begin, traceBook, traced}
 use Rattle.lifting.proofs.Ranges.{size-some}
-use Rattle.lifting.proofs.Refs.{AllTyped, WellTyped}
+use Rattle.lifting.proofs.Refs.{AllTyped}
 use Rattle.lifting.proofs.Standing.{Stood, AllWhole}
-use Rattle.lifting.proofs.Book.{bodies, bodies-cons, was-traced}
-use Rattle.lifting.proofs.Written.{WholeD, WholeAll, bodies-stand, written}
+use Rattle.lifting.proofs.Book.{bodies, bodies-cons, elaborated-by, was-traced}
+use Rattle.lifting.proofs.Written.{WholeAll, bodies-stand, written}
 use Rattle.result.specs.Model as model
 use Rattle.result.specs.Model.{Tables, row, Piece, entryBytes, entries, keptFrom, liftedFrom, bookBytes, resultBytes}
-use Rattle.result.specs.Held.{Numbers, Agrees, Held}
-use Rattle.result.proofs.Held.{room, u16-is, spliced-goes, lifted-are}
+use Rattle.result.specs.Held.{Numbers, Agrees, Held, Writes}
+use Rattle.result.specs.Adds.{Filled}
+use Rattle.result.proofs.Held.{room, spliced-goes, lifted-are}
 use Rattle.result.proofs.Bodies.{body-some, of-cons, first-clear, inside-all, types-stood, found-typed}
 
 -- kinds and bytes as definitions of a book
@@ -166,3 +168,12 @@ result-written t order n ds z w e held small =
     let short : length (bookOf (ks ++ ls) (bs ++ cs)) ≤ 65535 = rw (← whole, ← (k .bytes)) small in
     let lens : length (ks ++ ls) ≡ length (bs ++ cs) = length-append ks ls ∙ rw (same, alike) (sym (length-append bs cs)) in
     rw (h .0, kept, lifted, ← long, ← (pieces-append ks bs ls cs same)) (book-is (ks ++ ls) (bs ++ cs) lens short ∙ sym whole)
+
+pub writes : (t : Tables) (order : List ℕ) (n : ℕ) {d d′ : List ℕ} {k : ℕ} → Filled d (resultBytes t order n) d′ k → Writes t order n d d′ k
+unfolding traced
+writes t order n f ds z w r e o held small =
+    let x : Result = record { kept = outAll ds (firstAt ds) (w .records); lifted = map (definitionOf (w .records)) (liftsAll ds (firstAt ds)) } in
+    let y : _≡_ {A = Out Result} (done x) (done r) = sym (elaborated-by ds ∙ rw e) ∙ o in
+    let same : x ≡ r = cc in
+    let b : resultBytes t order n ≡ wBook (all r) = result-written t order n ds z w e held small ∙ ap (λ (q : Result). wBook (all q)) same in
+    rw b at f

@@ -9,10 +9,9 @@ use lib.ListN.{length, take, drop, getD, drop-of-length-le}
 use mathlib.Core.Bool.{Bool, true, false}
 use lib.Dec.{leb}
 use lib.Seq.{take-nil}
-use Rattle.definition.specs.Tree.{Name}
-use Rattle.writer.specs.Buf.{put, after, part, Wrote, nameBytes}
+use Rattle.writer.specs.Buf.{after, part, Wrote, nameBytes}
 use borrow.Author.Tests.{leb-true, leb-false, eq-eqb, ne-eqb}
-use Rattle.writer.proofs.Put.{put-nil, part-none, part-back, part-split}
+use Rattle.writer.proofs.Put.{put-nil, part-back, part-split}
 use Rattle.writer.proofs.Wrote.{place-is, same-length, glue}
 use Rattle.lookup.specs.Name.{nameAt}
 use Rattle.seek.specs.At.{numberAt}

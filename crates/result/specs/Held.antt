@@ -1,15 +1,21 @@
 -- What the naming pass hands over: the tables hold the records of the walk over the expanded book.
 use mathlib.Core.Path.{_≡_}
+use mathlib.Core.Bool.{cond}
 use mathlib.Core.List.{List, [], _∷_, _++_}
-use Prim.Native.Nat.{ℕ, suc, _≤_, _<_}
+use Prim.Native.Nat.{ℕ, zero, suc, _+_, _≤_, _<_}
+use lib.Dec.{eqb}
 use lib.ListN.{length, getD}
-use Rattle.definition.specs.Res.{Maybe, absent, just}
+use Rattle.definition.specs.Res.{Maybe, absent, just, ok}
+use Rattle.definition.specs.Out.{done}
+use Rattle.definition.specs.Lift.{liftBook}
+use Rattle.definition.specs.Answer.{Result, all, outcome}
 use Rattle.definition.specs.Tree.{Name, Definition}
 use Rattle.definition.specs.Write.{wBook}
 use Rattle.lifting.specs.Records.{Record, find}
-use Rattle.lifting.specs.Trace.{Trace}
-use Rattle.tables.specs.Rows.{rowOf}
+use Rattle.lifting.specs.Trace.{Trace, treeHead, traceBook}
+use Rattle.tables.specs.Rows.{Row, rowOf}
 use Rattle.result.specs.Model.{Tables, row}
+use Rattle.result.specs.Adds.{Filled}
 
 -- "a name 255"
 abbrev pub Short : List Name → Type 0
@@ -37,3 +43,24 @@ pub record Held (t : Tables) (order : List ℕ) (n : ℕ) (ds : List Definition)
   pub numbered : (p : ℕ) → p < length (t .book) → Agrees t (find (w .records) p) (getD (t .number) p 0)
   pub count : n ≡ length (w .finished)
   pub ordered : (i : ℕ) → i < n → suc (getD order i 0) ≡ getD (t .number) (getD (w .finished) i 0) 0
+
+-- the same by rows alone -------------------------------------------------------------------------
+
+-- one more than the number of the last row that begins at a place, or 0: so that a table by place takes a new row as it comes
+unfoldable pub later : ℕ → ℕ → ℕ
+later zero k = k
+later (suc m) k = suc m
+
+unfoldable pub lastFrom : List Row → ℕ → ℕ → ℕ
+unfolding later
+lastFrom [] i p = 0
+lastFrom (r ∷ rs) i p = later (lastFrom rs (i + 1) p) (cond (eqb (r .at) p) (i + 1) 0)
+
+abbrev pub AllShort : List Row → Type 0
+AllShort [] = Unit {0}
+AllShort (r ∷ rs) = ((length (r .name) ≤ 255) × Short (r .params)) × AllShort rs
+
+-- d′ is d with document 01's result in its first bytes, and k is the result's length: for every list of definitions whose book and records
+-- the tables hold, where the result is that of codes 7 to 10 and d holds it
+abbrev pub Writes : Tables → List ℕ → ℕ → List ℕ → List ℕ → ℕ → Type 0
+Writes t order n d d′ k = (ds : List Definition) (z : List ℕ) (w : Trace) (r : Result) → traceBook treeHead ds ≡ ok tt w → outcome (liftBook ds) ≡ done r → Held t order n ds z w → w .bytes ≤ 65535 → Filled d (wBook (all r)) d′ k

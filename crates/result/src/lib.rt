@@ -9,15 +9,15 @@ use writer::put_name;
 use writer::put_part;
 use writer::put_u16;
 ghost use mathlib.Core.Path.{_≡_};
-ghost use mathlib.Core.List.{[], _∷_, _++_};
+ghost use mathlib.Core.List.{[], _++_};
 ghost use Prim.Native.Nat.{_+_, _*_, _-_, _≤_, max};
-ghost use lib.ListN.{length, getD, take, drop};
+ghost use lib.ListN.{getD, take, drop};
 ghost use Rattle.definition.specs.Write.{wU16};
 ghost use Rattle.writer.specs.Buf.{Wrote, nameBytes};
 ghost use Rattle.tables.specs.Rows.{rowAt, namesFrom, typesFrom};
-ghost use Rattle.seek.specs.At.{byteAt, numberAt};
-ghost use Rattle.result.specs.Model.{tables, namesBytes, calledBytes, callBytes, spliced, innerEnd, paramName, paramType, typeBytes, paramsBytes, liftedBytes, keptBytes, entryBytes, keptFrom, liftedFrom, resultBytes};
-ghost use Rattle.result.specs.Adds.{Adds, Filled};
+ghost use Rattle.result.specs.Model.{tables, namesBytes, calledBytes, callBytes, spliced, innerEnd, paramName, paramType, typeBytes, paramsBytes, liftedBytes, keptBytes, entryBytes, keptFrom, liftedFrom};
+ghost use Rattle.result.specs.Adds.{Adds};
+ghost use Rattle.result.specs.Held.{Writes};
 
 fn most(x: usize, y: usize) -> usize
     ensures { λ r. ⌜ r ≡ max x y ⌝ }
@@ -100,7 +100,7 @@ fn put_called(
 }
 
 // The call of lift i: its Invocation without a chain.
-pub fn put_call(
+fn put_call(
     s: &[u8],
     names: &[u8],
     rows: &[u16],
@@ -116,7 +116,7 @@ pub fn put_call(
 }
 
 // The bytes from one place up to another, with the range of each lift that begins on the way replaced by its call.
-pub fn put_spliced(
+fn put_spliced(
     s: &[u8],
     names: &[u8],
     rows: &[u16],
@@ -163,7 +163,7 @@ fn inner_end(s: &[u8], at: usize) -> usize
 }
 
 // The type of parameter j: a parameter's own, copied; of a Dependent field its inner, or the Invocation where its combinator is lifted itself.
-pub fn put_type(
+fn put_type(
     s: &[u8],
     names: &[u8],
     rows: &[u16],
@@ -235,7 +235,7 @@ fn put_params(
 }
 
 // The definition of lift i: its name, its parameters, and the combinator moved.
-pub fn put_lifted(
+fn put_lifted(
     s: &[u8],
     names: &[u8],
     rows: &[u16],
@@ -260,7 +260,7 @@ pub fn put_lifted(
 }
 
 // The body of kept definition i.
-pub fn put_kept(
+fn put_kept(
     s: &[u8],
     names: &[u8],
     rows: &[u16],
@@ -389,7 +389,8 @@ fn add_all_lifted(
     o
 }
 
-// The finished book: the expanded book's definitions with their calls, then those of the n lifts.
+// The finished book: the expanded book's definitions with their calls, then those of the n lifts. The contract speaks of tables that the
+// naming pass left; on any others it writes something else, and no more.
 pub fn write_result(
     s: &[u8],
     names: &[u8],
@@ -400,7 +401,7 @@ pub fn write_result(
     n: u16,
     out: &mut [u8],
 ) -> usize
-    ensures { λ r. ⌜ Filled (now (out .entry)) (resultBytes (tables (now (s .entry)) (now (names .entry)) (now (rows .entry)) (now (params .entry)) (now (number .entry))) (now (order .entry)) n) (now (out .exit)) r ⌝ }
+    ensures { λ r. ⌜ Writes (tables (now (s .entry)) (now (names .entry)) (now (rows .entry)) (now (params .entry)) (now (number .entry))) (now (order .entry)) n (now (out .entry)) (now (out .exit)) r ⌝ }
 {
     let kept = seek::number(s, 0);
     let all = (kept as usize) + (n as usize);

@@ -1,6 +1,7 @@
 -- `result::write_result` meets its contract.
 -- Assumes nothing.
 use Rattle.result.proofs.Adds.{result-is}
+use Rattle.result.proofs.Result.{writes}
 use borrow.Author.Needs.{needs}
 use Rattle.result.proofs.write_result.Statement.{statement}
 use Rattle.result.proofs.write_result.Tie as tie
@@ -36,7 +37,7 @@ same-length : tie.Need-same-length
 same-length c = search needs
 
 returns : tie.Need-returns
-returns c = result-is _ _ _ _ (c .before .before .before .before .before .before .before .before .before .before .before .before .number .ensures) (c .before .before .before .before .before .before .before .before .before .before .put-u16 .ensures) (c .before .before .before .before .before .before .add-all-kept .ensures) (c .before .before .add-all-lifted .ensures)
+returns c = writes _ _ _ (result-is _ _ _ _ (c .before .before .before .before .before .before .before .before .before .before .before .before .number .ensures) (c .before .before .before .before .before .before .before .before .before .before .put-u16 .ensures) (c .before .before .before .before .before .before .add-all-kept .ensures) (c .before .before .add-all-lifted .ensures))
 
 pub write-result-spec : {M : Type 1} → statement M
 write-result-spec =
