@@ -27,8 +27,23 @@ use Rattle.lifting.proofs.Refs.{AllRefs}
 use Rattle.lifting.proofs.Standing.{Stood}
 use Rattle.result.specs.Model as model
 use Rattle.result.specs.Model.{Tables, namesBytes, calledBytes, callBytes, goes, onFrom, spliced, innerEnd, passedBytes, paramsBytes}
-use Rattle.result.specs.Held.{Short, Agrees}
+use Rattle.result.specs.Held.{Numbers}
 use Rattle.result.proofs.Levels.{fewI}
+
+-- "a name 255"
+abbrev pub Short : List Name → Type 0
+Short [] = Unit {0}
+Short (n ∷ ns) = (length n ≤ 255) × Short ns
+
+-- k is one more than the number of this record's row, and its names are short
+pub record Known (t : Tables) (r : Record) (k : ℕ) : Type 0 where
+  pub numbers : Numbers t r k
+  pub named : length (r .name) ≤ 255
+  pub needed : Short (r .params)
+
+abbrev pub Knows : Tables → Maybe Record → ℕ → Type 0
+Knows t absent k = k ≡ 0
+Knows t (just r) k = Known t r k
 
 -- names and calls
 pub name-is : (n y : List ℕ) → length n ≤ 255 → nameBytes n ++ y ≡ wName n y
@@ -62,12 +77,12 @@ one-byte s p h = rw (← (add-one p)) (part-more p p s (omega arith) h ∙ rw (p
 pub room : (s : List ℕ) (p : ℕ) (l : List ℕ) → drop p s ≡ l → 0 < length l → p + length l ≡ length s
 room s p l e h = let a : length s - p ≡ length l = sym (length-drop p s) ∙ ap length e in omega arith
 
-module _ (t : Tables) (rs : List Record) (agree : (p : ℕ) → p < length (t .book) → Agrees t (find rs p) (getD (t .number) p 0)) where
-  placed-is : (at : ℕ) (m : Maybe Record) (k : ℕ) → at < length (t .book) → Agrees t m k → (f g : ℕ → List ℕ) → ((l : ℕ) → f l ≡ g l)
+module _ (t : Tables) (rs : List Record) (agree : (p : ℕ) → p < length (t .book) → Knows t (find rs p) (getD (t .number) p 0)) where
+  placed-is : (at : ℕ) (m : Maybe Record) (k : ℕ) → at < length (t .book) → Knows t m k → (f g : ℕ → List ℕ) → ((l : ℕ) → f l ≡ g l)
       → model.placed t k at f ≡ by-records.placed m at (getD (t .book) at 0) g
   unfolding model.placed by-records.placed
   placed-is at absent k h a f g e = rw (a, one-byte (t .book) at h, e 0)
-  placed-is at (just r) k h a f g e = rw (a .is, a .holds, e (r .end - suc at)) (call-is r (g (r .end - suc at)) (a .named) (a .needed))
+  placed-is at (just r) k h a f g e = rw (a .numbers .is, a .numbers .holds, e (r .end - suc at)) (call-is r (g (r .end - suc at)) (a .named) (a .needed))
 
   goes-is : (n at left : ℕ) → at + n ≤ length (t .book) → goes t n at left ≡ going (t .book) rs n at left
   unfolding goes going
@@ -100,11 +115,11 @@ module _ (t : Tables) (rs : List Record) (agree : (p : ℕ) → p < length (t .b
     inner-at (plain i) p z e = end-is i p (0 ∷ z) e
     inner-at (chained i c) p z e = end-is i p (1 ∷ wCombinator c z) e
 
-    passed-is : (p e : ℕ) (m : Maybe Record) (k : ℕ) → find rs p ≡ m → Agrees t m k → innerEnd (t .book) p ≡ e → p < e → e ≤ length (t .book)
+    passed-is : (p e : ℕ) (m : Maybe Record) (k : ℕ) → find rs p ≡ m → Knows t m k → innerEnd (t .book) p ≡ e → p < e → e ≤ length (t .book)
         → passedBytes t p k ≡ by-records.typeBytes m (withCalls (t .book) rs p e)
     unfolding passedBytes by-records.typeBytes
     passed-is p e absent k f a g h j = rw (a, g) (spliced-goes p e h j f)
-    passed-is p e (just r) k f a g h j = rw (a .is, eqb·suc-zero, sub-one, a .holds) (sym (append-nil (calledBytes (rowOf r))) ∙ called-are r [] (a .named) (a .needed))
+    passed-is p e (just r) k f a g h j = rw (a .numbers .is, eqb·suc-zero, sub-one, a .numbers .holds) (sym (append-nil (calledBytes (rowOf r))) ∙ called-are r [] (a .named) (a .needed))
 
     type-is : (q : Ref) → Stood (t .book) rs q → model.typeBytes t (typeAt q) ≡ refBytes (t .book) rs q
     unfolding model.typeBytes refBytes refAt refEnd by-records.typeBytes

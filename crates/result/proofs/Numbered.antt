@@ -11,7 +11,7 @@ use Rattle.definition.specs.Res.{Maybe, absent, just}
 use Rattle.lifting.specs.Records.{Record, orElse, find}
 use Rattle.tables.specs.Rows.{Row, rowOf, rowsOf}
 use Rattle.result.specs.Model.{Tables, row}
-use Rattle.result.specs.Held.{Agrees, later, lastFrom, AllShort}
+use Rattle.result.specs.Held.{Agrees, later, lastFrom}
 
 -- one row more
 pub last-snoc : (rs : List Row) (r : Row) (i p : ℕ) → lastFrom (rs ++ (r ∷ [])) i p ≡ cond (eqb (r .at) p) (i + length rs + 1) (lastFrom rs i p)
@@ -46,20 +46,20 @@ module _ (t : Tables) where
   rows-from zero = refl
   rows-from (suc n) = let e : n ≡ 0 + n = omega arith in rw (rows-from n) (ap (λ (m : ℕ). rowsFrom 0 n ++ (row t m ∷ [])) e ∙ from-snoc 0 n)
 
-  agree-from : (rs : List Record) (i n p : ℕ) → map rowOf rs ≡ rowsFrom i n → AllShort (map rowOf rs) → Agrees t (find rs p) (lastFrom (map rowOf rs) i p)
+  agree-from : (rs : List Record) (i n p : ℕ) → map rowOf rs ≡ rowsFrom i n → Agrees t (find rs p) (lastFrom (map rowOf rs) i p)
   unfolding rowsFrom find lastFrom
-  agree-from [] i n p e h = refl
-  agree-from (r ∷ rs) i zero p e h = let z : _≡_ {A = ℕ} 0 1 = cc in absurd (omega arith)
-  agree-from (r ∷ rs) i (suc n) p e h =
+  agree-from [] i n p e = refl
+  agree-from (r ∷ rs) i zero p e = let z : _≡_ {A = ℕ} 0 1 = cc in absurd (omega arith)
+  agree-from (r ∷ rs) i (suc n) p e =
       let a : rowOf r ≡ row t i = cc in
       let b : map rowOf rs ≡ rowsFrom (i + 1) n = cc in
-      step (find rs p) (lastFrom (map rowOf rs) (i + 1) p) (eqb (r .at) p) (sym a) (agree-from rs (i + 1) n p b (h .1))
+      step (find rs p) (lastFrom (map rowOf rs) (i + 1) p) (eqb (r .at) p) (sym a) (agree-from rs (i + 1) n p b)
     where
       step : (m : Maybe Record) (k : ℕ) (b : Bool) → row t i ≡ rowOf r → Agrees t m k → Agrees t (orElse m (cond b (just r) absent)) (later k (cond b (i + 1) 0))
-      step (just q) k b g a = record { of = a .of; is = rw (a .is); holds = a .holds; named = a .named; needed = a .needed }
-      step absent k true g a = record { of = i; is = rw a (add-one i); holds = g; named = h .0 .0; needed = h .0 .1 }
+      step (just q) k b g a = record { of = a .of; is = rw (a .is); holds = a .holds }
+      step absent k true g a = record { of = i; is = rw a (add-one i); holds = g }
       step absent k false g a = rw a
 
-  pub numbered-by : (rs : List Record) (n : ℕ) → rowsOf (t .book) (t .names) (t .rows) (t .params) n ≡ map rowOf rs → AllShort (map rowOf rs)
+  pub numbered-by : (rs : List Record) (n : ℕ) → rowsOf (t .book) (t .names) (t .rows) (t .params) n ≡ map rowOf rs
       → ((p : ℕ) → p < length (t .book) → getD (t .number) p 0 ≡ lastFrom (map rowOf rs) 0 p) → (p : ℕ) → p < length (t .book) → Agrees t (find rs p) (getD (t .number) p 0)
-  numbered-by rs n e h g p b = rw (g p b) (agree-from rs 0 n p (sym e ∙ rows-from n) h)
+  numbered-by rs n e g p b = rw (g p b) (agree-from rs 0 n p (sym e ∙ rows-from n))

@@ -9,26 +9,20 @@ use Rattle.definition.specs.Res.{Maybe, absent, just, ok}
 use Rattle.definition.specs.Out.{done}
 use Rattle.definition.specs.Lift.{liftBook}
 use Rattle.definition.specs.Answer.{Result, all, outcome}
-use Rattle.definition.specs.Tree.{Name, Definition}
+use Rattle.definition.specs.Tree.{Definition}
 use Rattle.definition.specs.Write.{wBook}
+use Rattle.laws.specs.Book.{IsBook}
 use Rattle.lifting.specs.Records.{Record, find}
 use Rattle.lifting.specs.Trace.{Trace, treeHead, traceBook}
 use Rattle.tables.specs.Rows.{Row, rowOf}
 use Rattle.result.specs.Model.{Tables, row}
 use Rattle.result.specs.Adds.{Filled}
 
--- "a name 255"
-abbrev pub Short : List Name → Type 0
-Short [] = Unit {0}
-Short (n ∷ ns) = (length n ≤ 255) × Short ns
-
 -- k is one more than the number of a row that is this record's
 pub record Numbers (t : Tables) (r : Record) (k : ℕ) : Type 0 where
   pub of : ℕ
   pub is : k ≡ suc of
   pub holds : row t of ≡ rowOf r
-  pub named : length (r .name) ≤ 255
-  pub needed : Short (r .params)
 
 -- 0 where no record stands
 abbrev pub Agrees : Tables → Maybe Record → ℕ → Type 0
@@ -56,11 +50,7 @@ unfolding later
 lastFrom [] i p = 0
 lastFrom (r ∷ rs) i p = later (lastFrom rs (i + 1) p) (cond (eqb (r .at) p) (i + 1) 0)
 
-abbrev pub AllShort : List Row → Type 0
-AllShort [] = Unit {0}
-AllShort (r ∷ rs) = ((length (r .name) ≤ 255) × Short (r .params)) × AllShort rs
-
 -- d′ is d with document 01's result in its first bytes, and k is the result's length: for every list of definitions whose book and records
--- the tables hold, where the result is that of codes 7 to 10 and d holds it
+-- the tables hold, where the result is that of codes 7 to 10, a book (the laws say so), and d holds it
 abbrev pub Writes : Tables → List ℕ → ℕ → List ℕ → List ℕ → ℕ → Type 0
-Writes t order n d d′ k = (ds : List Definition) (z : List ℕ) (w : Trace) (r : Result) → traceBook treeHead ds ≡ ok tt w → outcome (liftBook ds) ≡ done r → Held t order n ds z w → w .bytes ≤ 65535 → Filled d (wBook (all r)) d′ k
+Writes t order n d d′ k = (ds : List Definition) (z : List ℕ) (w : Trace) (r : Result) → traceBook treeHead ds ≡ ok tt w → outcome (liftBook ds) ≡ done r → IsBook (all r) → Held t order n ds z w → Filled d (wBook (all r)) d′ k
