@@ -1,0 +1,7 @@
+pub mod Steps
+pub mod Adds
+pub mod Levels
+pub mod Held
+pub mod Bodies
+pub mod Result
+pub mod Numbered

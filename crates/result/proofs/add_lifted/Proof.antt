@@ -1,0 +1,35 @@
+-- `result::add_lifted` meets its contract.
+-- Assumes nothing.
+use Rattle.result.proofs.Adds.{adds-one, adds-as, lifted-of}
+use borrow.Author.Needs.{needs}
+use Rattle.result.proofs.add_lifted.Statement.{statement}
+use Rattle.result.proofs.add_lifted.Tie as tie
+
+entry-requires : tie.Need-entry-requires
+entry-requires c κs = search needs
+
+put-lifted-requires : tie.Need-put-lifted-requires
+put-lifted-requires c κs = search needs
+
+add-at : tie.Need-add-at
+add-at c = search needs
+
+put-entry-requires : tie.Need-put-entry-requires
+put-entry-requires c κs = search needs
+
+same-length : tie.Need-same-length
+same-length c = search needs
+
+returns : tie.Need-returns
+returns c = adds-as (lifted-of _ _ _ _ (c .before .before .before .before .before .before .before .before .entry .ensures)) (adds-one (c .before .before .before .before .before .before .put-lifted .ensures) (c .before .before .put-entry .ensures))
+
+pub add-lifted-spec : {M : Type 1} → statement M
+add-lifted-spec =
+    tie.close
+    (tie.spec
+    entry-requires
+    put-lifted-requires
+    add-at
+    put-entry-requires
+    same-length
+    returns)

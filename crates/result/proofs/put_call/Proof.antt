@@ -1,0 +1,29 @@
+-- `result::put_call` meets its contract.
+-- Assumes nothing.
+use Rattle.writer.proofs.Wrote.{glue}
+use Rattle.result.specs.Model.{callBytes}
+use borrow.Author.Needs.{needs}
+use Rattle.result.proofs.put_call.Statement.{statement}
+use Rattle.result.proofs.put_call.Tie as tie
+
+put-called-requires : tie.Need-put-called-requires
+put-called-requires c κs = search needs
+
+put-byte-requires : tie.Need-put-byte-requires
+put-byte-requires c κs = search needs
+
+same-length : tie.Need-same-length
+same-length c = search needs
+
+returns : tie.Need-returns
+unfolding callBytes
+returns c = glue (c .before .before .before .before .before .before .put-called .ensures) (c .before .before .put-byte .ensures)
+
+pub put-call-spec : {M : Type 1} → statement M
+put-call-spec =
+    tie.close
+    (tie.spec
+    put-called-requires
+    put-byte-requires
+    same-length
+    returns)

@@ -1,0 +1,126 @@
+-- What the writing pass writes, from the expanded book and the tables of the naming pass: total on any bytes and any numbers.
+-- That it is document 01's result where the tables are those of the book is shown in proofs/Result.antt.
+use mathlib.Core.Bool.{Bool, true, false}
+use mathlib.Core.List.{List, [], _∷_, _++_}
+use Prim.Native.Nat.{ℕ, zero, suc, _+_, _*_, _-_, _%_, min}
+use lib.Dec.{eqb}
+use lib.ListN.{length, take, drop, getD}
+use Rattle.definition.specs.Tree.{Name}
+use Rattle.definition.specs.Write.{wU16}
+use Rattle.writer.specs.Buf.{part, nameBytes}
+use Rattle.seek.specs.At.{byteAt, numberAt}
+use Rattle.calls.specs.Walk.{walk, skipAt}
+use Rattle.tables.specs.Rows.{TypeAt, Row, rowAt}
+
+abbrev pub pick : {A : Type 0} → Bool → A → A → A
+pick true a b = a
+pick false a b = b
+
+-- the expanded book and the tables
+pub record Tables : Type 0 where
+  pub book : List ℕ
+  pub names : List ℕ
+  pub rows : List ℕ
+  pub params : List ℕ
+  pub number : List ℕ
+
+abbrev pub tables : List ℕ → List ℕ → List ℕ → List ℕ → List ℕ → Tables
+tables s names rows params number = record { book = s; names = names; rows = rows; params = params; number = number }
+
+abbrev pub row : Tables → ℕ → Row
+row t i = rowAt (t .book) (t .names) (t .rows) (t .params) i
+
+unfoldable pub namesBytes : List Name → List ℕ
+namesBytes [] = []
+namesBytes (n ∷ ns) = nameBytes n ++ namesBytes ns
+
+-- "15 Invocation: name, u16 count, arguments"
+unfoldable pub calledBytes : Row → List ℕ
+calledBytes r = (15 ∷ []) ++ (nameBytes (r .name) ++ (wU16 (length (r .params)) [] ++ namesBytes (r .params)))
+
+-- "replaced by a call without a chain"
+unfoldable pub callBytes : Row → List ℕ
+callBytes r = calledBytes r ++ (0 ∷ [])
+
+-- the byte at a place, or the call of the lift that begins there; `on` goes on after leaving out so many places
+unfoldable pub placed : Tables → ℕ → ℕ → (ℕ → List ℕ) → List ℕ
+placed t zero at on = part at (suc at) (t .book) ++ on 0
+placed t (suc i) at on = callBytes (row t i) ++ on (row t i .end - suc at)
+
+-- n places from `at` on, the first of them left out
+unfoldable pub goes : Tables → ℕ → ℕ → ℕ → List ℕ
+goes t zero at left = []
+goes t (suc n) at (suc left) = goes t n (suc at) left
+goes t (suc n) at zero = placed t (getD (t .number) at 0) at (λ left. goes t n (suc at) left)
+
+unfoldable pub onFrom : Tables → ℕ → ℕ → List ℕ
+onFrom t from to = goes t (to - from) from 0
+
+-- a range with the range of each lift that begins in it replaced by its call. The first place is not looked up: a lifted body begins at its own
+unfoldable pub spliced : Tables → ℕ → ℕ → List ℕ
+spliced t from to = part from (min (suc from) to) (t .book) ++ onFrom t (suc from) to
+
+-- where an inner ends. It has fewer levels than bytes
+unfoldable pub innerEnd : List ℕ → ℕ → ℕ
+innerEnd s at = skipAt (length s) s (walk at 0 0 true) (0 ∷ []) .0 .at
+
+-- "types as they stand after lifting, without chain": of a Dependent field whose combinator is lifted itself, the call
+unfoldable pub passedBytes : Tables → ℕ → ℕ → List ℕ
+passedBytes t at k = pick (eqb k 0) (spliced t at (innerEnd (t .book) at)) (calledBytes (row t (k - 1)))
+
+unfoldable pub typeBytes : Tables → TypeAt → List ℕ
+typeBytes t x = pick (x .own) (part (x .at) (innerEnd (t .book) (x .at)) (t .book)) (passedBytes t (x .at) (getD (t .number) (x .at) 0))
+
+-- the name of parameter j, and where its type stands
+abbrev pub paramName : List ℕ → List ℕ → ℕ → Name
+paramName s params j = take (getD params (4 * j + 1) 0) (drop (getD params (4 * j) 0) s)
+
+abbrev pub paramType : List ℕ → ℕ → TypeAt
+paramType params j = record { own = eqb (getD params (4 * j + 3) 0) 1; at = getD params (4 * j + 2) 0 }
+
+unfoldable pub paramsBytes : Tables → List Name → List TypeAt → List ℕ
+paramsBytes t [] xs = []
+paramsBytes t (n ∷ ns) [] = []
+paramsBytes t (n ∷ ns) (x ∷ xs) = (nameBytes n ++ typeBytes t x) ++ paramsBytes t ns xs
+
+-- "1 format: name, u16 count of parameters, each name + inner; combinator"
+unfoldable pub liftedBytes : Tables → Row → List ℕ
+liftedBytes t r = nameBytes (r .name) ++ ((wU16 (length (r .params)) [] ++ paramsBytes t (r .params) (r .types)) ++ spliced t (r .at) (r .end))
+
+-- the body of kept definition i: entry i says where it stands. No lift begins in a format's head, nor in another body
+unfoldable pub keptBytes : Tables → ℕ → List ℕ
+keptBytes t i = spliced t (numberAt (t .book) (2 + 6 * i + 2)) (numberAt (t .book) (2 + 6 * i + 2) + numberAt (t .book) (2 + 6 * i + 4))
+
+-- a definition as a book holds it
+pub record Piece : Type 0 where
+  pub kind : ℕ
+  pub bytes : List ℕ
+
+-- "entries of 6 bytes: kind, a zero byte, u16 offset, u16 length"
+unfoldable pub entryBytes : ℕ → ℕ → ℕ → List ℕ
+entryBytes kind at n = (kind ∷ []) ++ ((0 ∷ []) ++ (wU16 (at % 65536) [] ++ wU16 (n % 65536) []))
+
+unfoldable pub entries : ℕ → List Piece → List ℕ
+entries at [] = []
+entries at (p ∷ ps) = entryBytes (p .kind) at (length (p .bytes)) ++ entries (at + length (p .bytes)) ps
+
+unfoldable pub bodies : List Piece → List ℕ
+bodies [] = []
+bodies (p ∷ ps) = p .bytes ++ bodies ps
+
+-- n kept definitions from number i on
+unfoldable pub keptFrom : Tables → ℕ → ℕ → List Piece
+keptFrom t i zero = []
+keptFrom t i (suc n) = record { kind = byteAt (t .book) (2 + 6 * i); bytes = keptBytes t i } ∷ keptFrom t (suc i) n
+
+-- n lifted ones, from the i-th in the order of their definitions on
+unfoldable pub liftedFrom : Tables → List ℕ → ℕ → ℕ → List Piece
+liftedFrom t order i zero = []
+liftedFrom t order i (suc n) = record { kind = 1; bytes = liftedBytes t (row t (getD order i 0)) } ∷ liftedFrom t order (suc i) n
+
+-- "Contents first .. Then the bodies in the same order, with no gap"
+unfoldable pub bookBytes : ℕ → List Piece → List ℕ
+bookBytes n ps = wU16 (n % 65536) [] ++ (entries (2 + 6 * n) ps ++ bodies ps)
+
+unfoldable pub resultBytes : Tables → List ℕ → ℕ → List ℕ
+resultBytes t order n = bookBytes (numberAt (t .book) 0 + n) (keptFrom t 0 (numberAt (t .book) 0) ++ liftedFrom t order 0 n)

@@ -1,0 +1,411 @@
+// The writing pass: the finished book from the expanded book and the tables that the naming pass leaves. It goes in layout order, writes each
+// body once at its final place, and cannot fail: every function is total on any bytes and any numbers.
+use calls::Walk;
+use calls::skip_inner;
+use lookup::name_at;
+use seek::byte;
+use writer::put_byte;
+use writer::put_name;
+use writer::put_part;
+use writer::put_u16;
+ghost use mathlib.Core.Path.{_≡_};
+ghost use mathlib.Core.List.{[], _++_};
+ghost use Prim.Native.Nat.{_+_, _*_, _-_, _≤_, max};
+ghost use lib.ListN.{getD, take, drop};
+ghost use Rattle.definition.specs.Write.{wU16};
+ghost use Rattle.writer.specs.Buf.{Wrote, nameBytes};
+ghost use Rattle.tables.specs.Rows.{rowAt, namesFrom, typesFrom};
+ghost use Rattle.result.specs.Model.{tables, namesBytes, calledBytes, callBytes, spliced, innerEnd, paramName, paramType, typeBytes, paramsBytes, liftedBytes, keptBytes, entryBytes, keptFrom, liftedFrom};
+ghost use Rattle.result.specs.Adds.{Adds};
+ghost use Rattle.result.specs.Held.{Writes};
+
+fn most(x: usize, y: usize) -> usize
+    ensures { λ r. ⌜ r ≡ max x y ⌝ }
+{
+    if x < y {
+        return y;
+    }
+    x
+}
+
+// The number at a place of a table, 0 past its end.
+fn entry(table: &[u16], at: usize) -> u16
+    ensures { λ r. ⌜ r ≡ getD (now (table .entry)) at 0 ⌝ }
+{
+    if at < table.len() {
+        return table[at];
+    }
+    0
+}
+
+// The n bytes from a place on, as far as s reaches.
+fn bytes_at(s: &[u8], at: usize, n: usize) -> &[u8]
+    ensures { λ r. ⌜ now r ≡ take n (drop at (now (s .entry))) ⌝ }
+{
+    if s.len() <= at {
+        return &s[..0];
+    }
+    if s.len() - at <= n {
+        return &s[at..];
+    }
+    &s[at..at + n]
+}
+
+// The name of parameter j.
+fn param_name<'a>(s: &'a [u8], params: &[u16], j: usize) -> &'a [u8]
+    requires { ⌜ j ≤ 131070 ⌝ }
+    ensures { λ r. ⌜ now r ≡ paramName (now (s .entry)) (now (params .entry)) j ⌝ }
+{
+    let at = entry(params, 4 * j);
+    let n = entry(params, 4 * j + 1);
+    bytes_at(s, at as usize, n as usize)
+}
+
+// A count, and the names of as many parameters.
+fn put_names(s: &[u8], params: &[u16], first: u16, count: u16, out: &mut [u8], at: usize) -> usize
+    ensures { λ r. ⌜ Wrote (now (out .entry)) at (wU16 count [] ++ namesBytes (namesFrom (now (s .entry)) (now (params .entry)) first count)) (now (out .exit)) r ⌝ }
+{
+    let mut left = count;
+    let mut j = first as usize;
+    let mut o = put_u16(count, out, at);
+    while 0 < left {
+        let name = param_name(s, params, j);
+        o = put_name(name, out, o);
+        j += 1;
+        left -= 1;
+    }
+    o
+}
+
+// The Invocation of lift i.
+fn put_called(
+    s: &[u8],
+    names: &[u8],
+    rows: &[u16],
+    params: &[u16],
+    i: u16,
+    out: &mut [u8],
+    at: usize,
+) -> usize
+    ensures { λ r. ⌜ Wrote (now (out .entry)) at (calledBytes (rowAt (now (s .entry)) (now (names .entry)) (now (rows .entry)) (now (params .entry)) i)) (now (out .exit)) r ⌝ }
+{
+    let base = 5 * (i as usize);
+    let place = entry(rows, base + 2);
+    let first = entry(rows, base + 3);
+    let count = entry(rows, base + 4);
+    let name = name_at(names, place as usize);
+    let a = put_byte(15, out, at);
+    let b = put_name(name, out, a);
+    put_names(s, params, first, count, out, b)
+}
+
+// The call of lift i: its Invocation without a chain.
+fn put_call(
+    s: &[u8],
+    names: &[u8],
+    rows: &[u16],
+    params: &[u16],
+    i: u16,
+    out: &mut [u8],
+    at: usize,
+) -> usize
+    ensures { λ r. ⌜ Wrote (now (out .entry)) at (callBytes (rowAt (now (s .entry)) (now (names .entry)) (now (rows .entry)) (now (params .entry)) i)) (now (out .exit)) r ⌝ }
+{
+    let a = put_called(s, names, rows, params, i, out, at);
+    put_byte(0, out, a)
+}
+
+// The bytes from one place up to another, with the range of each lift that begins on the way replaced by its call.
+fn put_spliced(
+    s: &[u8],
+    names: &[u8],
+    rows: &[u16],
+    params: &[u16],
+    number: &[u16],
+    from: u16,
+    to: usize,
+    out: &mut [u8],
+    at: usize,
+) -> usize
+    ensures { λ r. ⌜ Wrote (now (out .entry)) at (spliced (tables (now (s .entry)) (now (names .entry)) (now (rows .entry)) (now (params .entry)) (now (number .entry))) from to) (now (out .exit)) r ⌝ }
+{
+    let mut gap = from as usize;
+    let mut p = gap + 1;
+    let mut o = at;
+    while p < to {
+        let k = entry(number, p);
+        if k == 0 {
+            p += 1;
+            continue;
+        }
+        let a = put_part(s, gap, p, out, o);
+        o = put_call(s, names, rows, params, k - 1, out, a);
+        let end = entry(rows, 5 * ((k - 1) as usize) + 1);
+        p = most(end as usize, p + 1);
+        gap = p;
+    }
+    put_part(s, gap, to, out, o)
+}
+
+// Where the inner at a place ends. It has fewer levels than bytes.
+fn inner_end(s: &[u8], at: usize) -> usize
+    ensures { λ r. ⌜ r ≡ innerEnd (now (s .entry)) at ⌝ }
+{
+    let mut marks = [0u16; 1];
+    let w = Walk {
+        at,
+        n: 0,
+        left: 0,
+        plain: true,
+    };
+    let u = skip_inner(s, w, s.len(), &mut marks);
+    u.at
+}
+
+// The type of parameter j: a parameter's own, copied; of a Dependent field its inner, or the Invocation where its combinator is lifted itself.
+fn put_type(
+    s: &[u8],
+    names: &[u8],
+    rows: &[u16],
+    params: &[u16],
+    number: &[u16],
+    j: usize,
+    out: &mut [u8],
+    at: usize,
+) -> usize
+    requires { ⌜ j ≤ 131070 ⌝ }
+    ensures { λ r. ⌜ Wrote (now (out .entry)) at (typeBytes (tables (now (s .entry)) (now (names .entry)) (now (rows .entry)) (now (params .entry)) (now (number .entry))) (paramType (now (params .entry)) j)) (now (out .exit)) r ⌝ }
+{
+    let from = entry(params, 4 * j + 2);
+    let own = entry(params, 4 * j + 3);
+    if own == 1 {
+        let to = inner_end(s, from as usize);
+        return put_part(s, from as usize, to, out, at);
+    }
+    let k = entry(number, from as usize);
+    if k == 0 {
+        let end = inner_end(s, from as usize);
+        return put_spliced(s, names, rows, params, number, from, end, out, at);
+    }
+    put_called(s, names, rows, params, k - 1, out, at)
+}
+
+// Parameter j: its name and its type.
+fn put_param(
+    s: &[u8],
+    names: &[u8],
+    rows: &[u16],
+    params: &[u16],
+    number: &[u16],
+    j: usize,
+    out: &mut [u8],
+    at: usize,
+) -> usize
+    requires { ⌜ j ≤ 131070 ⌝ }
+    ensures { λ r. ⌜ Wrote (now (out .entry)) at (nameBytes (paramName (now (s .entry)) (now (params .entry)) j) ++ typeBytes (tables (now (s .entry)) (now (names .entry)) (now (rows .entry)) (now (params .entry)) (now (number .entry))) (paramType (now (params .entry)) j)) (now (out .exit)) r ⌝ }
+{
+    let name = param_name(s, params, j);
+    let a = put_name(name, out, at);
+    put_type(s, names, rows, params, number, j, out, a)
+}
+
+// A count, and as many parameters.
+fn put_params(
+    s: &[u8],
+    names: &[u8],
+    rows: &[u16],
+    params: &[u16],
+    number: &[u16],
+    first: u16,
+    count: u16,
+    out: &mut [u8],
+    at: usize,
+) -> usize
+    ensures { λ r. ⌜ Wrote (now (out .entry)) at (wU16 count [] ++ paramsBytes (tables (now (s .entry)) (now (names .entry)) (now (rows .entry)) (now (params .entry)) (now (number .entry))) (namesFrom (now (s .entry)) (now (params .entry)) first count) (typesFrom (now (params .entry)) first count)) (now (out .exit)) r ⌝ }
+{
+    let mut left = count;
+    let mut j = first as usize;
+    let mut o = put_u16(count, out, at);
+    while 0 < left {
+        o = put_param(s, names, rows, params, number, j, out, o);
+        j += 1;
+        left -= 1;
+    }
+    o
+}
+
+// The definition of lift i: its name, its parameters, and the combinator moved.
+fn put_lifted(
+    s: &[u8],
+    names: &[u8],
+    rows: &[u16],
+    params: &[u16],
+    number: &[u16],
+    i: u16,
+    out: &mut [u8],
+    at: usize,
+) -> usize
+    ensures { λ r. ⌜ Wrote (now (out .entry)) at (liftedBytes (tables (now (s .entry)) (now (names .entry)) (now (rows .entry)) (now (params .entry)) (now (number .entry))) (rowAt (now (s .entry)) (now (names .entry)) (now (rows .entry)) (now (params .entry)) i)) (now (out .exit)) r ⌝ }
+{
+    let base = 5 * (i as usize);
+    let from = entry(rows, base);
+    let to = entry(rows, base + 1);
+    let place = entry(rows, base + 2);
+    let first = entry(rows, base + 3);
+    let count = entry(rows, base + 4);
+    let name = name_at(names, place as usize);
+    let a = put_name(name, out, at);
+    let b = put_params(s, names, rows, params, number, first, count, out, a);
+    put_spliced(s, names, rows, params, number, from, to as usize, out, b)
+}
+
+// The body of kept definition i.
+fn put_kept(
+    s: &[u8],
+    names: &[u8],
+    rows: &[u16],
+    params: &[u16],
+    number: &[u16],
+    i: u16,
+    out: &mut [u8],
+    at: usize,
+) -> usize
+    ensures { λ r. ⌜ Wrote (now (out .entry)) at (keptBytes (tables (now (s .entry)) (now (names .entry)) (now (rows .entry)) (now (params .entry)) (now (number .entry))) i) (now (out .exit)) r ⌝ }
+{
+    let base = 2 + 6 * (i as usize);
+    let from = seek::number(s, base + 2);
+    let n = seek::number(s, base + 4);
+    let to = (from as usize) + (n as usize);
+    put_spliced(s, names, rows, params, number, from, to, out, at)
+}
+
+// How much x is over y.
+fn over(x: usize, y: usize) -> usize
+    ensures { λ r. ⌜ r ≡ x - y ⌝ }
+{
+    if x < y {
+        return 0;
+    }
+    x - y
+}
+
+// Entry i of the contents: the body stands from one place up to another.
+fn put_entry(kind: u8, from: usize, to: usize, i: usize, out: &mut [u8]) -> usize
+    requires { ⌜ i ≤ 131070 ⌝ }
+    ensures { λ r. ⌜ Wrote (now (out .entry)) (2 + 6 * i) (entryBytes kind from (to - from)) (now (out .exit)) r ⌝ }
+{
+    let n = over(to, from);
+    let at = 2 + 6 * i;
+    let a = put_byte(kind, out, at);
+    let b = put_byte(0, out, a);
+    let e = put_u16((from % 65536) as u16, out, b);
+    put_u16((n % 65536) as u16, out, e)
+}
+
+// Kept definition i, its body at o: body and entry.
+fn add_kept(
+    s: &[u8],
+    names: &[u8],
+    rows: &[u16],
+    params: &[u16],
+    number: &[u16],
+    i: u16,
+    out: &mut [u8],
+    o: usize,
+) -> usize
+    ensures { λ r. ⌜ Adds (now (out .entry)) i o (keptFrom (tables (now (s .entry)) (now (names .entry)) (now (rows .entry)) (now (params .entry)) (now (number .entry))) i 1) (now (out .exit)) r ⌝ }
+{
+    let kind = byte(s, 2 + 6 * (i as usize));
+    let end = put_kept(s, names, rows, params, number, i, out, o);
+    put_entry(kind, o, end, i as usize, out);
+    end
+}
+
+// The definition of the i-th lift of `order`, its entry behind `kept` others, its body at o.
+fn add_lifted(
+    s: &[u8],
+    names: &[u8],
+    rows: &[u16],
+    params: &[u16],
+    number: &[u16],
+    order: &[u16],
+    i: u16,
+    kept: u16,
+    out: &mut [u8],
+    o: usize,
+) -> usize
+    ensures { λ r. ⌜ Adds (now (out .entry)) (kept + i) o (liftedFrom (tables (now (s .entry)) (now (names .entry)) (now (rows .entry)) (now (params .entry)) (now (number .entry))) (now (order .entry)) i 1) (now (out .exit)) r ⌝ }
+{
+    let k = entry(order, i as usize);
+    let end = put_lifted(s, names, rows, params, number, k, out, o);
+    let at = (kept as usize) + (i as usize);
+    put_entry(1, o, end, at, out);
+    end
+}
+
+// The first n definitions of the expanded book, with their calls.
+fn add_all_kept(
+    s: &[u8],
+    names: &[u8],
+    rows: &[u16],
+    params: &[u16],
+    number: &[u16],
+    n: u16,
+    out: &mut [u8],
+    at: usize,
+) -> usize
+    ensures { λ r. ⌜ Adds (now (out .entry)) 0 at (keptFrom (tables (now (s .entry)) (now (names .entry)) (now (rows .entry)) (now (params .entry)) (now (number .entry))) 0 n) (now (out .exit)) r ⌝ }
+{
+    let mut i = 0;
+    let mut o = at;
+    while i < n {
+        o = add_kept(s, names, rows, params, number, i, out, o);
+        i += 1;
+    }
+    o
+}
+
+// The definitions of the n lifts in their order.
+fn add_all_lifted(
+    s: &[u8],
+    names: &[u8],
+    rows: &[u16],
+    params: &[u16],
+    number: &[u16],
+    order: &[u16],
+    n: u16,
+    kept: u16,
+    out: &mut [u8],
+    at: usize,
+) -> usize
+    ensures { λ r. ⌜ Adds (now (out .entry)) kept at (liftedFrom (tables (now (s .entry)) (now (names .entry)) (now (rows .entry)) (now (params .entry)) (now (number .entry))) (now (order .entry)) 0 n) (now (out .exit)) r ⌝ }
+{
+    let mut i = 0;
+    let mut o = at;
+    while i < n {
+        o = add_lifted(s, names, rows, params, number, order, i, kept, out, o);
+        i += 1;
+    }
+    o
+}
+
+// The finished book: the expanded book's definitions with their calls, then those of the n lifts. The contract speaks of tables that the
+// naming pass left; on any others it writes something else, and no more.
+pub fn write_result(
+    s: &[u8],
+    names: &[u8],
+    rows: &[u16],
+    params: &[u16],
+    number: &[u16],
+    order: &[u16],
+    n: u16,
+    out: &mut [u8],
+) -> usize
+    ensures { λ r. ⌜ Writes (tables (now (s .entry)) (now (names .entry)) (now (rows .entry)) (now (params .entry)) (now (number .entry))) (now (order .entry)) n (now (out .entry)) (now (out .exit)) r ⌝ }
+{
+    let kept = seek::number(s, 0);
+    let all = (kept as usize) + (n as usize);
+    put_u16((all % 65536) as u16, out, 0);
+    let o = add_all_kept(s, names, rows, params, number, kept, out, 2 + 6 * all);
+    add_all_lifted(s, names, rows, params, number, order, n, kept, out, o)
+}
