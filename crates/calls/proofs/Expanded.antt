@@ -14,7 +14,7 @@ use Rattle.definition.specs.Names.{eqName}
 use Rattle.definition.specs.Size.{size, levels}
 use Rattle.definition.specs.Macros.{Macro, subst, limited, instance, innerOf, expandBy, expandMacro, expand, expandI, expandF, expandC}
 use Rattle.calls.specs.Pieces.{Piece, raw, pieces, piecesI, piecesF, piecesC, rewritten, expanded}
-use Rattle.calls.proofs.Splits.{s-name, s-text, s-len, s-selector, s-label, s-open, s-shut}
+use Rattle.laws.proofs.Splits.{s-name, s-text, s-len, s-selector, s-label, s-open, s-shut}
 
 -- a value, or code 6
 abbrev pub Grows : {A : Type 0} → Out A → Type 0

@@ -1,5 +1,4 @@
 mod Bools
-pub mod Splits
 pub mod Written
 pub mod Expanded
 mod Level

@@ -22,7 +22,7 @@ use Rattle.calls.specs.Walk.{walk, moved, entered, silent, back, State, 
 use Rattle.calls.specs.Pieces.{Piece, call, macro-call, pieces, piecesI, piecesF, piecesC, places}
 use Rattle.calls.specs.Walked.{Walked, Skipped}
 use Rattle.calls.proofs.Bools.{and-assoc}
-use Rattle.calls.proofs.Splits.{s-name, s-text, s-len, s-selector, s-label, s-comb, s-inner}
+use Rattle.laws.proofs.Splits.{s-name, s-text, s-len, s-selector, s-label, s-comb, s-inner}
 use Rattle.calls.proofs.Steps.{stands, many-is, field-is, const-is, choice-is, inner-4, inner-5, inner-7, inner-8, inner-9, inner-10, inner-12, inner-15, inner-16, inner-leaf, chained-is, tail-plain, tail-chain, combinator-suc, argument-suc, times-zero, times-suc}
 use Rattle.calls.proofs.Over.{deepest, Over, stay, skip, enter, shut, up, chain, then, mark}
 

@@ -16,7 +16,7 @@ use Rattle.writer.proofs.Wrote.{glue, place-is, same-length}
 use Rattle.calls.specs.declared.Walk.{Walk}
 use Rattle.calls.specs.Walk.{walk, moved, entered, State, pairOf, markAt}
 use Rattle.calls.specs.Pieces.{Piece, raw, places}
-use Rattle.calls.proofs.Splits.{s-inner}
+use Rattle.laws.proofs.Splits.{s-inner}
 use Rattle.calls.proofs.Bools.{and-true, and-comm, and-assoc}
 
 max-sub : (k d d′ : ℕ) → min (k - d) (k - d′) ≡ k - max d d′

@@ -9,7 +9,7 @@ use Rattle.definition.specs.Tree.{Name, Combinator, Inner, invocation, macro-in
 use Rattle.definition.specs.Write.{wU16, wName, wList, wInner}
 use Rattle.definition.specs.Size.{size}
 use Rattle.calls.specs.Pieces.{Piece, raw, call, macro-call, pieces, places, written}
-use Rattle.calls.proofs.Splits.{s-inner}
+use Rattle.laws.proofs.Splits.{s-inner}
 use Rattle.calls.proofs.Written.{written-is}
 
 -- a tag, a name's length and a count

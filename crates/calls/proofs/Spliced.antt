@@ -20,7 +20,7 @@ use Rattle.writer.proofs.Put.{part-none, part-split}
 use Rattle.calls.specs.Pieces.{Piece, raw, call, macro-call, pieces, replaced, places, written, rewritten, every}
 use Rattle.calls.specs.Splice.{spliced, everyPlace}
 use Rattle.calls.proofs.Bools.{and-true}
-use Rattle.calls.proofs.Splits.{s-comb, s-inner}
+use Rattle.laws.proofs.Splits.{s-comb, s-inner}
 use Rattle.calls.proofs.Written.{written-is, subst-is, every-is}
 use Rattle.calls.proofs.Expanded.{expansion}
 

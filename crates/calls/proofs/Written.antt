@@ -10,7 +10,7 @@ use Rattle.definition.specs.Macros.{subst, substI, substF, substC}
 use Rattle.definition.specs.Bodies.{everyInvocation, everyInvocationI, everyInvocationF, everyInvocationC}
 use Rattle.calls.specs.Pieces.{Piece, raw, pieces, piecesI, piecesF, piecesC, written, replaced, every}
 use Rattle.calls.proofs.Bools.{and-assoc}
-use Rattle.calls.proofs.Splits.{s-name, s-text, s-len, s-selector, s-label, s-open, s-shut}
+use Rattle.laws.proofs.Splits.{s-name, s-text, s-len, s-selector, s-label, s-open, s-shut}
 
 mutual
   unfolding wU16 wCombinator pieces written

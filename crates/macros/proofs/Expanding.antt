@@ -18,7 +18,7 @@ use Rattle.writer.specs.Buf.{part, Wrote}
 use Rattle.writer.proofs.Put.{part-none, part-split}
 use Rattle.writer.proofs.Wrote.{same-length}
 use Rattle.calls.specs.Pieces.{Piece, raw, call, macro-call, places, written, expanded}
-use Rattle.calls.proofs.Splits.{s-inner}
+use Rattle.laws.proofs.Splits.{s-inner}
 use Rattle.calls.proofs.Expanded.{onto}
 use Rattle.macros.specs.declared.table.Found.{Found}
 use Rattle.macros.specs.declared.table.Found.the-variants.{At, Unknown}

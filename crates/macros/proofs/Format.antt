@@ -27,7 +27,7 @@ use Rattle.calls.specs.declared.Walk.{Walk}
 use Rattle.calls.specs.Walk.{walk, combinatorAt, skipAt}
 use Rattle.calls.specs.Walked.{Walked, Skipped}
 use Rattle.calls.specs.Pieces.{pieces, places, written, expanded}
-use Rattle.calls.proofs.Splits.{s-comb}
+use Rattle.laws.proofs.Splits.{s-comb}
 use Rattle.calls.proofs.Written.{written-is}
 use Rattle.calls.proofs.Expanded.{expansion}
 use Rattle.calls.proofs.Link.{walked, skipped}

@@ -15,7 +15,7 @@ use Rattle.writer.specs.Buf.{put, after, part, Wrote}
 use Rattle.writer.proofs.Put.{part-none, part-split, put-past}
 use Rattle.writer.proofs.Wrote.{glue, place-is, same-length}
 use Rattle.calls.specs.Pieces.{Piece, raw, call, macro-call, places, written, expanded}
-use Rattle.calls.proofs.Splits.{s-inner}
+use Rattle.laws.proofs.Splits.{s-inner}
 use Rattle.calls.proofs.Expanded.{onto}
 use Rattle.macros.specs.Deep.{DeepP}
 use Rattle.macros.specs.Expand.{Puts, IsCall, a-call, a-macro, front}

@@ -21,7 +21,7 @@ use Rattle.calls.specs.declared.Walk.{Walk}
 use Rattle.calls.specs.Walk.{walk, combinatorAt, skipAt}
 use Rattle.calls.specs.Walked.{Walked, Skipped}
 use Rattle.calls.specs.Pieces.{pieces, places}
-use Rattle.calls.proofs.Splits.{s-comb}
+use Rattle.laws.proofs.Splits.{s-comb}
 use Rattle.calls.proofs.Link.{walked, skipped}
 use Rattle.macros.specs.declared.Turn.{Turn}
 use Rattle.macros.specs.Instance.{Areas, Holds, Made, Instanced}

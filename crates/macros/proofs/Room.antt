@@ -9,7 +9,7 @@ use Rattle.definition.specs.Tree.{Name, CaseKind, Combinator, plain, chained, I
 use Rattle.definition.specs.Write.{wU16, wName, wAll, wList, wInner, wInners, wShut, countA}
 use Rattle.definition.specs.Size.{levels, levelsI, levelsF, levelsC, levelsA}
 use Rattle.calls.specs.Pieces.{Piece, raw, call, macro-call, pieces, piecesI, piecesF, piecesC, places, written}
-use Rattle.calls.proofs.Splits.{s-inner}
+use Rattle.laws.proofs.Splits.{s-inner}
 use Rattle.macros.specs.Deep.{DeepP}
 
 call-long : (n : Name) (a : List Name) → 4 ≤ length (wInner (invocation n a) [])

@@ -15,7 +15,7 @@ use Rattle.lookup.specs.Name.{nameAt}
 use Rattle.lookup.proofs.Names.{stands}
 use Rattle.writer.specs.Buf.{part}
 use Rattle.writer.proofs.Put.{part-split}
-use Rattle.calls.proofs.Splits.{s-inner}
+use Rattle.laws.proofs.Splits.{s-inner}
 
 module _ {s : List ℕ} {p : ℕ} where
   pub part-here : (b : List ℕ) (z : List ℕ) → Here s p (b ++ z) → part p (p + length b) s ≡ b

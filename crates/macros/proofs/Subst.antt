@@ -16,7 +16,7 @@ use Rattle.seek.specs.Here.{Here}
 use Rattle.writer.specs.Buf.{part}
 use Rattle.writer.proofs.Put.{part-none}
 use Rattle.calls.specs.Pieces.{Piece, raw, call, macro-call, pieces, places, written, replaced}
-use Rattle.calls.proofs.Splits.{s-inner}
+use Rattle.laws.proofs.Splits.{s-inner}
 use Rattle.calls.proofs.Written.{written-is, subst-is}
 use Rattle.macros.specs.Substituted.{pick, callsName, substituted}
 use Rattle.macros.proofs.Stands.{part-here, step-here, inner-here, part-on, call-tag, macro-tag, call-name}
