@@ -3,10 +3,10 @@
 use mathlib.Core.Path.{_≡_, refl, sym, ap, _∙_}
 use mathlib.Core.List.{List, [], _∷_}
 use mathlib.Core.Bool.{true, false}
-use Prim.Native.Nat.{ℕ, _+_, _≤_, _<_}
+use Prim.Native.Nat.{ℕ, _+_, _*_, _≤_, _<_}
 use native.Mathlib.Omega.{arith}
 use lib.ListN.{length, take}
-use Rattle.definition.specs.Tree.{Name, Combinator}
+use Rattle.definition.specs.Tree.{Combinator}
 use Rattle.definition.specs.Write.{wCombinator}
 use Rattle.definition.specs.Size.{levels}
 use Rattle.definition.specs.Collect.{free, leftover}
@@ -17,9 +17,9 @@ use Rattle.seek.specs.At.{byteAt}
 use Rattle.seek.specs.Here.{Here}
 use Rattle.seek.proofs.Here.{here-length}
 use Rattle.collect.specs.declared.Collected.the-variants.{Uses, Leftover}
-use Rattle.collect.specs.Uses.{nameIn, namesIn}
-use Rattle.collect.specs.Walk.{walk, State, combinatorAt, collectAt, answerOf}
-use Rattle.collect.proofs.Without.{without, without-none}
+use Rattle.collect.specs.Uses.{namesIn}
+use Rattle.collect.specs.Walk.{walk, collectAt, answerOf}
+use Rattle.collect.proofs.Without.{without-none}
 use Rattle.collect.proofs.Gathered.{Gathered}
 use Rattle.collect.proofs.Link.{gather}
 use Rattle.collect.proofs.Room.{free-room}
@@ -30,7 +30,7 @@ length-names s [] = refl
 length-names s (x ∷ l) = let h = length-names s l in omega arith
 
 module _ (s : List ℕ) (p : ℕ) (c : Combinator) (z : List ℕ) (small : (i : ℕ) → byteAt s i < 256) (short : length s < 16777216) (deep : levels c ≤ 64) (h : Here s p (wCombinator c z)) where
-  module _ (bound uses : List ℕ) (labels : length s ≤ length bound) where
+  module _ (bound uses : List ℕ) (labels : length s ≤ 4 * length bound) where
     gathered : Gathered s z (free c) (leftover c) 0 0 false bound uses (collectAt s p bound uses)
     unfolding collectAt
     gathered = gather s small short c 64 deep (walk p 0 0 false) bound uses z record { here = h; room = omega (arith, here-length h); fits = omega arith }

@@ -1,9 +1,9 @@
 -- What a step of the walk leaves behind: its place, the uses written, and the labels as they were. Steps one after the other are one.
 -- Assumes nothing.
 use mathlib.Core.Path.{_≡_, refl, sym, ap, _∙_}
-use mathlib.Core.List.{List, [], _∷_, _++_, append-nil}
+use mathlib.Core.List.{List, [], _∷_, _++_}
 use mathlib.Core.Bool.{Bool, true, false, _||_}
-use Prim.Native.Nat.{ℕ, suc, _+_, _≤_, _<_, min}
+use Prim.Native.Nat.{ℕ, suc, _+_, _*_, _≤_, _<_}
 use native.Mathlib.Omega.{arith}
 use lib.ListN.{length, take}
 use lib.Seq.{take-take}
@@ -11,8 +11,8 @@ use Rattle.definition.specs.Tree.{Name}
 use Rattle.definition.specs.Names.{remove}
 use Rattle.laws.proofs.Splits.{Splits}
 use Rattle.laws.proofs.Sizes.{adds}
-use Rattle.writer.specs.Buf.{put, after, Wrote}
-use Rattle.writer.proofs.Put.{length-put, put-nil, put-past, take-put, take-written}
+use Rattle.writer.specs.Buf.{after, Wrote}
+use Rattle.writer.proofs.Put.{put-nil, put-past, take-put, take-written}
 use Rattle.writer.proofs.Wrote.{glue, place-is, same-length}
 use Rattle.seek.specs.Here.{Here}
 use Rattle.collect.specs.Uses.{nameIn, namesIn}
@@ -31,10 +31,10 @@ pub record Gathered (s z : List ℕ) (ns : List Name) (l : Bool) (n b : ℕ) (f 
   pub kept : take b (g .1) ≡ take b bound
   pub long : length (g .1) ≡ length bound
 
--- a step can be made: what stands at its place, and room for a label for each byte to come
+-- a step can be made: what stands at its place, and room for a label for every four bytes to come
 pub record Ready (s : List ℕ) (p : ℕ) (l : List ℕ) (n b : ℕ) (bound uses : List ℕ) : Type 0 where
   pub here : Here s p l
-  pub room : b + length l ≤ length bound
+  pub room : 4 * b + length l ≤ 4 * length bound
   pub fits : n ≤ suc (length uses)
 
 or-assoc : (a b c : Bool) → (a || b) || c ≡ a || (b || c)

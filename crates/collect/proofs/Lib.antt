@@ -2,7 +2,7 @@ pub mod Uses
 pub mod Level
 pub mod Anonymous
 pub mod Without
+pub mod Room
 pub mod Gathered
 pub mod Link
-pub mod Room
 pub mod Free

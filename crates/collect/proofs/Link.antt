@@ -4,27 +4,27 @@ use mathlib.Core.Path.{_≡_, refl, sym, ap, _∙_}
 use mathlib.Core.Logic.{⊎-elim}
 use mathlib.Core.List.{List, [], _∷_, _++_, map}
 use mathlib.Core.Bool.{Bool, true, false, _||_}
-use Prim.Native.Nat.{ℕ, zero, suc, _+_, _≤_, _<_}
+use Prim.Native.Nat.{ℕ, zero, suc, _+_, _*_, _≤_, _<_}
 use native.Mathlib.Nat.{not-suc-le-zero}
 use native.Mathlib.Omega.{arith}
-use lib.ListN.{length, take}
+use lib.ListN.{length}
 use Rattle.definition.specs.Tree.{Name, Leaf, constraint-int, constraint-enum, bits, enum, tail, nothing, never, Len, wrap, vec, option, array, Selector, none, by, CaseKind, enums, ints, arrays, ordinary, dependent, Combinator, plain, chained, Inner, leaf, struct, choice, shell, bytes, invocation, macro-invocation, Fields, no-field, field, const, Cases, no-case, case, Inners, no-inner, inner}
-use Rattle.definition.specs.Names.{elem, root, remove}
+use Rattle.definition.specs.Names.{root, remove}
 use Rattle.definition.specs.Write.{wU16, wName, wText, wAll, wList, wLen, wSelector, caseByte, wLabel, leafTag, fieldByte, wOpen, wShut, countF, countC, countA, wCombinator, wInner, wFields, wCases, wInners}
 use Rattle.definition.specs.Size.{levels, levelsI, levelsF, levelsC, levelsA}
 use Rattle.definition.specs.Collect.{bytesOrTail, isTail, selectorUses, shellUses, free, freeI, freeF, freeC, leftover, leftoverI, leftoverF, leftoverC, unbound}
 use Rattle.laws.proofs.Tests.{yes-no}
-use Rattle.laws.proofs.Sizes.{adds}
-use Rattle.laws.proofs.Splits.{s-u16, s-name, s-text, s-all, s-list, s-len, s-selector, s-label, s-comb, s-inner, s-fields, s-cases, s-inners}
+use Rattle.laws.proofs.Splits.{s-u16, s-name, s-text, s-len, s-selector, s-label, s-comb, s-inner}
 use Rattle.writer.specs.Buf.{put, after, Wrote}
 use Rattle.writer.proofs.Wrote.{place-is, same-length}
 use Rattle.seek.specs.At.{byteAt, pastAt, namePast, textPast}
 use Rattle.seek.specs.Here.{Here}
-use Rattle.seek.proofs.Here.{byte-here, next-here, number-here, number-past, name-here, text-here, names-here}
+use Rattle.seek.proofs.Here.{byte-here, next-here, number-here, number-past, name-here, text-here}
 use Rattle.collect.specs.declared.Walk.{Walk}
-use Rattle.collect.specs.Uses.{pick, nameIn, namesIn, useAt, isBound}
+use Rattle.collect.specs.Uses.{nameIn, namesIn, useAt, isBound}
 use Rattle.collect.specs.Walk.{walk, moved, counted, State, Step, times, timesUse, many, nameBy, namesBy, lengthBy, callBy, selectorBy, bindBy, fieldBy, fieldsBy, wrapBy, labelPast, caseBy, choiceBy, arrayBy, macroBy, innerBy, standsOn, chainBy, tailBy, combinatorBy, argumentBy, combinatorAt, argumentAt}
 use Rattle.collect.proofs.Without.{cutBy, use-here, without-here, without-new}
+use Rattle.collect.proofs.Room.{name-long, combinator-long}
 use Rattle.collect.proofs.Gathered.{Gathered, Ready, or-false, or-true, ready-past, ready-on, moves, rebound, then, wrote-nothing, nothing-used, hushed, binds}
 
 same-names : (ns : List Name) → map (cutBy false) ns ≡ ns
@@ -292,7 +292,7 @@ module _ (s : List ℕ) (small : (i : ℕ) → byteAt s i < 256) (short : length
       let u : Walk = walk (G .0 .at) (G .0 .n) m (G .0 .leftover) in
       let o = ready-on g (wCombinator c) (s-comb c) p in
       let wrote : Wrote (G .1) (G .0 .b) (x ∷ []) bound′ m = record { place = refl; holds = refl } in
-      let room : suc (G .0 .b) + length (wFields f z) ≤ length (G .1) = omega (arith, g .same, g .long, r .room, adds (wName l) (s-name l) (wCombinator c (wFields f z)), adds (wCombinator c) (s-comb c) (wFields f z)) in
+      let room : 4 * suc (G .0 .b) + length (wFields f z) ≤ 4 * length (G .1) = omega (arith, g .same, g .long, r .room, name-long l (wCombinator c (wFields f z)), combinator-long c (wFields f z)) in
       let place : m ≡ G .0 .b + 1 = omega (arith, place-is wrote) in
       rw (once w bound uses (fieldBy (combinatorAt k s) s) (countF f), dependent-is w bound uses (combinatorAt k s) (wName l (wCombinator c (wFields f z))) (r .here))
       (rebound (then g (binds l named (omega arith) wrote (rest u bound′ (G .2) record { here = o .here; room = omega (arith, same-length wrote); fits = o .fits }))))

@@ -2,18 +2,18 @@
 -- Assumes nothing.
 use mathlib.Core.Path.{_≡_, refl}
 use mathlib.Core.Logic.{⊎-elim}
-use mathlib.Core.List.{List, [], _∷_, _++_, map}
+use mathlib.Core.List.{List, [], _∷_, map}
 use mathlib.Core.Bool.{Bool, true, false}
 use Prim.Native.Nat.{ℕ, suc, _+_, _≤_}
 use native.Mathlib.Omega.{arith}
 use lib.ListN.{length, length-append}
 use Rattle.definition.specs.Tree.{Name, Len, Shell, wrap, vec, option, array, Selector, none, by, CaseKind, FieldKind, ordinary, dependent, Combinator, plain, chained, Inner, leaf, struct, choice, shell, bytes, invocation, macro-invocation, Fields, no-field, field, const, Cases, no-case, case}
 use Rattle.definition.specs.Names.{eqName, remove, root}
-use Rattle.definition.specs.Write.{wU16, wName, wText, wAll, wList, wLen, wSelector, wLabel, wOpen, wShut, caseByte, countC, countA, wCombinator, wInner, wFields, wCases, wInners}
+use Rattle.definition.specs.Write.{wU16, wName, wText, wAll, wList, wLen, wSelector, wLabel, wOpen, wShut, caseByte, countF, countC, countA, wCombinator, wInner, wFields, wCases, wInners}
 use Rattle.definition.specs.Collect.{only, bytesOrTail, selectorUses, shellUses, unbound, free, freeI, freeF, freeC}
 use Rattle.laws.proofs.Tests.{yes-no}
 use Rattle.laws.proofs.Sizes.{adds}
-use Rattle.laws.proofs.Splits.{s-name, s-text, s-list, s-selector, s-label, s-inner, s-inners}
+use Rattle.laws.proofs.Splits.{s-u16, s-name, s-text, s-list, s-len, s-selector, s-label, s-comb, s-fields, s-cases, s-inners}
 
 remove-short : (l : Name) (ns : List Name) → length (remove l ns) ≤ length ns
 unfolding remove
@@ -61,6 +61,13 @@ shell-room vec z = omega arith
 shell-room option z = omega arith
 shell-room (array l) z = let h = len-room l z in omega arith
 
+shell-long : (x : Shell) (z : List ℕ) → suc (length z) ≤ length (wOpen x z)
+unfolding wOpen
+shell-long (wrap x y) z = omega (arith, adds (wText x) (s-text x) z)
+shell-long vec z = omega arith
+shell-long option z = omega arith
+shell-long (array l) z = omega (arith, adds (wLen l) (s-len l) z)
+
 shut-room : (x : Shell) (z : List ℕ) → length z ≤ length (wShut x z)
 unfolding wShut
 shut-room (wrap x y) z = omega (arith, adds (wText y) (s-text y) z)
@@ -96,3 +103,23 @@ mutual
   room-cases no-case k z = omega arith
   room-cases (case l c f) k z =
       simp length-append (omega (arith, adds (wLabel k l) (s-label k l) (wCombinator c (wCases f k z)), free-room c (wCases f k z), room-cases f k z))
+
+pub name-long : (n : Name) (z : List ℕ) → suc (length z) ≤ length (wName n z)
+unfolding wName
+name-long n z = omega (arith, length-append n z)
+
+-- an inner has its tag, and a combinator a tag and a flag at least
+inner-long : (i : Inner) (z : List ℕ) → suc (length z) ≤ length (wInner i z)
+unfolding wInner wOpen
+inner-long (leaf k x) z = omega (arith, adds (wText x) (s-text x) z)
+inner-long (struct f) z = omega (arith, adds (wU16 (countF f)) (s-u16 (countF f)) (wFields f z), adds (wFields f) (s-fields f) z)
+inner-long (choice x k f) z = omega (arith, adds (wSelector x) (s-selector x) (caseByte k ∷ wU16 (countC f) (wCases f k z)), adds (wU16 (countC f)) (s-u16 (countC f)) (wCases f k z), adds (wCases f k) (s-cases f k) z)
+inner-long (shell x c) z = omega (arith, shell-long x (wCombinator c (wShut x z)), adds (wCombinator c) (s-comb c) (wShut x z), shut-room x z)
+inner-long (bytes l) z = omega (arith, adds (wLen l) (s-len l) z)
+inner-long (invocation n a) z = omega (arith, adds (wName n) (s-name n) (wList wName a z), adds (wList wName a) (s-list wName s-name a) z)
+inner-long (macro-invocation n a) z = omega (arith, adds (wName n) (s-name n) (wU16 (countA a) (wInners a z)), adds (wU16 (countA a)) (s-u16 (countA a)) (wInners a z), adds (wInners a) (s-inners a) z)
+
+pub combinator-long : (c : Combinator) (z : List ℕ) → 2 + length z ≤ length (wCombinator c z)
+unfolding wCombinator
+combinator-long (plain i) z = let h = inner-long i (0 ∷ z) in omega arith
+combinator-long (chained i c) z = omega (arith, inner-long i (1 ∷ wCombinator c z), adds (wCombinator c) (s-comb c) z)

@@ -1,20 +1,19 @@
 -- Lists of names without those that are bound, and the name that a use means.
 -- Assumes nothing.
-use mathlib.Core.Path.{_≡_, refl, sym, ap, _∙_}
+use mathlib.Core.Path.{_≡_, refl, ap, _∙_}
 use mathlib.Core.Logic.{⊎-elim}
-use mathlib.Core.List.{List, [], _∷_, _++_, map}
+use mathlib.Core.List.{List, [], _∷_, _++_}
 use mathlib.Core.Bool.{Bool, true, false, cond, _||_}
-use Prim.Native.Nat.{ℕ, zero, suc, _+_, _-_, _*_, _/_, _%_, _≤_, _<_, min}
+use Prim.Native.Nat.{ℕ, _+_, _-_, _*_, _/_, _%_, _≤_, _<_, min}
 use native.Mathlib.Omega.{arith}
 use lib.Dec.{eqb}
-use lib.ListN.{length, take, drop}
+use lib.ListN.{length, take}
 use lib.Seq.{take-append-seam}
 use Rattle.definition.specs.Tree.{Name}
 use Rattle.definition.specs.Names.{eqName, elem, remove, root}
 use Rattle.definition.specs.Write.{wName}
 use Rattle.laws.proofs.Tests.{yes-no}
-use Rattle.laws.proofs.Members.{eqName-true, eqName-refl}
-use Rattle.laws.proofs.Members.{eqName-swap}
+use Rattle.laws.proofs.Members.{eqName-true, eqName-swap}
 use Rattle.lookup.specs.Name.{nameAt}
 use Rattle.lookup.proofs.Names.{stands}
 use Rattle.seek.specs.At.{byteAt, pastAt}

@@ -1,9 +1,9 @@
 -- The parameters of a lift are the definition's: code 7 exactly where a macro call is left, else the free names, each once, in byte order.
 -- Assumes nothing.
-use mathlib.Core.Path.{_≡_, refl, sym, ap, _∙_}
+use mathlib.Core.Path.{_≡_, sym, ap, _∙_}
 use mathlib.Core.List.{List}
 use mathlib.Core.Bool.{true, false}
-use Prim.Native.Nat.{ℕ, _+_, _-_, _^_, _≤_, _<_, min}
+use Prim.Native.Nat.{ℕ, _+_, _*_, _-_, _^_, _≤_, _<_, min}
 use native.Mathlib.Omega.{arith}
 use lib.ListN.{length, take}
 use lib.Seq.{length-take-le}
@@ -13,11 +13,11 @@ use Rattle.definition.specs.Size.{levels}
 use Rattle.definition.specs.Names.{sorted}
 use Rattle.definition.specs.Collect.{free, leftover}
 use Rattle.writer.specs.Buf.{put, part}
-use Rattle.writer.proofs.Put.{length-put, length-part, take-written}
+use Rattle.writer.proofs.Put.{length-put, take-written}
 use Rattle.seek.specs.At.{byteAt}
 use Rattle.seek.specs.Here.{Here}
 use Rattle.seek.proofs.Here.{here-length}
-use Rattle.collect.specs.Uses.{nameIn, namesIn}
+use Rattle.collect.specs.Uses.{namesIn}
 use Rattle.collect.specs.Walk.{collectAt}
 use Rattle.collect.proofs.Room.{free-room}
 use Rattle.collect.proofs.Free.{length-names, collect-leftover, collect-uses, collect-names, uses-long}
@@ -47,7 +47,7 @@ module _ (s uses spare : List ℕ) (n : ℕ) (room : n ≤ length uses) (other :
   sorted-count = rw all (sym (length-names s (once s (ordered 24 s (take n uses)))) ∙ ap length (sorted-names s (take n uses) (rw (length-take-le n uses room) few)))
 
 module _ (s : List ℕ) (p : ℕ) (c : Combinator) (z : List ℕ) (small : (i : ℕ) → byteAt s i < 256) (short : length s < 16777216) (deep : levels c ≤ 64) (h : Here s p (wCombinator c z)) where
-  module _ (bound uses spare : List ℕ) (labels : length s ≤ length bound) where
+  module _ (bound uses spare : List ℕ) (labels : length s ≤ 4 * length bound) where
     pub params-leftover : leftover c ≡ true → paramsAt s p bound uses spare .0 ≡ Leftover
     unfolding paramsAt sortedOr
     params-leftover e = rw (collect-leftover s p c z small short deep h bound uses labels e)

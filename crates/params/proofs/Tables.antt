@@ -2,19 +2,19 @@
 -- Assumes nothing.
 use mathlib.Core.Path.{_≡_, refl, sym, ap, _∙_}
 use mathlib.Core.Logic.{_⊎_, inl, inr, ⊎-elim}
-use mathlib.Core.List.{List, [], _∷_, _++_, append-assoc}
+use mathlib.Core.List.{List, [], _∷_, _++_}
 use mathlib.Core.Bool.{Bool, true, false}
-use Prim.Native.Nat.{ℕ, zero, suc, _+_, _-_, _≤_, _<_, min}
+use Prim.Native.Nat.{ℕ, suc, _+_, _-_, _≤_, _<_}
 use native.Mathlib.Omega.{arith}
 use native.Mathlib.Numerals.{add-one}
-use lib.Dec.{eqb, ltb}
-use lib.ListN.{length, take, drop, getD, set, length-append, length-take, length-drop, take-append-drop, drop-of-length-le}
-use lib.Seq.{drop-cons, take-add, drop-drop, take-at, drop-at, take-nil}
+use lib.Dec.{ltb}
+use lib.ListN.{length, take, drop, getD, set, take-append-drop, drop-of-length-le}
+use lib.Seq.{drop-cons, take-add, take-at, drop-at}
 use borrow.Author.Tests.{eq-eqb, ne-eqb, lt-ltb, le-ltb, ltb-true, ltb-false}
 use Rattle.definition.specs.Tree.{Name}
 use Rattle.definition.specs.Names.{before}
 use Rattle.writer.specs.Buf.{put, part}
-use Rattle.writer.proofs.Put.{length-put, put-fits, put-put, put-first, take-put, drop-put, put-nil, put-push, part-none, part-more, part-split, length-part}
+use Rattle.writer.proofs.Put.{length-put, put-fits, put-put, put-first, take-put, drop-put, put-nil, put-push, part-none, part-more, length-part}
 
 pub part-cons : (a e : ℕ) (l : List ℕ) → a < e → e ≤ length l → part a e l ≡ getD l a 0 ∷ part (a + 1) e l
 unfolding part

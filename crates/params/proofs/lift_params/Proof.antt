@@ -1,4 +1,4 @@
-use mathlib.Core.Path.{_≡_, refl, sym, _∙_}
+use mathlib.Core.Path.{refl}
 use Rattle.params.proofs.Sorting.{got}
 use Rattle.params.specs.Params.{paramsAt, sortedOr}
 use borrow.Author.Needs.{needs}
