@@ -1,19 +1,18 @@
 -- How deep a substitution and an expansion go: no deeper than what was there with an argument, or an instance, below it.
 -- Assumes nothing.
-use mathlib.Core.Path.{_≡_}
 use mathlib.Core.List.{List, [], _∷_}
 use mathlib.Core.Bool.{Bool, true, false, _&&_}
-use Prim.Native.Nat.{ℕ, suc, _+_, _≤_, max}
+use Prim.Native.Nat.{ℕ, suc, _+_, _≤_}
 use native.Mathlib.Omega.{arith}
 use lib.Dec.{leb}
 use borrow.Author.Tests.{leb-true}
 use Rattle.definition.specs.Out.{Out}
-use Rattle.definition.specs.Tree.{Name, Combinator, plain, chained, Inner, leaf, struct, choice, shell, bytes, invocation, macro-invocation, Fields, no-field, field, const, Cases, no-case, case, Inners, no-inner, inner, Definition, format, constant, byte-order, macro}
+use Rattle.definition.specs.Tree.{Name, Combinator, plain, chained, Inner, leaf, struct, choice, shell, bytes, invocation, macro-invocation, Fields, no-field, field, const, Cases, no-case, case, Inners, no-inner, inner}
 use Rattle.definition.specs.Names.{eqName}
-use Rattle.definition.specs.Size.{size, levels, levelsI, levelsF, levelsC, levelsA, levelsBook}
-use Rattle.definition.specs.Macros.{same, subst, substI, substF, substC, limited, instance, innerOf, Macro, macros, expandBy, expandMacro, expand, expandI, expandF, expandC}
+use Rattle.definition.specs.Size.{size, levels, levelsI, levelsF, levelsC}
+use Rattle.definition.specs.Macros.{same, subst, substI, substF, substC, limited, instance, innerOf, Macro, expandBy, expandMacro, expand, expandI, expandF, expandC}
 use Rattle.laws.proofs.Tests.{both-true}
-use Rattle.laws.proofs.Steps.{Yields, stops, yields, next, where-true}
+use Rattle.laws.proofs.Steps.{Yields, yields, next, where-true}
 use Rattle.macros.specs.Deep.{DeepM}
 
 module _ (p : Name) (y : Inner) where

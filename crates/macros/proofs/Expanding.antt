@@ -5,12 +5,11 @@ use mathlib.Core.List.{List, [], _∷_, _++_, append-assoc, append-nil}
 use Prim.Native.Nat.{ℕ, suc, _+_, _≤_, _<_}
 use native.Mathlib.Omega.{arith}
 use lib.ListN.{length, getD, drop, length-drop, length-append}
-use lib.Dec.{eqb}
 use Rattle.definition.specs.Out.{Out, refused, done, _>>=_}
 use Rattle.definition.specs.Tree.{Name, Combinator, Inner, Inners, invocation, macro-invocation}
 use Rattle.definition.specs.Write.{wInner}
-use Rattle.definition.specs.Size.{levels, levelsI, levelsA}
-use Rattle.definition.specs.Macros.{Macro, instance, innerOf, expand, expandI, expandMacro}
+use Rattle.definition.specs.Size.{levels, levelsI}
+use Rattle.definition.specs.Macros.{Macro, instance, innerOf, expandI, expandMacro}
 use Rattle.seek.specs.At.{byteAt, pastAt}
 use Rattle.seek.specs.Here.{Here}
 use Rattle.lookup.specs.Name.{nameAt}
@@ -22,9 +21,8 @@ use Rattle.laws.proofs.Splits.{s-inner}
 use Rattle.calls.proofs.Expanded.{onto}
 use Rattle.macros.specs.declared.table.Found.{Found}
 use Rattle.macros.specs.declared.table.Found.the-variants.{At, Unknown}
-use Rattle.macros.specs.Deep.{DeepP}
 use Rattle.macros.specs.Instance.{Areas}
-use Rattle.macros.specs.Table.{Known, Rows, Finds, FindsMacro}
+use Rattle.macros.specs.Table.{Rows, Finds, FindsMacro}
 use Rattle.macros.specs.Expand.{Puts, Called, IsCall, a-call, a-macro, Replaced, Becomes, MacroOf, front, Expanding}
 use Rattle.macros.proofs.Stands.{part-on, inner-here, step-here, call-tag, macro-tag, macro-name}
 use Rattle.macros.proofs.Next.{Next, next-of, front-none, front-front, puts-stays, puts-over, puts-most, puts-front}

@@ -1,38 +1,37 @@
 -- Parameters, and a format: its bytes up to its body, and its body expanded.
 -- Assumes nothing.
-use mathlib.Core.Path.{_≡_, refl, sym, ap, _∙_}
+use mathlib.Core.Path.{_≡_, refl, ap, _∙_}
 use mathlib.Core.List.{List, [], _∷_, _++_, map, append-assoc}
 use mathlib.Core.Bool.{Bool, true, false}
-use Prim.Native.Nat.{ℕ, suc, _+_, _-_, _*_, _/_, _%_, _≤_, _<_, min, max}
+use Prim.Native.Nat.{ℕ, suc, _+_, _-_, _*_, _/_, _%_, _≤_, _<_, min}
 use native.Mathlib.Omega.{arith}
 use lib.Dec.{leb}
 use lib.ListN.{length, drop, take}
 use lib.Seq.{drop-at, length-take-le}
 use borrow.Author.Tests.{le-leb, lt-leb}
-use Rattle.definition.specs.Code.{Code, macro-growth}
+use Rattle.definition.specs.Code.{macro-growth}
 use Rattle.definition.specs.Out.{Out, refused, done, _>>=_, given}
-use Rattle.definition.specs.Tree.{Name, Combinator, Param, Definition, format, constant, byte-order, macro, invocation}
-use Rattle.definition.specs.Write.{wU16, wName, wParam, wAll, wList, wInner, wCombinator, wDefinition, kindOf, kindByte, sizeOf, wEntries, entryOf, wBook}
-use Rattle.definition.specs.Size.{size, levels, levelsI, levelsP, levelsBook}
+use Rattle.definition.specs.Tree.{Name, Combinator, Param, Definition, format, constant, byte-order, macro}
+use Rattle.definition.specs.Write.{wU16, wName, wParam, wAll, wList, wInner, wCombinator, wDefinition, kindOf, kindByte, sizeOf, wEntries, entryOf}
+use Rattle.definition.specs.Size.{size, levels, levelsP}
 use Rattle.definition.specs.Macros.{Macro, expand}
-use Rattle.laws.proofs.Steps.{Yields, yielded}
+use Rattle.laws.proofs.Steps.{yielded}
 use Rattle.laws.proofs.Splits.{s-list, s-param, s-name}
 use Rattle.seek.specs.At.{byteAt, pastAt, numberAt, namePast}
 use Rattle.seek.specs.Here.{Here}
-use Rattle.seek.proofs.Here.{here-length, place, past-here, byte-here, number-here, number-past, name-here}
-use Rattle.writer.specs.Buf.{put, part, Wrote}
-use Rattle.writer.proofs.Put.{part-none, part-written, put-fits, length-put, take-written}
-use Rattle.writer.proofs.Wrote.{fitted, place-fits, place-is, same-length, glue}
+use Rattle.seek.proofs.Here.{place, past-here, byte-here, number-here, number-past, name-here}
+use Rattle.writer.specs.Buf.{part, Wrote}
+use Rattle.writer.proofs.Put.{part-none, put-fits, take-written}
+use Rattle.writer.proofs.Wrote.{fitted, place-is, same-length, glue}
 use Rattle.calls.specs.declared.Walk.{Walk}
 use Rattle.calls.specs.Walk.{walk, combinatorAt, skipAt}
-use Rattle.calls.specs.Walked.{Walked, Skipped}
+use Rattle.calls.specs.Walked.{Walked}
 use Rattle.calls.specs.Pieces.{pieces, places, written, expanded}
 use Rattle.laws.proofs.Splits.{s-comb}
 use Rattle.calls.proofs.Written.{written-is}
 use Rattle.calls.proofs.Expanded.{expansion}
 use Rattle.calls.proofs.Link.{walked, skipped}
 use Rattle.macros.specs.Deep.{DeepM}
-use Rattle.macros.specs.Instance.{Areas}
 use Rattle.macros.specs.Table.{Rows}
 use Rattle.macros.specs.Expand.{Puts, front, Expanding}
 use Rattle.macros.specs.Left.{ParamPast, ParamsLeft, ParamsPast, Counting, KeptOf, keptOf, shallow, expandOne, Whole, Formatted}
@@ -40,7 +39,7 @@ use Rattle.macros.proofs.Stands.{part-here}
 use Rattle.macros.proofs.Depth.{expand-deep}
 use Rattle.macros.proofs.Room.{pieces-deep}
 use Rattle.macros.proofs.Turns.{size-here, marks-room}
-use Rattle.macros.proofs.Next.{front-none, puts-most}
+use Rattle.macros.proofs.Next.{front-none}
 use Rattle.macros.proofs.Rows.{book-listed}
 
 -- parameters

@@ -4,34 +4,29 @@ use mathlib.Core.Path.{_≡_, refl, sym, ap, _∙_}
 use mathlib.Core.Logic.{⊎-elim}
 use mathlib.Core.List.{List, [], _∷_, _++_, map, append-assoc}
 use mathlib.Core.Bool.{Bool, true, false}
-use Prim.Native.Nat.{ℕ, suc, _+_, _-_, _*_, _/_, _%_, _≤_, _<_, min, max}
+use Prim.Native.Nat.{ℕ, suc, _+_, _-_, _*_, _%_, _≤_, _<_}
 use native.Mathlib.Omega.{arith}
 use lib.Dec.{leb}
-use lib.ListN.{length, take, drop, length-append, length-drop, take-append-drop}
-use lib.Seq.{take-at, drop-at, length-take-le, take-append-le, drop-append-le, drop-drop, take-append-add, drop-append-add}
-use borrow.Author.Tests.{le-leb, lt-leb, leb-true, leb-false}
-use Rattle.definition.specs.Code.{Code}
+use lib.ListN.{length, take, drop, length-append, take-append-drop}
+use lib.Seq.{take-at, length-take-le, take-append-le, drop-append-le, drop-append-add}
+use borrow.Author.Tests.{le-leb, lt-leb}
 use Rattle.definition.specs.Out.{Out, refused, done, _>>=_}
 use Rattle.definition.specs.Tree.{Definition, format, constant, byte-order, macro}
-use Rattle.definition.specs.Write.{wU16, wAll, wDefinition, kindOf, kindByte, sizeOf, wEntries, entryOf, wBook}
-use Rattle.definition.specs.Size.{levels, levelsP, levelsBook}
+use Rattle.definition.specs.Write.{wU16, wAll, wDefinition, kindOf, kindByte, sizeOf, wEntries, entryOf}
+use Rattle.definition.specs.Size.{levelsBook}
 use Rattle.definition.specs.Macros.{Macro, expand}
-use Rattle.laws.specs.Book.{IsBook}
 use Rattle.laws.proofs.Splits.{s-definition}
 use Rattle.laws.proofs.Steps.{Yields, yields, next, yielded}
 use Rattle.seek.specs.At.{byteAt, pastAt, numberAt}
 use Rattle.seek.specs.Here.{Here}
-use Rattle.seek.proofs.Here.{here-length}
-use Rattle.lookup.proofs.Names.{yes-no}
 use Rattle.writer.specs.Buf.{put, part, Wrote}
 use Rattle.writer.proofs.Put.{put-nil, put-put, put-past, put-fits, length-put, within}
 use Rattle.writer.proofs.Wrote.{fitted, place-fits, place-is, same-length}
-use Rattle.macros.specs.Instance.{Areas}
 use Rattle.macros.specs.Table.{Listed}
 use Rattle.macros.specs.Expand.{Puts}
 use Rattle.macros.specs.Left.{keptOf, shallow, expandOne, andOne, shallowAll, Whole, Formatted, Kept, WritesBy, Writes, Listing, Booked}
 use Rattle.macros.proofs.Stands.{part-here}
-use Rattle.macros.proofs.Listed.{past-is, listed-kind, listed-size, listed-body, listed-deep, listed-next, listed-past, entries-size}
+use Rattle.macros.proofs.Listed.{past-is, listed-kind, listed-size, listed-body, listed-deep, listed-next, entries-size}
 use Rattle.macros.proofs.Rows.{book-listed}
 
 -- one definition

@@ -1,20 +1,18 @@
 -- Definitions as a book's contents list them, from the first to the last.
 -- Assumes nothing.
-use mathlib.Core.Path.{_≡_, refl, sym, ap, _∙_}
+use mathlib.Core.Path.{_≡_, refl}
 use mathlib.Core.List.{List, [], _∷_, _++_, map}
-use Prim.Native.Nat.{ℕ, _+_, _*_, _/_, _%_, _≤_, min, max}
+use Prim.Native.Nat.{ℕ, _+_, _*_, _/_, _%_, _≤_}
 use native.Mathlib.Omega.{arith}
 use lib.ListN.{length, length-append}
-use Rattle.definition.specs.Tree.{Definition, format, constant, byte-order, macro, Entry}
-use Rattle.definition.specs.Write.{wU16, wAll, wDefinition, kindOf, kindByte, sizeOf, wEntries, wParts, entryOf, wBook}
+use Rattle.definition.specs.Tree.{Definition, format, constant, byte-order, macro}
+use Rattle.definition.specs.Write.{wU16, wAll, wDefinition, kindOf, kindByte, sizeOf, wEntries, entryOf}
 use Rattle.definition.specs.Size.{levelsBook}
-use Rattle.laws.specs.Book.{IsBook}
 use Rattle.laws.proofs.Splits.{s-definition}
 use Rattle.seek.specs.At.{byteAt, pastAt, numberAt}
 use Rattle.seek.specs.Here.{Here}
 use Rattle.seek.proofs.Here.{here-length, past-here, byte-here, number-here}
 use Rattle.macros.specs.Table.{Listed}
-use Rattle.macros.proofs.Stands.{step-here}
 
 deep-head : (d : Definition) (ds : List Definition) → levelsBook (d ∷ ds) ≤ 64 → levelsBook (d ∷ []) ≤ 64
 unfolding levelsBook

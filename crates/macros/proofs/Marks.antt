@@ -1,12 +1,12 @@
 -- The first marks.
 -- Assumes nothing.
-use mathlib.Core.Path.{_≡_, refl, sym, ap, _∙_}
+use mathlib.Core.Path.{_≡_, sym, _∙_}
 use mathlib.Core.Logic.{⊎-elim}
 use mathlib.Core.List.{List}
 use Prim.Native.Nat.{ℕ, _≤_, _<_, min}
 use native.Mathlib.Omega.{arith}
 use lib.ListN.{length, take}
-use lib.Seq.{take-all, take-length}
+use lib.Seq.{take-all}
 use Rattle.writer.proofs.Put.{within}
 
 pub take-least : (l : List ℕ) (n e : ℕ) → e ≡ min n (length l) → take e l ≡ take n l

@@ -5,13 +5,13 @@ use mathlib.Core.List.{List, [], _∷_, _++_, append-assoc}
 use Prim.Native.Nat.{ℕ, suc, _+_, _≤_, _<_}
 use native.Mathlib.Omega.{arith}
 use lib.ListN.{length, getD, drop, length-append, length-drop}
-use Rattle.definition.specs.Out.{Out, refused, done, _>>=_}
-use Rattle.definition.specs.Tree.{Name, Inner, Inners, invocation, macro-invocation}
+use Rattle.definition.specs.Out.{Out, refused, done}
+use Rattle.definition.specs.Tree.{Inner, invocation, macro-invocation}
 use Rattle.definition.specs.Write.{wInner}
 use Rattle.definition.specs.Size.{levels, levelsI}
-use Rattle.definition.specs.Macros.{Macro, expand, expandI, expandMacro}
+use Rattle.definition.specs.Macros.{Macro, expand, expandI}
 use Rattle.seek.specs.Here.{Here}
-use Rattle.writer.specs.Buf.{put, after, part, Wrote}
+use Rattle.writer.specs.Buf.{after, part, Wrote}
 use Rattle.writer.proofs.Put.{part-none, part-split, put-past}
 use Rattle.writer.proofs.Wrote.{glue, place-is, same-length}
 use Rattle.calls.specs.Pieces.{Piece, raw, call, macro-call, places, written, expanded}
@@ -20,7 +20,7 @@ use Rattle.calls.proofs.Expanded.{onto}
 use Rattle.macros.specs.Deep.{DeepP}
 use Rattle.macros.specs.Expand.{Puts, IsCall, a-call, a-macro, front}
 use Rattle.macros.proofs.Copied.{drop-two}
-use Rattle.macros.proofs.Stands.{part-here, step-here, inner-here}
+use Rattle.macros.proofs.Stands.{part-here, step-here}
 
 pub front-none : (t : Out (List ℕ)) → front [] t ≡ t
 front-none (refused k) = refl

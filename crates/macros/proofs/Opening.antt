@@ -1,35 +1,34 @@
 -- A macro and its call before the first turn, and the inner of the instance.
 -- Assumes nothing.
-use mathlib.Core.Path.{_≡_, refl, sym, ap, _∙_}
-use mathlib.Core.List.{List, [], _∷_, _++_}
-use mathlib.Core.Bool.{Bool, true, false}
+use mathlib.Core.Path.{_≡_, refl, ap, _∙_}
+use mathlib.Core.List.{List, [], _∷_}
+use mathlib.Core.Bool.{true, false}
 use Prim.Native.Nat.{ℕ, suc, _+_, _≤_, min}
 use native.Mathlib.Omega.{arith}
 use lib.ListN.{length}
 use Rattle.definition.specs.Out.{Out, refused, done, _>>=_}
-use Rattle.definition.specs.Tree.{Name, Combinator, plain, chained, Inner, Inners, macro-invocation, macro}
+use Rattle.definition.specs.Tree.{Name, Combinator, plain, chained, Inners, macro-invocation, macro}
 use Rattle.definition.specs.Write.{wU16, wName, wAll, wList, wInner, wInners, wCombinator, wDefinition, countA}
-use Rattle.definition.specs.Size.{size, levels, levelsI, levelsA}
+use Rattle.definition.specs.Size.{size, levelsA}
 use Rattle.definition.specs.Macros.{Macro, instance, innerOf}
-use Rattle.seek.specs.At.{byteAt, pastAt, numberAt, namePast, namesPast}
+use Rattle.seek.specs.At.{pastAt, numberAt, namePast, namesPast}
 use Rattle.seek.specs.Here.{Here}
-use Rattle.seek.proofs.Here.{here-length, next-here, number-here, number-past, name-here, names-here}
+use Rattle.seek.proofs.Here.{next-here, number-here, number-past, name-here, names-here}
 use Rattle.lookup.proofs.Names.{clash}
 use Rattle.writer.specs.Buf.{put, part, Wrote}
 use Rattle.writer.proofs.Put.{length-put}
 use Rattle.calls.specs.declared.Walk.{Walk}
 use Rattle.calls.specs.Walk.{walk, combinatorAt, skipAt}
-use Rattle.calls.specs.Walked.{Walked, Skipped}
 use Rattle.calls.specs.Pieces.{pieces, places}
 use Rattle.laws.proofs.Splits.{s-comb}
 use Rattle.calls.proofs.Link.{walked, skipped}
 use Rattle.macros.specs.declared.Turn.{Turn}
-use Rattle.macros.specs.Instance.{Areas, Holds, Made, Instanced}
+use Rattle.macros.specs.Instance.{Areas, Made, Instanced}
 use Rattle.macros.specs.Table.{Defined}
-use Rattle.macros.specs.Expand.{Puts, Open, Opened, Paired, Called}
+use Rattle.macros.specs.Expand.{Puts, Opened, Paired, Called}
 use Rattle.macros.proofs.Stands.{part-here, inner-here}
 use Rattle.macros.proofs.Depth.{inner-deep}
-use Rattle.macros.proofs.Turns.{size-here, marks-room, from-zero, holds}
+use Rattle.macros.proofs.Turns.{size-here, marks-room, holds}
 
 module _ {macros : List ℕ} {def : ℕ} (m : Macro) (d : Defined macros def m) where
   list-at : Here macros (namePast macros def) (wList wName (m .params) (wCombinator (m .body) (d .rest)))

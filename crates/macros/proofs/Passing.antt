@@ -2,9 +2,9 @@
 -- Assumes nothing.
 use mathlib.Core.Path.{_≡_, refl, sym, ap, _∙_}
 use mathlib.Core.Logic.{⊎-elim}
-use mathlib.Core.List.{List, [], _∷_, _++_, map, append-assoc}
+use mathlib.Core.List.{List, [], _∷_, _++_, map}
 use mathlib.Core.Bool.{Bool, true, false, _&&_}
-use Prim.Native.Nat.{ℕ, suc, _+_, _*_, _≤_, _<_, min, max}
+use Prim.Native.Nat.{ℕ, _+_, _*_, _≤_, _<_, min, max}
 use native.Mathlib.Omega.{arith}
 use lib.Dec.{leb}
 use lib.ListN.{length, drop, length-append, length-map}
@@ -14,7 +14,7 @@ use Rattle.definition.specs.Out.{Out, refused, done, _>>=_, given}
 use Rattle.definition.specs.Tree.{Combinator, Definition, format, constant, byte-order, macro}
 use Rattle.definition.specs.Write.{wU16, wAll, wDefinition, wEntries, wParts, entryOf, wBook}
 use Rattle.definition.specs.Size.{levels, levelsP, levelsBook, sizeBook}
-use Rattle.definition.specs.Macros.{Macro, macros, expand, expandAll}
+use Rattle.definition.specs.Macros.{Macro, macros, expand, expandAll, expandList}
 use Rattle.laws.specs.Book.{IsBook}
 use Rattle.laws.proofs.Steps.{yielded}
 use Rattle.lookup.proofs.Names.{yes-no}
@@ -22,11 +22,9 @@ use Rattle.writer.specs.Buf.{put, Wrote}
 use Rattle.writer.proofs.Put.{put-put, put-fits}
 use Rattle.writer.proofs.Wrote.{same-length}
 use Rattle.calls.proofs.Expanded.{Grows, grows}
-use Rattle.macros.specs.declared.Expanded.{Expanded}
 use Rattle.macros.specs.declared.Expanded.the-variants.{Book, Grown}
-use Rattle.macros.specs.Instance.{Areas}
-use Rattle.macros.specs.Table.{Rows, Tabled}
-use Rattle.macros.specs.Left.{keptOf, shallow, expandOne, andOne, shallowAll, KeptOf, Whole, WritesBy, Writes, Booked}
+use Rattle.macros.specs.Table.{Tabled}
+use Rattle.macros.specs.Left.{keptOf, shallow, expandOne, andOne, shallowAll, KeptOf, WritesBy, Writes, Booked}
 use Rattle.macros.specs.Pass.{pass, answerOf, leaves, Passed}
 use Rattle.macros.proofs.Listed.{entries-apart, entries-size}
 use Rattle.macros.proofs.Leftover.{kept-count}
@@ -226,3 +224,8 @@ module _ {lib book out out₁ out₂ pl hs pl₁ hs₁ a b marks row : List ℕ}
           rw (le-leb (sizeBook es) 16384 s) (ap Book (t .0), t .1))
           (λ (h : leb (o + length (wAll wDefinition es [])) (length out₁) ≡ false). absurd (omega (arith, rw h at v)))
           (yes-no (leb (o + length (wAll wDefinition es [])) (length out₁)))
+
+-- the plain mode: the book's own macros
+pub plain-mode : (ds : List Definition) → pass ds ds ≡ expandList ds
+unfolding pass expandList
+plain-mode ds = refl

@@ -1,13 +1,12 @@
 -- The calls of a combinator have room in the marks, two numbers for at least four bytes; and their arguments' levels.
 -- Assumes nothing.
-use mathlib.Core.Path.{_≡_}
-use mathlib.Core.List.{List, [], _∷_, _++_}
-use Prim.Native.Nat.{ℕ, suc, _+_, _≤_, max}
+use mathlib.Core.List.{List, [], _∷_}
+use Prim.Native.Nat.{ℕ, _+_, _≤_}
 use native.Mathlib.Omega.{arith}
 use lib.ListN.{length, length-append}
 use Rattle.definition.specs.Tree.{Name, CaseKind, Combinator, plain, chained, Inner, leaf, struct, choice, shell, bytes, invocation, macro-invocation, Fields, no-field, field, const, Cases, no-case, case, Inners}
-use Rattle.definition.specs.Write.{wU16, wName, wAll, wList, wInner, wInners, wShut, countA}
-use Rattle.definition.specs.Size.{levels, levelsI, levelsF, levelsC, levelsA}
+use Rattle.definition.specs.Write.{wU16, wName, wList, wInner, wShut}
+use Rattle.definition.specs.Size.{levels, levelsI, levelsF, levelsC}
 use Rattle.calls.specs.Pieces.{Piece, raw, call, macro-call, pieces, piecesI, piecesF, piecesC, places, written}
 use Rattle.laws.proofs.Splits.{s-inner}
 use Rattle.macros.specs.Deep.{DeepP}

@@ -3,20 +3,20 @@
 use mathlib.Core.Path.{_≡_, refl, sym, ap, _∙_}
 use mathlib.Core.List.{List, [], _∷_, _++_, map}
 use mathlib.Core.Bool.{Bool, true, false}
-use Prim.Native.Nat.{ℕ, suc, _+_, _-_, _*_, _/_, _%_, _≤_, _<_}
+use Prim.Native.Nat.{ℕ, _+_, _-_, _*_, _/_, _%_, _≤_, _<_}
 use native.Mathlib.Omega.{arith}
 use lib.ListN.{length, getD, set, length-set, length-map}
 use lib.Seq.{getD-set-same, getD-set-other}
-use Rattle.definition.specs.Out.{Out, done, _>>=_}
+use Rattle.definition.specs.Out.{done}
 use Rattle.definition.specs.Tree.{Name, Inners, macro-invocation, Definition, format, constant, byte-order, macro}
 use Rattle.definition.specs.Names.{eqName}
-use Rattle.definition.specs.Write.{wU16, wName, wAll, wList, wDefinition, wCombinator, kindOf, kindByte, sizeOf, wEntries, wParts, entryOf, wBook}
-use Rattle.definition.specs.Size.{levels, levelsBook, sizeBook}
-use Rattle.definition.specs.Macros.{Macro, macros, instance, innerOf, expandBy, expandMacro}
+use Rattle.definition.specs.Write.{wU16, wName, wAll, wList, wDefinition, wCombinator, kindOf, kindByte, wEntries, wParts, entryOf, wBook}
+use Rattle.definition.specs.Size.{levelsBook, sizeBook}
+use Rattle.definition.specs.Macros.{Macro, macros, expandBy, expandMacro}
 use Rattle.laws.specs.Book.{IsBook}
 use Rattle.seek.specs.At.{byteAt, pastAt, numberAt}
 use Rattle.seek.specs.Here.{Here}
-use Rattle.seek.proofs.Here.{here-length, past-here, number-here, number-past}
+use Rattle.seek.proofs.Here.{past-here, number-here, number-past}
 use Rattle.lookup.specs.Name.{nameAt}
 use Rattle.lookup.proofs.Names.{stands}
 use Rattle.names.specs.Taken.{hashOf}

@@ -1,10 +1,10 @@
 -- Where bytes stand: parts, places further on, and calls.
 -- Assumes nothing.
-use mathlib.Core.Path.{_≡_, refl, sym, ap, _∙_}
-use mathlib.Core.List.{List, [], _∷_, _++_, append-nil}
+use mathlib.Core.Path.{_≡_, ap, _∙_}
+use mathlib.Core.List.{List, [], _++_}
 use Prim.Native.Nat.{ℕ, _+_, _-_, _≤_, min}
 use native.Mathlib.Omega.{arith}
-use lib.ListN.{length, take, drop, length-append}
+use lib.ListN.{length, length-append}
 use lib.Seq.{take-append-seam}
 use Rattle.definition.specs.Tree.{Name, Inner, Inners, invocation, macro-invocation}
 use Rattle.definition.specs.Write.{wU16, wName, wList, wInner, wInners, countA}

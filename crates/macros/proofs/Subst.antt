@@ -1,11 +1,10 @@
 -- Substitution by position is the definition's.
 -- Assumes nothing.
-use mathlib.Core.Path.{_≡_, refl, sym, ap, _∙_}
+use mathlib.Core.Path.{_≡_, sym, _∙_}
 use mathlib.Core.List.{List, [], _∷_, _++_, append-assoc, append-nil}
 use mathlib.Core.Bool.{Bool, true, false}
 use Prim.Native.Nat.{ℕ, _+_, _≤_}
 use native.Mathlib.Omega.{arith}
-use lib.Dec.{eqb}
 use lib.ListN.{length, length-append}
 use Rattle.definition.specs.Tree.{Name, Inner, Inners, Combinator, invocation, macro-invocation}
 use Rattle.definition.specs.Names.{eqName}
@@ -19,7 +18,7 @@ use Rattle.calls.specs.Pieces.{Piece, raw, call, macro-call, pieces, places, wr
 use Rattle.laws.proofs.Splits.{s-inner}
 use Rattle.calls.proofs.Written.{written-is, subst-is}
 use Rattle.macros.specs.Substituted.{pick, callsName, substituted}
-use Rattle.macros.proofs.Stands.{part-here, step-here, inner-here, part-on, call-tag, macro-tag, call-name}
+use Rattle.macros.proofs.Stands.{step-here, inner-here, part-on, call-tag, macro-tag, call-name}
 
 module _ (s : List ℕ) (p : Name) (y : Inner) (to : ℕ) where
   abbrev a : List ℕ

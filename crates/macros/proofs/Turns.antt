@@ -2,16 +2,16 @@
 -- Assumes nothing.
 use mathlib.Core.Path.{_≡_, refl, sym, ap, _∙_}
 use mathlib.Core.Logic.{_⊎_, ⊎-elim}
-use mathlib.Core.List.{List, [], _∷_, _++_}
-use mathlib.Core.Bool.{Bool, true, false, _&&_}
-use Prim.Native.Nat.{ℕ, zero, suc, _+_, _-_, _≤_, _<_, min}
+use mathlib.Core.List.{List, [], _∷_}
+use mathlib.Core.Bool.{true, false}
+use Prim.Native.Nat.{ℕ, _+_, _-_, _≤_, _<_, min}
 use native.Mathlib.Omega.{arith}
 use lib.Dec.{leb}
 use lib.ListN.{length, take, drop}
 use borrow.Author.Tests.{le-leb, lt-leb, leb-true, leb-false}
 use Rattle.definition.specs.Code.{macro-growth}
 use Rattle.definition.specs.Out.{Out, refused, done, given, _>>=_}
-use Rattle.definition.specs.Tree.{Name, Combinator, Inner, Inners, no-inner, inner, invocation}
+use Rattle.definition.specs.Tree.{Name, Combinator, Inner, Inners, no-inner, inner}
 use Rattle.definition.specs.Write.{wName, wAll, wInner, wInners, wCombinator, countA}
 use Rattle.definition.specs.Size.{size, levels, levelsI, levelsA}
 use Rattle.definition.specs.Macros.{subst, limited, instance}
@@ -22,7 +22,7 @@ use Rattle.lookup.specs.Name.{nameAt}
 use Rattle.lookup.proofs.Names.{stands, yes-no, clash}
 use Rattle.writer.specs.Buf.{put, part, Wrote}
 use Rattle.writer.proofs.Put.{put-fits, part-written, take-written, length-put}
-use Rattle.writer.proofs.Wrote.{fitted, place-fits, place-is, same-length}
+use Rattle.writer.proofs.Wrote.{fitted, place-is}
 use Rattle.calls.specs.declared.Walk.{Walk}
 use Rattle.calls.specs.Walk.{walk, combinatorAt, skipAt}
 use Rattle.calls.specs.Walked.{Walked, Skipped}

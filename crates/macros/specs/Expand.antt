@@ -1,12 +1,12 @@
 -- What expansion says of the trees that stand in the bytes.
 use mathlib.Core.Path.{_≡_}
-use mathlib.Core.List.{List, [], _∷_, _++_}
+use mathlib.Core.List.{List, [], _++_}
 use mathlib.Core.Bool.{true}
 use Prim.Native.Nat.{ℕ, suc, _+_, _≤_, min}
 use lib.ListN.{length, drop}
 use Rattle.definition.specs.Out.{Out, refused, done, _>>=_}
-use Rattle.definition.specs.Tree.{Name, Combinator, plain, chained, Inner, Inners, invocation, macro-invocation}
-use Rattle.definition.specs.Write.{wName, wAll, wInner, wInners, wCombinator, countA}
+use Rattle.definition.specs.Tree.{Name, Inner, Inners, invocation, macro-invocation}
+use Rattle.definition.specs.Write.{wName, wAll, wInner, wInners, countA}
 use Rattle.definition.specs.Size.{levelsA}
 use Rattle.definition.specs.Macros.{Macro, instance, innerOf, expandI}
 use Rattle.seek.specs.Here.{Here}

@@ -1,14 +1,14 @@
 -- What the steps of an instance say of the trees that stand in the bytes.
 use mathlib.Core.Path.{_≡_}
 use mathlib.Core.List.{List, []}
-use mathlib.Core.Bool.{Bool, true, false}
+use mathlib.Core.Bool.{true, false}
 use Prim.Native.Nat.{ℕ, _≤_, min}
 use lib.ListN.{length, take}
 use Rattle.definition.specs.Tree.{Name, Combinator, Inner, Inners}
 use Rattle.definition.specs.Out.{Out, refused, done}
-use Rattle.definition.specs.Write.{wName, wAll, wList, wInner, wInners, wCombinator, countA}
+use Rattle.definition.specs.Write.{wName, wAll, wInner, wInners, wCombinator, countA}
 use Rattle.definition.specs.Size.{size, levels, levelsI, levelsA}
-use Rattle.definition.specs.Macros.{Macro, subst, limited, instance}
+use Rattle.definition.specs.Macros.{subst, limited, instance}
 use Rattle.seek.specs.Here.{Here}
 use Rattle.calls.specs.Pieces.{pieces, places}
 use Rattle.macros.specs.declared.Turn.{Turn}

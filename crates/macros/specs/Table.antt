@@ -4,7 +4,7 @@ use mathlib.Core.List.{List, [], _∷_, map}
 use mathlib.Core.Bool.{true, false}
 use Prim.Native.Nat.{ℕ, _+_, _-_, _≤_, _<_}
 use lib.ListN.{length, getD}
-use Rattle.definition.specs.Out.{Out, done, _>>=_}
+use Rattle.definition.specs.Out.{done, _>>=_}
 use Rattle.definition.specs.Tree.{Name, Inners, macro-invocation, Definition, macro}
 use Rattle.definition.specs.Names.{eqName}
 use Rattle.definition.specs.Write.{wAll, wDefinition, kindOf, kindByte, wEntries, entryOf, wBook}

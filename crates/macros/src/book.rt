@@ -1,6 +1,8 @@
 // The book that is left: macros removed, order kept, contents made anew, and each format's body expanded.
 use crate::expand::expand_macros_in_combinator;
 use crate::first_marks;
+use crate::skip_over;
+use crate::walk_over;
 use calls::Walk;
 use calls::combinator;
 use calls::skip_inner;
@@ -32,17 +34,7 @@ fn param_past(book: &[u8], at: usize, marks: &mut [u16]) -> usize
     ensures { λ r. ⌜ ParamPast (now (book .entry)) at r ⌝ }
 {
     let p = name_past(book, at);
-    let w = skip_inner(
-        book,
-        Walk {
-            at: p,
-            n: 0,
-            left: 64,
-            plain: true,
-        },
-        64,
-        marks,
-    );
+    let w = skip_over(book, p, marks);
     w.at
 }
 
@@ -79,17 +71,7 @@ fn expand_format(
     let params = name_past(book, at);
     let body = params_past(book, params, marks);
     let q = put_part(book, at, body, out, o);
-    let w = combinator(
-        book,
-        Walk {
-            at: body,
-            n: 0,
-            left: 64,
-            plain: true,
-        },
-        64,
-        marks,
-    );
+    let w = walk_over(book, body, 64, marks);
     let end = w.at;
     let n = w.n;
     let r = expand_macros_in_combinator(
@@ -110,17 +92,7 @@ fn expand_format(
     if out.len() < r {
         return r;
     }
-    let v = combinator(
-        &out[..],
-        Walk {
-            at: q,
-            n: 0,
-            left: 129,
-            plain: true,
-        },
-        129,
-        marks,
-    );
+    let v = walk_over(&out[..], q, 129, marks);
     let left = v.left;
     if left < 65 {
         return out.len() + 1;
@@ -218,8 +190,7 @@ pub fn expand_all(
     let mut o = bodies;
     while 0 < left {
         let kind = byte(book, entry);
-        let sized = past(book, entry, 4);
-        let size = number(book, sized) as usize;
+        let size = number(book, past(book, entry, 4)) as usize;
         let next = past(book, at, size);
         entry = past(book, entry, 6);
         left -= 1;
@@ -246,8 +217,7 @@ pub fn expand_all(
         if out.len() < r {
             return r;
         }
-        let long = minus(r, o);
-        e = put_entry(kind, o, long, out, e);
+        e = put_entry(kind, o, minus(r, o), out, e);
         o = r;
         at = next;
     }

@@ -2,6 +2,8 @@
 use crate::Turn;
 use crate::instance;
 use crate::least;
+use crate::skip_over;
+use crate::walk_over;
 use calls::Walk;
 use calls::combinator;
 use calls::skip_inner;
@@ -27,30 +29,10 @@ fn opened(
     let k = number(macros, p);
     let first = past(macros, p, 2);
     let body = names_past(macros, first, k);
-    let u = combinator(
-        macros,
-        Walk {
-            at: body,
-            n: 0,
-            left: 64,
-            plain: true,
-        },
-        64,
-        marks,
-    );
+    let u = walk_over(macros, body, 64, marks);
     let end = u.at;
     put_part(macros, body, end, a, 0);
-    let w = combinator(
-        &a[..],
-        Walk {
-            at: 0,
-            n: 0,
-            left: 129,
-            plain: true,
-        },
-        129,
-        marks,
-    );
+    let w = walk_over(&a[..], 0, 129, marks);
     let q = past(book, call, 1);
     let j = name_past(book, q);
     let arg = past(book, j, 2);
@@ -94,17 +76,7 @@ pub fn expand_call(
     let made = instance(macros, book, t, n, a, b, marks);
     let good = made.good;
     if good {
-        let u = skip_inner(
-            &a[..],
-            Walk {
-                at: 0,
-                n: 0,
-                left: 64,
-                plain: true,
-            },
-            64,
-            marks,
-        );
+        let u = skip_over(&a[..], 0, marks);
         let end = u.at;
         return put_part(&a[..], 0, end, out, o);
     }

@@ -16,10 +16,11 @@ use writer::put_bytes;
 use writer::put_part;
 use writer::put_u16;
 ghost use mathlib.Core.Path.{_≡_};
-ghost use mathlib.Core.Bool.{true};
+ghost use mathlib.Core.Bool.{true, false};
 ghost use Prim.Native.Nat.{min};
 ghost use lib.ListN.{take};
 ghost use Rattle.writer.specs.Buf.{part, Wrote};
+ghost use Rattle.calls.specs.Walk.{walk, combinatorAt, skipAt};
 ghost use Rattle.macros.specs.Instance.{Turned, Instanced};
 ghost use Rattle.macros.specs.Pass.{Passed};
 ghost use Rattle.macros.specs.Substituted.{callsName, substituted};
@@ -103,6 +104,52 @@ fn first_marks(marks: &[u16], n: usize) -> &[u16]
     &marks[..end]
 }
 
+// Over the combinator at a place, with so many levels left; its calls go to the marks from the first on.
+fn walk_over(s: &[u8], at: usize, levels: usize, marks: &mut [u16]) -> Walk
+    ensures { λ r. ⌜ (r ≡ combinatorAt levels (now (s .entry)) (walk at 0 levels true) (now (marks .entry)) .0) × (now (marks .exit) ≡ combinatorAt levels (now (s .entry)) (walk at 0 levels true) (now (marks .entry)) .1) ⌝ }
+{
+    combinator(
+        s,
+        Walk {
+            at,
+            n: 0,
+            left: levels,
+            plain: true,
+        },
+        levels,
+        marks,
+    )
+}
+
+// Over the inner at a place, with nothing recorded.
+fn skip_over(s: &[u8], at: usize, marks: &mut [u16]) -> Walk
+    ensures { λ r. ⌜ (r ≡ skipAt 64 (now (s .entry)) (walk at 0 64 true) (now (marks .entry)) .0) × (now (marks .exit) ≡ skipAt 64 (now (s .entry)) (walk at 0 64 true) (now (marks .entry)) .1) ⌝ }
+{
+    skip_inner(
+        s,
+        Walk {
+            at,
+            n: 0,
+            left: 64,
+            plain: true,
+        },
+        64,
+        marks,
+    )
+}
+
+fn stopped(t: Turn) -> Turn
+    ensures { λ r. ⌜ r .good ≡ false ⌝ }
+{
+    Turn {
+        param: t.param,
+        arg: t.arg,
+        len: t.len,
+        n: t.n,
+        good: false,
+    }
+}
+
 // One parameter's turn: the combinator in a is made anew in b, and goes back to a. Over 16,384 bytes or 64 levels it is not good.
 fn substitute_next(
     macros: &[u8],
@@ -118,17 +165,7 @@ fn substitute_next(
     let arg = t.arg;
     let len = t.len;
     let n = t.n;
-    let u = skip_inner(
-        book,
-        Walk {
-            at: arg,
-            n: 0,
-            left: 64,
-            plain: true,
-        },
-        64,
-        marks,
-    );
+    let u = skip_over(book, arg, marks);
     let end = u.at;
     let o = substitute_in_combinator(
         &a[..],
@@ -140,26 +177,10 @@ fn substitute_next(
         b,
     );
     if b.len() < o {
-        return Turn {
-            param,
-            arg,
-            len,
-            n,
-            good: false,
-        };
+        return stopped(t);
     }
     put_part(&b[..], 0, o, a, 0);
-    let w = combinator(
-        &a[..],
-        Walk {
-            at: 0,
-            n: 0,
-            left: 129,
-            plain: true,
-        },
-        129,
-        marks,
-    );
+    let w = walk_over(&a[..], 0, 129, marks);
     let left = w.left;
     let next = name_past(macros, param);
     Turn {

@@ -8,7 +8,6 @@ use Rattle.macros.proofs.book.expand_format.Statement.{statement}
 use Rattle.macros.proofs.book.expand_format.Tie as tie
 use Rattle.macros.proofs.book.expand_format.Reads as reads
 use Rattle.macros.proofs.book.expand_format.Lts as lts
-use Rattle.calls.proofs.combinator.Reads as combinator-reads
 use Rattle.macros.proofs.book.params_past.Reads as params-past-reads
 use Rattle.macros.proofs.expand.expand_macros_in_combinator.Reads as expand-macros-in-combinator-reads
 use Rattle.macros.proofs.first_marks.Reads as first-marks-reads
@@ -28,8 +27,8 @@ put-part-requires : tie.Need-put-part-requires
 put-part-requires c κs = search needs
 
 -- src/book.rt:72:9
-combinator-requires : tie.Need-combinator-requires
-combinator-requires c κs = search needs
+walk-over-requires : tie.Need-walk-over-requires
+walk-over-requires c κs = search needs
 
 -- src/book.rt:75:88
 first-marks-requires : tie.Need-first-marks-requires
@@ -62,12 +61,12 @@ same-length-5 c = search needs
 -- src/book.rt:77:9
 returns : tie.Need-returns
 returns c =
-    formatted-cut (c .before .before .before .before .before .before .before .before .before .before .before .before .before .before .before .before .before .before .before .before .before .before .before .before .before .before .before .before .name-past .ensures) (c .before .before .before .before .before .before .before .before .before .before .before .before .before .before .before .before .before .before .before .before .before .before .before .before .before .before .params-past .ensures) (c .before .before .before .before .before .before .before .before .before .before .before .before .before .before .before .before .before .before .before .before .before .before .put-part .ensures) _ (c .before .before .before .before .before .before .before .before .before .before .before .before .before .before .before .before .before .before .before .before .before .before .before .before .before .marks .given) _ (c .before .before .before .before .before .before .before .before .before .before .before .before .before .before .before .before .before .before .combinator .ensures .0) (c .before .before .before .before .before .before .before .before .before .before .before .before .before .before .before .before .before .before .combinator .ensures .1)
+    formatted-cut (c .before .before .before .before .before .before .before .before .before .before .before .before .before .before .before .before .before .before .before .before .before .before .before .before .before .before .before .before .name-past .ensures) (c .before .before .before .before .before .before .before .before .before .before .before .before .before .before .before .before .before .before .before .before .before .before .before .before .before .before .params-past .ensures) (c .before .before .before .before .before .before .before .before .before .before .before .before .before .before .before .before .before .before .before .before .before .before .put-part .ensures) _ (c .before .before .before .before .before .before .before .before .before .before .before .before .before .before .before .before .before .before .before .before .before .before .before .before .before .marks .given) _ (c .before .before .before .before .before .before .before .before .before .before .before .before .before .before .before .before .before .before .walk-over .ensures .0) (c .before .before .before .before .before .before .before .before .before .before .before .before .before .before .before .before .before .before .walk-over .ensures .1)
     (c .before .before .before .before .before .before .before .before .before .before .before .before .before .before .first-marks .ensures) (c .before .before .before .before .before .before .before .before .before .expand-macros-in-combinator .ensures) (c .before .before .out2 .given) (c .if1 .taken)
 
 -- src/book.rt:79:9
-combinator-requires-2 : tie.Need-combinator-requires-2
-combinator-requires-2 c κs = search needs
+walk-over-requires-2 : tie.Need-walk-over-requires-2
+walk-over-requires-2 c κs = search needs
 
 -- src/book.rt:82:16
 add-result : tie.Need-add-result
@@ -96,8 +95,8 @@ same-length-10 c = c .before .before .before .before .before .before .before .be
 -- src/book.rt:82:9
 returns-2 : tie.Need-returns-2
 returns-2 c =
-    formatted-deep (c .before .before .before .before .before .before .before .before .before .before .before .before .before .before .before .before .before .before .before .before .before .before .before .before .before .before .before .before .before .before .before .before .before .before .name-past .ensures) (c .before .before .before .before .before .before .before .before .before .before .before .before .before .before .before .before .before .before .before .before .before .before .before .before .before .before .before .before .before .before .before .before .params-past .ensures) (c .before .before .before .before .before .before .before .before .before .before .before .before .before .before .before .before .before .before .before .before .before .before .before .before .before .before .before .before .put-part .ensures) _ (c .before .before .before .before .before .before .before .before .before .before .before .before .before .before .before .before .before .before .before .before .before .before .before .before .before .before .before .before .before .before .before .marks .given) _ (c .before .before .before .before .before .before .before .before .before .before .before .before .before .before .before .before .before .before .before .before .before .before .before .before .combinator .ensures .0) (c .before .before .before .before .before .before .before .before .before .before .before .before .before .before .before .before .before .before .before .before .before .before .before .before .combinator .ensures .1)
-    (c .before .before .before .before .before .before .before .before .before .before .before .before .before .before .before .before .before .before .before .before .first-marks .ensures) (c .before .before .before .before .before .before .before .before .before .before .before .before .before .before .before .expand-macros-in-combinator .ensures) (c .before .before .before .before .before .before .before .before .out2 .given) (c .before .before .before .before .before .before .if1 .left) _ (c .before .before .before .before .before .before .before .before .before .before .before .before .before .before .before .before .before .before .before .before .before .before .before .marks2 .given ∙ c .before .before .before .before .before .before .before .before .before .before .before .before .before .before .before .before .before .before .before .before .before .before .before .before .before .before .before .before .before .before .before .marks .given) _ (c .before .before .before .combinator2 .ensures .0) (c .if2 .taken) (omega arith)
+    formatted-deep (c .before .before .before .before .before .before .before .before .before .before .before .before .before .before .before .before .before .before .before .before .before .before .before .before .before .before .before .before .before .before .before .before .before .before .name-past .ensures) (c .before .before .before .before .before .before .before .before .before .before .before .before .before .before .before .before .before .before .before .before .before .before .before .before .before .before .before .before .before .before .before .before .params-past .ensures) (c .before .before .before .before .before .before .before .before .before .before .before .before .before .before .before .before .before .before .before .before .before .before .before .before .before .before .before .before .put-part .ensures) _ (c .before .before .before .before .before .before .before .before .before .before .before .before .before .before .before .before .before .before .before .before .before .before .before .before .before .before .before .before .before .before .before .marks .given) _ (c .before .before .before .before .before .before .before .before .before .before .before .before .before .before .before .before .before .before .before .before .before .before .before .before .walk-over .ensures .0) (c .before .before .before .before .before .before .before .before .before .before .before .before .before .before .before .before .before .before .before .before .before .before .before .before .walk-over .ensures .1)
+    (c .before .before .before .before .before .before .before .before .before .before .before .before .before .before .before .before .before .before .before .before .first-marks .ensures) (c .before .before .before .before .before .before .before .before .before .before .before .before .before .before .before .expand-macros-in-combinator .ensures) (c .before .before .before .before .before .before .before .before .out2 .given) (c .before .before .before .before .before .before .if1 .left) _ (c .before .before .before .before .before .before .before .before .before .before .before .before .before .before .before .before .before .before .before .before .before .before .before .marks2 .given ∙ c .before .before .before .before .before .before .before .before .before .before .before .before .before .before .before .before .before .before .before .before .before .before .before .before .before .before .before .before .before .before .before .marks .given) _ (c .before .before .before .walk-over2 .ensures .0) (c .if2 .taken) (omega arith)
 
 -- src/book.rt:53:1
 same-length-11 : tie.Need-same-length-11
@@ -122,8 +121,8 @@ same-length-15 c = c .before .before .before .before .before .before .before .be
 -- src/book.rt:53:1
 returns-3 : tie.Need-returns-3
 returns-3 c =
-    formatted-done (c .before .before .before .before .before .before .before .before .before .before .before .before .before .before .before .before .before .before .before .before .before .before .before .before .before .before .before .before .before .before .before .before .before .before .name-past .ensures) (c .before .before .before .before .before .before .before .before .before .before .before .before .before .before .before .before .before .before .before .before .before .before .before .before .before .before .before .before .before .before .before .before .params-past .ensures) (c .before .before .before .before .before .before .before .before .before .before .before .before .before .before .before .before .before .before .before .before .before .before .before .before .before .before .before .before .put-part .ensures) _ (c .before .before .before .before .before .before .before .before .before .before .before .before .before .before .before .before .before .before .before .before .before .before .before .before .before .before .before .before .before .before .before .marks .given) _ (c .before .before .before .before .before .before .before .before .before .before .before .before .before .before .before .before .before .before .before .before .before .before .before .before .combinator .ensures .0) (c .before .before .before .before .before .before .before .before .before .before .before .before .before .before .before .before .before .before .before .before .before .before .before .before .combinator .ensures .1)
-    (c .before .before .before .before .before .before .before .before .before .before .before .before .before .before .before .before .before .before .before .before .first-marks .ensures) (c .before .before .before .before .before .before .before .before .before .before .before .before .before .before .before .expand-macros-in-combinator .ensures) (c .before .before .before .before .before .before .before .before .out2 .given) (c .before .before .before .before .before .before .if1 .left) _ (c .before .before .before .before .before .before .before .before .before .before .before .before .before .before .before .before .before .before .before .before .before .before .before .marks2 .given ∙ c .before .before .before .before .before .before .before .before .before .before .before .before .before .before .before .before .before .before .before .before .before .before .before .before .before .before .before .before .before .before .before .marks .given) _ (c .before .before .before .combinator2 .ensures .0) (c .if2 .left)
+    formatted-done (c .before .before .before .before .before .before .before .before .before .before .before .before .before .before .before .before .before .before .before .before .before .before .before .before .before .before .before .before .before .before .before .before .before .before .name-past .ensures) (c .before .before .before .before .before .before .before .before .before .before .before .before .before .before .before .before .before .before .before .before .before .before .before .before .before .before .before .before .before .before .before .before .params-past .ensures) (c .before .before .before .before .before .before .before .before .before .before .before .before .before .before .before .before .before .before .before .before .before .before .before .before .before .before .before .before .put-part .ensures) _ (c .before .before .before .before .before .before .before .before .before .before .before .before .before .before .before .before .before .before .before .before .before .before .before .before .before .before .before .before .before .before .before .marks .given) _ (c .before .before .before .before .before .before .before .before .before .before .before .before .before .before .before .before .before .before .before .before .before .before .before .before .walk-over .ensures .0) (c .before .before .before .before .before .before .before .before .before .before .before .before .before .before .before .before .before .before .before .before .before .before .before .before .walk-over .ensures .1)
+    (c .before .before .before .before .before .before .before .before .before .before .before .before .before .before .before .before .before .before .before .before .first-marks .ensures) (c .before .before .before .before .before .before .before .before .before .before .before .before .before .before .before .expand-macros-in-combinator .ensures) (c .before .before .before .before .before .before .before .before .out2 .given) (c .before .before .before .before .before .before .if1 .left) _ (c .before .before .before .before .before .before .before .before .before .before .before .before .before .before .before .before .before .before .before .before .before .before .before .marks2 .given ∙ c .before .before .before .before .before .before .before .before .before .before .before .before .before .before .before .before .before .before .before .before .before .before .before .before .before .before .before .before .before .before .before .marks .given) _ (c .before .before .before .walk-over2 .ensures .0) (c .if2 .left)
 
 pub expand-format-spec : {M : Type 1} → statement M
 expand-format-spec =
@@ -132,7 +131,7 @@ expand-format-spec =
     name-past-requires
     params-past-requires
     put-part-requires
-    combinator-requires
+    walk-over-requires
     first-marks-requires
     expand-macros-in-combinator-requires
     same-length
@@ -141,7 +140,7 @@ expand-format-spec =
     same-length-4
     same-length-5
     returns
-    combinator-requires-2
+    walk-over-requires-2
     add-result
     same-length-6
     same-length-7

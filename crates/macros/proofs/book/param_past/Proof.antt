@@ -6,7 +6,6 @@ use Rattle.macros.proofs.book.param_past.Statement.{statement}
 use Rattle.macros.proofs.book.param_past.Tie as tie
 use Rattle.macros.proofs.book.param_past.Reads as reads
 use Rattle.macros.proofs.book.param_past.Lts as lts
-use Rattle.calls.proofs.skip_inner.Reads as skip-inner-reads
 use Rattle.seek.proofs.name_past.Reads as name-past-reads
 
 -- src/book.rt:34:9
@@ -14,8 +13,8 @@ name-past-requires : tie.Need-name-past-requires
 name-past-requires c κs = search needs
 
 -- src/book.rt:35:9
-skip-inner-requires : tie.Need-skip-inner-requires
-skip-inner-requires c κs = search needs
+skip-over-requires : tie.Need-skip-over-requires
+skip-over-requires c κs = search needs
 
 -- src/book.rt:31:1
 same-length : tie.Need-same-length
@@ -23,7 +22,7 @@ same-length c = search needs
 
 -- src/book.rt:31:1
 returns : tie.Need-returns
-returns c = format.param-past _ (c .before .before .before .before .name-past .ensures) _ (c .before .before .skip-inner .ensures .0)
+returns c = format.param-past _ (c .before .before .before .before .name-past .ensures) _ (c .before .before .skip-over .ensures .0)
 
 pub param-past-spec : {M : Type 1} → statement M
-param-past-spec = tie.close (tie.spec name-past-requires skip-inner-requires same-length returns)
+param-past-spec = tie.close (tie.spec name-past-requires skip-over-requires same-length returns)

@@ -8,7 +8,6 @@ use Rattle.macros.proofs.call.expand_call.Statement.{statement}
 use Rattle.macros.proofs.call.expand_call.Tie as tie
 use Rattle.macros.proofs.call.expand_call.Reads as reads
 use Rattle.macros.proofs.call.expand_call.Lts as lts
-use Rattle.calls.proofs.skip_inner.Reads as skip-inner-reads
 use Rattle.macros.proofs.call.opened.Reads as opened-reads
 use Rattle.macros.proofs.call.pairs.Reads as pairs-reads
 use Rattle.macros.proofs.instance.Reads as instance-reads
@@ -27,8 +26,8 @@ instance-requires : tie.Need-instance-requires
 instance-requires c κs = search needs
 
 -- src/call.rt:54:13
-skip-inner-requires : tie.Need-skip-inner-requires
-skip-inner-requires c κs = search needs
+skip-over-requires : tie.Need-skip-over-requires
+skip-over-requires c κs = search needs
 
 -- src/call.rt:56:9
 put-part-requires : tie.Need-put-part-requires
@@ -52,7 +51,7 @@ same-length-4 c = search needs
 
 -- src/call.rt:56:9
 returns : tie.Need-returns
-returns c = called-done (c .before .before .before .before .before .before .before .before .before .before .before .before .before .before .before .before .before .before .before .before .before .before .before .before .before .before .opened .ensures) (c .before .before .before .before .before .before .before .before .before .before .before .before .before .before .before .before .before .before .before .before .before .before .before .before .before .a .given) (c .before .before .before .before .before .before .before .before .before .before .before .before .before .before .before .before .before .before .before .before .before .before .before .marks .given) (c .before .before .before .before .before .before .before .before .before .before .before .before .before .before .before .before .before .before .before .before .before .pairs .ensures) (c .before .before .before .before .before .before .before .before .before .before .before .before .before .before .before .before .before .instance .ensures) (c .before .before .before .before .before .before .before .before .before .before .if1 .taken) (c .before .before .before .before .before .before .before .before .before .before .before .before .before .before .before .before .a2 .given) _ (c .before .before .before .before .before .before .before .skip-inner .ensures .0) (c .before .before .put-part .ensures)
+returns c = called-done (c .before .before .before .before .before .before .before .before .before .before .before .before .before .before .before .before .before .before .before .before .before .before .before .before .before .before .opened .ensures) (c .before .before .before .before .before .before .before .before .before .before .before .before .before .before .before .before .before .before .before .before .before .before .before .before .before .a .given) (c .before .before .before .before .before .before .before .before .before .before .before .before .before .before .before .before .before .before .before .before .before .before .before .marks .given) (c .before .before .before .before .before .before .before .before .before .before .before .before .before .before .before .before .before .before .before .before .before .pairs .ensures) (c .before .before .before .before .before .before .before .before .before .before .before .before .before .before .before .before .before .instance .ensures) (c .before .before .before .before .before .before .before .before .before .before .if1 .taken) (c .before .before .before .before .before .before .before .before .before .before .before .before .before .before .before .before .a2 .given) _ (c .before .before .before .before .before .before .before .skip-over .ensures .0) (c .before .before .put-part .ensures)
 
 -- src/call.rt:58:5
 add-result : tie.Need-add-result
@@ -81,7 +80,7 @@ expand-call-spec =
     opened-requires
     pairs-requires
     instance-requires
-    skip-inner-requires
+    skip-over-requires
     put-part-requires
     same-length
     same-length-2

@@ -7,7 +7,6 @@ use Rattle.macros.proofs.call.opened.Statement.{statement}
 use Rattle.macros.proofs.call.opened.Tie as tie
 use Rattle.macros.proofs.call.opened.Reads as reads
 use Rattle.macros.proofs.call.opened.Lts as lts
-use Rattle.calls.proofs.combinator.Reads as combinator-reads
 use Rattle.seek.proofs.name_past.Reads as name-past-reads
 use Rattle.seek.proofs.names_past.Reads as names-past-reads
 use Rattle.seek.proofs.number.Reads as number-reads
@@ -31,16 +30,16 @@ names-past-requires : tie.Need-names-past-requires
 names-past-requires c κs = search needs
 
 -- src/call.rt:23:9
-combinator-requires : tie.Need-combinator-requires
-combinator-requires c κs = search needs
+walk-over-requires : tie.Need-walk-over-requires
+walk-over-requires c κs = search needs
 
 -- src/call.rt:25:5
 put-part-requires : tie.Need-put-part-requires
 put-part-requires c κs = search needs
 
 -- src/call.rt:26:9
-combinator-requires-2 : tie.Need-combinator-requires-2
-combinator-requires-2 c κs = search needs
+walk-over-requires-2 : tie.Need-walk-over-requires-2
+walk-over-requires-2 c κs = search needs
 
 -- src/call.rt:27:9
 past-requires-2 : tie.Need-past-requires-2
@@ -66,7 +65,7 @@ same-length-2 c = search needs
 returns : tie.Need-returns
 returns c =
     opening.opened (c .before .before .before .before .before .before .before .before .before .before .before .before .before .before .before .before .before .before .before .name-past .ensures) (c .before .before .before .before .before .before .before .before .before .before .before .before .before .before .before .before .before .before .number .ensures) (c .before .before .before .before .before .before .before .before .before .before .before .before .before .before .before .before .before .past .ensures) (c .before .before .before .before .before .before .before .before .before .before .before .before .before .before .before .before .names-past .ensures) (c .before .before .past2 .ensures) (c .before .name-past2 .ensures) (c .past3 .ensures)
-    _ (c .before .before .before .before .before .before .before .before .before .before .before .before .before .before .combinator .ensures .0) (c .before .before .before .before .before .before .before .before .before .before .before .before .before .before .combinator .ensures .1) (c .before .before .before .before .before .before .before .before .before .before .put-part .ensures) _ (c .before .before .before .before .before .combinator2 .ensures .0) (c .before .before .before .before .before .combinator2 .ensures .1) _ refl refl refl refl refl
+    _ (c .before .before .before .before .before .before .before .before .before .before .before .before .before .before .walk-over .ensures .0) (c .before .before .before .before .before .before .before .before .before .before .before .before .before .before .walk-over .ensures .1) (c .before .before .before .before .before .before .before .before .before .before .put-part .ensures) _ (c .before .before .before .before .before .walk-over2 .ensures .0) (c .before .before .before .before .before .walk-over2 .ensures .1) _ refl refl refl refl refl
 
 pub opened-spec : {M : Type 1} → statement M
 opened-spec =
@@ -76,9 +75,9 @@ opened-spec =
     number-requires
     past-requires
     names-past-requires
-    combinator-requires
+    walk-over-requires
     put-part-requires
-    combinator-requires-2
+    walk-over-requires-2
     past-requires-2
     name-past-requires-2
     past-requires-3

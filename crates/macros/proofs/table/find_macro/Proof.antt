@@ -16,7 +16,7 @@ use Rattle.macros.proofs.table.name_hash.Reads as name-hash-reads
 use Rattle.macros.proofs.table.same_row.Reads as same-row-reads
 
 abbrev Inv-loop : tie.InvT-loop
-Inv-loop name macros places hashes n hash i₀ i = (hash ≡ hashOf name) × ((r : Found) → FindsMacro name macros places hashes i r → FindsMacro name macros places hashes n r)
+Inv-loop name macros places hashes n hash i₀ i = (i ≤ n) × (hash ≡ hashOf name) × ((r : Found) → FindsMacro name macros places hashes i r → FindsMacro name macros places hashes n r)
 
 abbrev μ-loop : tie.MeasureT-loop
 μ-loop name macros places hashes n hash i₀ i = i
@@ -27,7 +27,7 @@ name-hash-requires c κs = search needs
 
 -- src/table.rt:55:5
 loop-holds : tie.Need-loop-holds Inv-loop μ-loop
-loop-holds c = (c .name-hash .ensures, λ r f. f)
+loop-holds c = (omega arith, c .name-hash .ensures, λ r f. f)
 
 -- src/table.rt:56:66
 sub-same-row : tie.Need-sub-same-row Inv-loop μ-loop
@@ -43,7 +43,7 @@ enum-known-found c = search needs
 
 -- src/table.rt:59:17
 returns : tie.Need-returns Inv-loop μ-loop
-returns c = c .before .before .before .before .before .loop .inv .1 _ (found-here (c .before .before .before .before .loop-test .taken) (c .before .before .before .before .before .loop .inv .0) (rw (c .before .found .given .1) at (c .before .before .before .same-row .ensures)))
+returns c = c .before .before .before .before .before .loop .inv .2 _ (found-here (c .before .before .before .before .loop-test .taken) (c .before .before .before .before .before .loop .inv .1) (rw (c .before .found .given .1) at (c .before .before .before .same-row .ensures)))
 
 -- src/table.rt:62:17
 enum-told : tie.Need-enum-told Inv-loop μ-loop
@@ -59,11 +59,11 @@ loop-less c = search needs
 
 -- src/table.rt:55:5
 loop-again : tie.Need-loop-again Inv-loop μ-loop
-loop-again c = (c .before .before .before .before .loop .inv .0, λ r f. c .before .before .before .before .loop .inv .1 r (found-on (c .before .before .before .loop-test .taken) (c .before .before .before .before .loop .inv .0) (rw (c .enum-told .given .1) at (c .before .before .same-row .ensures)) f))
+loop-again c = (omega arith, c .before .before .before .before .loop .inv .1, λ r f. c .before .before .before .before .loop .inv .2 r (found-on (c .before .before .before .loop-test .taken) (c .before .before .before .before .loop .inv .1) (rw (c .enum-told .given .1) at (c .before .before .same-row .ensures)) f))
 
 -- src/table.rt:50:1
 returns-2 : tie.Need-returns-2 Inv-loop μ-loop
-returns-2 c = c .before .loop .inv .1 _ (found-none (omega arith))
+returns-2 c = c .before .loop .inv .2 _ (found-none (omega arith))
 
 pub find-macro-spec : {M : Type 1} → statement M
 find-macro-spec =
