@@ -1,6 +1,7 @@
 // Replays the recorded answers of the Rust, data/ (its page there says how they were made and laid out), and counts for each
 // code the answers that are the recorded ones and those that are not.
 use libc::STDOUT_FILENO;
+use lookup::same_name;
 use macros::Expanded;
 use reader::Verdict;
 use seek::byte;
@@ -111,20 +112,6 @@ fn expanded_of(c: Case) -> Bytes {
     book
 }
 
-fn same(a: &[u8], b: &[u8]) -> bool {
-    if a.len() != b.len() {
-        return false;
-    }
-    let mut i = 0;
-    while i < a.len() {
-        if a[i] != b[i] {
-            return false;
-        }
-        i += 1;
-    }
-    true
-}
-
 // Whether macro expansion gives this book, which reads without fault, the recorded code and the recorded bytes.
 fn expands_as(book: &[u8], code: u8, expanded: &[u8]) -> bool {
     let mut out = [170u8; 16384];
@@ -132,7 +119,7 @@ fn expands_as(book: &[u8], code: u8, expanded: &[u8]) -> bool {
         Expanded::Grown => code == 6,
         Expanded::Book { len } => {
             if code == 0 {
-                return same(part(&out, 0, len), expanded);
+                return same_name(part(&out, 0, len), expanded);
             }
             false
         }
@@ -154,37 +141,30 @@ fn reads_as(book: &[u8], code: u8) -> bool {
     found == 0
 }
 
-// One more in a row of counts.
-fn more(row: [u64; 16], code: u8) -> [u64; 16] {
-    let mut r = row;
-    if 16 <= code {
-        return r;
-    }
-    let i = code as usize;
-    r[i] = std::num::wrapping_add_u64(r[i], 1);
-    r
-}
-
 fn count_reading(t: Tally, code: u8, good: bool) -> Tally {
     let mut u = t;
+    if 16 <= code {
+        return u;
+    }
+    let i = code as usize;
     if good {
-        let row = more(u.right, code);
-        u.right = row;
+        u.right[i] = std::num::wrapping_add_u64(u.right[i], 1);
     } else {
-        let row = more(u.wrong, code);
-        u.wrong = row;
+        u.wrong[i] = std::num::wrapping_add_u64(u.wrong[i], 1);
     }
     u
 }
 
 fn count_expansion(t: Tally, code: u8, good: bool) -> Tally {
     let mut u = t;
+    if 16 <= code {
+        return u;
+    }
+    let i = code as usize;
     if good {
-        let row = more(u.expanded, code);
-        u.expanded = row;
+        u.expanded[i] = std::num::wrapping_add_u64(u.expanded[i], 1);
     } else {
-        let row = more(u.otherwise, code);
-        u.otherwise = row;
+        u.otherwise[i] = std::num::wrapping_add_u64(u.otherwise[i], 1);
     }
     u
 }
