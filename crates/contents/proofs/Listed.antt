@@ -94,11 +94,12 @@ book-listed s ds e b =
     let h₂ : Here s 2 (wEntries at es all) = rw two at (number-past (length es) h₀) in
     let h₃ : Here s 2 (wEntries at es [] ++ all) = rw (entries-apart at ds all) at h₂ in
     let l : length (wEntries at es []) ≡ 6 * length ds = entries-size at ds in
-    let p : pastAt s 2 (6 * length ds) ≡ 2 + 6 * length ds = rw (← l) (past-is {p = 2} (wEntries at es []) all h₃) in
-    (number-here (length es) (wEntries at es all) h₀ ∙ n,
-    record {
-      behind = all;
-      entries = rw (two, p, ← n) h₂;
-      bodies = rw (← l) (past-here (wEntries at es []) h₃);
-      deep = b .deep;
-    })
+    let p : pastAt s 2 (6 * length ds) ≡ 2 + 6 * length ds = rw (← l) (past-is {p = 2} (wEntries at es []) all h₃) in (
+      number-here (length es) (wEntries at es all) h₀ ∙ n,
+      record {
+        behind = all;
+        entries = rw (two, p, ← n) h₂;
+        bodies = rw (← l) (past-here (wEntries at es []) h₃);
+        deep = b .deep;
+      },
+    )

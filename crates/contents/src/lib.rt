@@ -1,6 +1,6 @@
 // The definitions that a book's contents list, by position over validated bytes: what stands before a format's body.
-use calls::skip_inner;
 use calls::Walk;
+use calls::skip_inner;
 use seek::name_past;
 use seek::number;
 use seek::past;
@@ -11,7 +11,17 @@ fn param_past(book: &[u8], at: usize, marks: &mut [u16]) -> usize
     ensures { λ r. ⌜ ParamPast (now (book .entry)) at r ⌝ }
 {
     let p = name_past(book, at);
-    let w = skip_inner(book, Walk { at: p, n: 0, left: 64, plain: true }, 64, marks);
+    let w = skip_inner(
+        book,
+        Walk {
+            at: p,
+            n: 0,
+            left: 64,
+            plain: true,
+        },
+        64,
+        marks,
+    );
     w.at
 }
 
