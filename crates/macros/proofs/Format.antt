@@ -1,0 +1,229 @@
+-- Parameters, and a format: its bytes up to its body, and its body expanded.
+-- Assumes nothing.
+use mathlib.Core.Path.{_≡_, refl, ap, _∙_}
+use mathlib.Core.List.{List, [], _∷_, _++_, map, append-assoc}
+use mathlib.Core.Bool.{Bool, true, false}
+use Prim.Native.Nat.{ℕ, suc, _+_, _-_, _*_, _/_, _%_, _≤_, _<_, min}
+use native.Mathlib.Omega.{arith}
+use lib.Dec.{leb}
+use lib.ListN.{length, drop, take}
+use lib.Seq.{drop-at, length-take-le}
+use borrow.Author.Tests.{le-leb, lt-leb}
+use Rattle.definition.specs.Code.{macro-growth}
+use Rattle.definition.specs.Out.{Out, refused, done, _>>=_, given}
+use Rattle.definition.specs.Tree.{Name, Combinator, Param, Definition, format, constant, byte-order, macro}
+use Rattle.definition.specs.Write.{wU16, wName, wParam, wAll, wList, wInner, wCombinator, wDefinition, kindOf, kindByte, sizeOf, wEntries, entryOf}
+use Rattle.definition.specs.Size.{size, levels, levelsP}
+use Rattle.definition.specs.Macros.{Macro, expand}
+use Rattle.laws.proofs.Steps.{yielded}
+use Rattle.laws.proofs.Splits.{s-list, s-param, s-name}
+use Rattle.seek.specs.At.{byteAt, pastAt, numberAt, namePast}
+use Rattle.seek.specs.Here.{Here}
+use Rattle.seek.proofs.Here.{place, past-here, byte-here, number-here, number-past, name-here}
+use Rattle.writer.specs.Buf.{part, Wrote}
+use Rattle.writer.proofs.Put.{part-none, put-fits, take-written}
+use Rattle.writer.proofs.Wrote.{fitted, place-is, same-length, glue}
+use Rattle.calls.specs.declared.Walk.{Walk}
+use Rattle.calls.specs.Walk.{walk, combinatorAt, skipAt}
+use Rattle.calls.specs.Walked.{Walked}
+use Rattle.calls.specs.Pieces.{pieces, places, written, expanded}
+use Rattle.calls.proofs.Splits.{s-comb}
+use Rattle.calls.proofs.Written.{written-is}
+use Rattle.calls.proofs.Expanded.{expansion}
+use Rattle.calls.proofs.Link.{walked, skipped}
+use Rattle.macros.specs.Deep.{DeepM}
+use Rattle.macros.specs.Table.{Rows}
+use Rattle.macros.specs.Expand.{Puts, front, Expanding}
+use Rattle.macros.specs.Left.{ParamPast, ParamsLeft, ParamsPast, Counting, KeptOf, keptOf, shallow, expandOne, Whole, Formatted}
+use Rattle.macros.proofs.Stands.{part-here}
+use Rattle.macros.proofs.Depth.{expand-deep}
+use Rattle.macros.proofs.Room.{pieces-deep}
+use Rattle.macros.proofs.Turns.{size-here, marks-room}
+use Rattle.macros.proofs.Next.{front-none}
+use Rattle.macros.proofs.Rows.{book-listed}
+
+-- parameters
+pub param-past : {book : List ℕ} (marks : List ℕ) {at p : ℕ} → p ≡ namePast book at → (w : Walk) → w ≡ skipAt 64 book (walk p 0 64 true) marks .0 → ParamPast book at (w .at)
+unfolding wParam
+param-past {book} marks {at} {p} e w hw = record {
+  says = λ l q z h d.
+      let g : Here book p (wInner (q .type) z) = rw e (name-here (q .name) h) in
+      rw hw (skipped book (omega arith) (q .type) 64 d (walk p 0 64 true) marks z g .rest);
+}
+
+module _ {book : List ℕ} {at left : ℕ} where
+  pub params-none : left ≤ 0 → ParamsLeft book at left at
+  unfolding wAll
+  params-none k = record { says = λ l ps z h e d. none ps z h e }
+    where
+      none : (ps : List Param) (z : List ℕ) → Here book at (wAll wParam ps z) → left ≡ length ps → Here book at z
+      none [] z h e = h
+      none (p ∷ ps) z h e = absurd (omega arith)
+
+  pub params-step : 0 < left → {at₁ : ℕ} → ParamPast book at at₁ → {r : ℕ} → ParamsLeft book at₁ (left - 1) r → ParamsLeft book at left r
+  unfolding wAll levelsP
+  params-step k {at₁} v {r} next = record { says = λ l ps z h e d. step l ps z h e d }
+    where
+      step : length book ≤ 16384 → (ps : List Param) (z : List ℕ) → Here book at (wAll wParam ps z) → left ≡ length ps → levelsP ps ≤ 64 → Here book r z
+      step l [] z h e d = absurd (omega arith)
+      step l (p ∷ ps) z h e d = next .says l ps z (v .says l p (wAll wParam ps z) h (omega arith)) (omega arith) (omega arith)
+
+pub params-past : {book : List ℕ} {at left here r : ℕ} → left ≡ numberAt book at → here ≡ pastAt book at 2 → ParamsLeft book here left r → ParamsPast book at r
+unfolding wList
+params-past {book} {at} el eh v = record {
+  says = λ l ps z h d. v .says l ps z (rw eh (number-past (length ps) h)) (el ∙ number-here (length ps) (wAll wParam ps z) h) d;
+}
+
+-- counting
+module _ {book : List ℕ} {entry : ℕ} (at : ℕ) (z : List ℕ) (d : Definition) (ds : List Definition) (h : Here book entry (wEntries at (map entryOf (d ∷ ds)) z)) where
+  entry-kind : byteAt book entry ≡ kindByte (kindOf d)
+  unfolding wEntries entryOf
+  entry-kind = byte-here h
+
+  entry-next : Here book (pastAt book entry 6) (wEntries (at + sizeOf d) (map entryOf ds) z)
+  unfolding wEntries entryOf wU16
+  entry-next = past-here (kindByte (kindOf d) ∷ 0 ∷ at % 256 ∷ at / 256 ∷ sizeOf d % 256 ∷ sizeOf d / 256 ∷ []) h
+
+module _ {book : List ℕ} {entry left n : ℕ} where
+  pub counting-none : left ≤ 0 → Counting book entry left n n
+  unfolding keptOf
+  counting-none k = record { says = λ ds at z h e. none ds e }
+    where
+      none : (ds : List Definition) → left ≡ length ds → n ≡ n + keptOf ds
+      none [] e = omega arith
+      none (d ∷ ds) e = absurd (omega arith)
+
+  module _ (k : 0 < left) {kind entry₁ r : ℕ} (hk : kind ≡ byteAt book entry) (he : entry₁ ≡ pastAt book entry 6) where
+    pub counting-kept : (kind ≡ 4 → ⊥) → Counting book entry₁ (left - 1) (n + 1) r → Counting book entry left n r
+    unfolding keptOf kindByte kindOf
+    counting-kept f c = record { says = λ ds at z h e. step ds at z h e }
+      where
+        step : (ds : List Definition) (at : ℕ) (z : List ℕ) → Here book entry (wEntries at (map entryOf ds) z) → left ≡ length ds → r ≡ n + keptOf ds
+        step [] at z h e = absurd (omega arith)
+        step (format m ps c₁ ∷ ds) at z h e = omega (arith, c .says ds (at + sizeOf (format m ps c₁)) z (rw he (entry-next at z (format m ps c₁) ds h)) (omega arith))
+        step (constant m x ∷ ds) at z h e = omega (arith, c .says ds (at + sizeOf (constant m x)) z (rw he (entry-next at z (constant m x) ds h)) (omega arith))
+        step (byte-order x ∷ ds) at z h e = omega (arith, c .says ds (at + sizeOf (byte-order x)) z (rw he (entry-next at z (byte-order x) ds h)) (omega arith))
+        step (macro m ps c₁ ∷ ds) at z h e = absurd (f (hk ∙ entry-kind at z (macro m ps c₁) ds h))
+
+    pub counting-macro : kind ≡ 4 → Counting book entry₁ (left - 1) n r → Counting book entry left n r
+    unfolding keptOf kindByte kindOf
+    counting-macro f c = record { says = λ ds at z h e. step ds at z h e }
+      where
+        step : (ds : List Definition) (at : ℕ) (z : List ℕ) → Here book entry (wEntries at (map entryOf ds) z) → left ≡ length ds → r ≡ n + keptOf ds
+        step [] at z h e = absurd (omega arith)
+        step (format m ps c₁ ∷ ds) at z h e = absurd (omega (arith, entry-kind at z (format m ps c₁) ds h))
+        step (constant m x ∷ ds) at z h e = absurd (omega (arith, entry-kind at z (constant m x) ds h))
+        step (byte-order x ∷ ds) at z h e = absurd (omega (arith, entry-kind at z (byte-order x) ds h))
+        step (macro m ps c₁ ∷ ds) at z h e = c .says ds (at + sizeOf (macro m ps c₁)) z (rw he (entry-next at z (macro m ps c₁) ds h)) (omega arith)
+
+pub counted : {book : List ℕ} {entry left r : ℕ} → left ≡ numberAt book 0 → entry ≡ pastAt book 0 2 → Counting book entry left 0 r → KeptOf book r
+counted {book} el ee c = record {
+  says = λ ds e b.
+      let w = book-listed book ds e b in
+      c .says ds (pastAt book 2 (6 * length ds)) (w .1 .behind) (rw ee (w .1 .entries)) (el ∙ w .0) ∙ (let z : 0 + keptOf ds ≡ keptOf ds = omega arith in z);
+}
+
+-- the table tells how deep the macros are
+rows-deep : (s pl hs : List ℕ) (n : ℕ) (ms : List Macro) → Rows s pl hs n ms → DeepM ms
+rows-deep s pl hs n [] r = tt
+rows-deep s pl hs n (m ∷ ms) r = (r .1 .defined .deep, rows-deep s pl hs (n - 1) ms (r .2))
+
+-- what was written stands there
+pub wrote-here : {d d′ p : List ℕ} {at r : ℕ} → Wrote d at p d′ r → r ≤ length d → Here d′ at (p ++ drop (at + length p) d)
+wrote-here {d} {d′} {p} {at} {r} w k =
+    let f : at + length p ≤ length d = fitted w k in
+    record {
+      is = rw (w .holds, put-fits d at p f, append-assoc) (drop-at (take at d) (p ++ drop (at + length p) d) at (length-take-le at d (omega arith)));
+      reach = omega (arith, same-length w);
+    }
+
+-- the bytes of a format up to its body
+headBytes : Name → List Param → List ℕ
+headBytes n ps = wName n (wList wParam ps [])
+
+format-apart : (n : Name) (ps : List Param) (c : Combinator) (z : List ℕ) → wDefinition (format n ps c) z ≡ headBytes n ps ++ wCombinator c z
+unfolding wDefinition headBytes
+format-apart n ps c z = rw (s-list wParam s-param ps [] (wCombinator c z)) (s-name n (wList wParam ps []) (wCombinator c z))
+
+part-upto : {s : List ℕ} {p q : ℕ} (b z : List ℕ) → Here s p (b ++ z) → Here s q z → part p q s ≡ b
+part-upto b z h k = rw (place b h k) (part-here b z h)
+
+module _ {macros pl hs : List ℕ} {rows : ℕ} {book : List ℕ} {at : ℕ} {a b marks row out : List ℕ} {o : ℕ} {params body : ℕ} (ep : params ≡ namePast book at) (pp : ParamsPast book params body)
+    {out₁ : List ℕ} {q : ℕ} (wo : Wrote out o (part at body book) out₁ q) (m₁ : List ℕ) (lm : length m₁ ≡ length marks) (w : Walk) {m₂ : List ℕ} (hw : w ≡ combinatorAt 64 book (walk body 0 64 true) m₁ .0)
+    (hm : m₂ ≡ combinatorAt 64 book (walk body 0 64 true) m₁ .1) {fm : List ℕ} (ef : fm ≡ take (w .n) m₂) {out₂ : List ℕ} {r : ℕ} (ex : Expanding macros pl hs rows book (w .at) fm a b row out₁ body q 0 out₂ r)
+    (lo : length out₂ ≡ length out₁) where
+  module _ {ms : List Macro} (wh : Whole macros pl hs rows book a b marks row out ms) (n : Name) (ps : List Param) (c : Combinator) (z : List ℕ) (h : Here book at (wDefinition (format n ps c) z))
+      (dp : levelsP ps ≤ 64) (dc : levels c ≤ 64) where
+    body-here : Here book body (wCombinator c z)
+    unfolding wDefinition
+    body-here = pp .says (wh .areas .book-short) ps (wCombinator c z) (rw ep (name-here n h)) dp
+
+    head : part at body book ≡ headBytes n ps
+    head = part-upto (headBytes n ps) (wCombinator c z) (rw (format-apart n ps c z) at h) body-here
+
+    over-body : Walked book c 64 z (walk body 0 64 true) m₁ w m₂
+    over-body = rw (hw, hm) (walked book (omega (arith, wh .areas .book-short)) c 64 dc (walk body 0 64 true) m₁ z body-here (omega (arith, marks-room body c, size-here c z body-here, wh .areas .book-short, wh .marks-long)))
+
+    marks-are : fm ≡ places body (pieces c [])
+    marks-are = ef ∙ rw (over-body .count, over-body .marks) (take-written m₁ 0 (places body (pieces c [])) (omega (arith, marks-room body c, size-here c z body-here, wh .areas .book-short, wh .marks-long)))
+
+    got : Puts out₁ q (expand c ms >>= λ d. done (wCombinator d [])) out₂ r
+    unfolding written size
+    got =
+        let e : front (part body body book) (expanded ms (pieces c []) []) ≡ (expand c ms >>= λ d. done (wCombinator d [])) = rw (part-none body book) (front-none (expanded ms (pieces c []) []) ∙ expansion ms c []) in
+        rw e at (ex .says (wh .areas) ms (wh .table) body (pieces c []) z (rw (written-is c [] z) body-here) (omega arith) marks-are (over-body .place ∙ rw (written-is c [] [])) (pieces-deep c [] dc tt))
+
+    -- the head and the body
+    both : (d : Combinator) → Wrote out₁ q (wCombinator d []) out₂ r → Wrote out o (wDefinition (format n ps d) []) out₂ r
+    both d v = rw (format-apart n ps d []) (glue (rw head at wo) v)
+
+    deep : (d : Combinator) → expand c ms ≡ done d → levels d ≤ 127
+    deep d e = omega (arith, yielded (expand-deep ms (rows-deep macros pl hs rows ms (wh .table)) c) e)
+
+    -- how many levels the walk over the finished body leaves
+    left-is : (d : Combinator) → levels d ≤ 127 → Wrote out₁ q (wCombinator d []) out₂ r → r ≤ length out₂ → (m₃ : List ℕ) → length m₃ ≡ length marks
+        → (v : Walk) → v ≡ combinatorAt 129 out₂ (walk q 0 129 true) m₃ .0 → v .left ≡ min 129 (129 - levels d)
+    left-is d dd wd k m₃ lm₃ v hv =
+        let l : length out₂ ≡ 16384 = lo ∙ same-length wo ∙ wh .out-long in
+        let s : Here out₂ q (wCombinator d (drop (q + length (wCombinator d [])) out₁)) = rw (s-comb d [] (drop (q + length (wCombinator d [])) out₁)) (wrote-here wd (omega arith)) in
+        rw hv (walked out₂ (omega arith) d 129 (omega arith) (walk q 0 129 true) m₃ (drop (q + length (wCombinator d [])) out₁) s
+        (omega (arith, marks-room q d, size-here d (drop (q + length (wCombinator d [])) out₁) s, wh .marks-long)) .deep)
+
+  -- by what the expansion of the body is
+  by-body : (out′ : List ℕ) (r′ : ℕ) → (r ≡ suc (length out₁) → r′ ≡ suc (length out))
+      → ((n : Name) (ps : List Param) (d : Combinator) → levels d ≤ 127 → Wrote out₁ q (wCombinator d []) out₂ r → Wrote out o (wDefinition (format n ps d) []) out₂ r
+      → ((m₃ : List ℕ) → length m₃ ≡ length marks → (v : Walk) → r ≤ length out₂ → v ≡ combinatorAt 129 out₂ (walk q 0 129 true) m₃ .0 → v .left ≡ min 129 (129 - levels d))
+      → Puts out o (shallow d >>= λ e. done (wDefinition (format n ps e) [])) out′ r′)
+      → Formatted macros pl hs rows book at a b marks row out o out′ r′
+  unfolding expandOne shallow
+  by-body out′ r′ f g = record { says = λ ms wh n ps c z h dp dc. go wh n ps c z h dp dc (expand c ms) refl (got wh n ps c z h dp dc) }
+    where
+      flat : (t : Bool) (n : Name) (ps : List Param) (d : Combinator) → Puts out o (given t macro-growth d >>= λ e. done (wDefinition (format n ps e) [])) out′ r′
+          → Puts out o ((given t macro-growth d >>= λ e. done (format n ps e)) >>= λ e. done (wDefinition e [])) out′ r′
+      flat true n ps d p = p
+      flat false n ps d p = p
+
+      go : {ms : List Macro} (wh : Whole macros pl hs rows book a b marks row out ms) (n : Name) (ps : List Param) (c : Combinator) (z : List ℕ) (h : Here book at (wDefinition (format n ps c) z)) (dp : levelsP ps ≤ 64) (dc : levels c ≤ 64)
+          → (x : Out Combinator) → expand c ms ≡ x → Puts out₁ q (x >>= λ d. done (wCombinator d [])) out₂ r → Puts out o (expandOne (format n ps c) ms >>= λ e. done (wDefinition e [])) out′ r′
+      go wh n ps c z h dp dc (refused k) e p = rw e (f p)
+      go wh n ps c z h dp dc (done d) e p =
+          let dd = deep wh n ps c z h dp dc d e in
+          rw e (flat (leb (levels d) 64) n ps d (g n ps d dd p (both wh n ps c z h dp dc d p) (λ m₃ l v k hv. left-is wh n ps c z h dp dc d dd p k m₃ l v hv)))
+
+  pub formatted-cut : length out₂ < r → Formatted macros pl hs rows book at a b marks row out o out₂ r
+  unfolding shallow
+  formatted-cut k = by-body out₂ r (λ e. e ∙ ap suc (same-length wo)) (λ n ps d dd wd wf le. by-level (leb (levels d) 64) n ps d wd wf)
+    where
+      by-level : (t : Bool) (n : Name) (ps : List Param) (d : Combinator) → Wrote out₁ q (wCombinator d []) out₂ r → Wrote out o (wDefinition (format n ps d) []) out₂ r
+          → Puts out o (given t macro-growth d >>= λ e. done (wDefinition (format n ps e) [])) out₂ r
+      by-level true n ps d wd wf = wf
+      by-level false n ps d wd wf = omega (arith, place-is wd, lo, same-length wo)
+
+  module _ (k : r ≤ length out₂) (m₃ : List ℕ) (lm₃ : length m₃ ≡ length marks) (v : Walk) (hv : v ≡ combinatorAt 129 out₂ (walk q 0 129 true) m₃ .0) where
+    pub formatted-deep : v .left < 65 → {x : ℕ} → x ≡ suc (length out₂) → Formatted macros pl hs rows book at a b marks row out o out₂ x
+    unfolding shallow
+    formatted-deep l {x} e = by-body out₂ x (λ f. e ∙ ap suc (lo ∙ same-length wo)) (λ n ps d dd wd wf le. rw (lt-leb (levels d) 64 (omega (arith, le m₃ lm₃ v k hv))) (e ∙ ap suc (lo ∙ same-length wo)))
+
+    pub formatted-done : 65 ≤ v .left → Formatted macros pl hs rows book at a b marks row out o out₂ r
+    unfolding shallow
+    formatted-done l = by-body out₂ r (λ e. e ∙ ap suc (same-length wo)) (λ n ps d dd wd wf le. rw (le-leb (levels d) 64 (omega (arith, le m₃ lm₃ v k hv))) wf)

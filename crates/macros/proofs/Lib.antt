@@ -1,0 +1,15 @@
+mod Copied
+mod Stands
+mod Subst
+mod Depth
+mod Room
+mod Marks
+mod Turns
+mod Listed
+mod Rows
+mod Opening
+mod Next
+mod Expanding
+mod Format
+mod Leftover
+mod Passing

@@ -1,0 +1,77 @@
+-- What expansion says of the trees that stand in the bytes.
+use mathlib.Core.Path.{_≡_}
+use mathlib.Core.List.{List, [], _++_}
+use mathlib.Core.Bool.{true}
+use Prim.Native.Nat.{ℕ, suc, _+_, _≤_, min}
+use lib.ListN.{length, drop}
+use Rattle.definition.specs.Out.{Out, refused, done, _>>=_}
+use Rattle.definition.specs.Tree.{Name, Inner, Inners, invocation, macro-invocation}
+use Rattle.definition.specs.Write.{wName, wAll, wInner, wInners, countA}
+use Rattle.definition.specs.Size.{levelsA}
+use Rattle.definition.specs.Macros.{Macro, instance, innerOf, expandI}
+use Rattle.seek.specs.Here.{Here}
+use Rattle.writer.specs.Buf.{part, Wrote}
+use Rattle.calls.specs.Pieces.{Piece, places, written, expanded}
+use Rattle.macros.specs.declared.Turn.{Turn}
+use Rattle.macros.specs.Instance.{Areas, Holds}
+use Rattle.macros.specs.Table.{Defined, Rows}
+use Rattle.macros.specs.Deep.{DeepP}
+use Rattle.macros.specs.declared.table.Found.{Found}
+use Rattle.macros.specs.declared.table.Found.the-variants.{At, Unknown}
+
+-- a write, or code 6: then the place after is past the end
+abbrev pub Puts : List ℕ → ℕ → Out (List ℕ) → List ℕ → ℕ → Type 0
+Puts d at (refused k) d′ r = r ≡ suc (length d)
+Puts d at (done l) d′ r = Wrote d at l d′ r
+
+-- a macro and a call of it before the first turn: the body stands in a
+pub record Open (macros book a marks : List ℕ) (t : Turn) (m : Macro) (xs : Inners) (z : List ℕ) : Type 0 where
+  pub behind : List ℕ
+  pub params : Here macros (t .param) (wAll wName (m .params) behind)
+  pub args : Here book (t .arg) (wInners xs z)
+  pub holds : Holds a marks (t .len) (t .n) (m .body)
+
+pub record Opened (macros : List ℕ) (def : ℕ) (book : List ℕ) (call : ℕ) (a marks a′ marks′ : List ℕ) (t : Turn) : Type 0 where
+  pub good : t .good ≡ true
+  pub says : length macros ≤ 16384 → length a ≡ 16384 → length marks ≡ 8192 → (m : Macro) → Defined macros def m → (n : Name) (xs : Inners) (z : List ℕ) → Here book call (wInner (macro-invocation n xs) z)
+      → Open macros book a′ marks′ t m xs z
+
+-- rule 4: "Parameters and arguments are paired from the front; extra ones on either side are ignored."
+pub record Paired (macros : List ℕ) (def : ℕ) (book : List ℕ) (call r : ℕ) : Type 0 where
+  pub says : (m : Macro) → Defined macros def m → (n : Name) (xs : Inners) (z : List ℕ) → Here book call (wInner (macro-invocation n xs) z) → r ≡ min (length (m .params)) (countA xs)
+
+-- rule 3: "replaced by the macro body's inner"
+pub record Called (macros : List ℕ) (def : ℕ) (book : List ℕ) (call : ℕ) (a b marks out : List ℕ) (o : ℕ) (out′ : List ℕ) (r : ℕ) : Type 0 where
+  pub says : Areas macros book a b marks → (m : Macro) → Defined macros def m → (n : Name) (xs : Inners) (z : List ℕ) → Here book call (wInner (macro-invocation n xs) z) → levelsA xs ≤ 64
+      → Puts out o (instance (m .params) xs (m .body) >>= λ c. done (wInner (innerOf c) [])) out′ r
+
+-- what stands at a place where the walk met a call
+pub data IsCall : Inner → Type 0 where
+  a-call : {n : Name} {a : List Name} → IsCall (invocation n a)
+  a-macro : {n : Name} {xs : Inners} → IsCall (macro-invocation n xs)
+
+-- a call that is replaced
+pub record Replaced (macros : List ℕ) (ms : List Macro) (i : Inner) (def : ℕ) : Type 0 where
+  pub name : Name
+  pub args : Inners
+  pub is-call : i ≡ macro-invocation name args
+  pub known : Macro
+  pub defined : Defined macros def known
+  pub is : expandI i ms ≡ (instance (known .params) args (known .body) >>= λ c. done (innerOf c))
+
+-- rule 3: "A known invocation is replaced"; any other stays
+abbrev pub Becomes : List ℕ → List Macro → Inner → Found → Type 0
+Becomes macros ms i (At def) = Replaced macros ms i def
+Becomes macros ms i Unknown = expandI i ms ≡ done i
+
+pub record MacroOf (book : List ℕ) (call : ℕ) (macros pl hs : List ℕ) (rows : ℕ) (r : Found) : Type 0 where
+  pub says : (ms : List Macro) → Rows macros pl hs rows ms → (i : Inner) (z : List ℕ) → IsCall i → Here book call (wInner i z) → Becomes macros ms i r
+
+-- bytes in front of what is expanded
+abbrev pub front : List ℕ → Out (List ℕ) → Out (List ℕ)
+front b t = t >>= λ r. done (b ++ r)
+
+-- rule 2: the pieces that are left stand from some place on, up to `to`; what stands from `copied` up to there is not copied yet
+pub record Expanding (macros pl hs : List ℕ) (rows : ℕ) (book : List ℕ) (to : ℕ) (marks a b row out : List ℕ) (copied o i : ℕ) (out′ : List ℕ) (r : ℕ) : Type 0 where
+  pub says : Areas macros book a b row → (ms : List Macro) → Rows macros pl hs rows ms → (x : ℕ) (ps : List Piece) (z : List ℕ) → Here book x (written invocation ps z) → copied ≤ x
+      → drop i marks ≡ places x ps → to ≡ x + length (written invocation ps []) → DeepP ps → Puts out o (front (part copied x book) (expanded ms ps [])) out′ r

@@ -1,0 +1,96 @@
+-- The book that is left when expansion is done.
+use mathlib.Core.Path.{_≡_}
+use mathlib.Core.List.{List, [], _∷_, map}
+use mathlib.Core.Bool.{Bool, true, false}
+use Prim.Native.Nat.{ℕ, suc, _+_, _*_, _≤_, _<_}
+use lib.Dec.{leb}
+use lib.ListN.{length}
+use Rattle.definition.specs.Code.{macro-growth}
+use Rattle.definition.specs.Out.{Out, refused, done, _>>=_, given}
+use Rattle.definition.specs.Tree.{Name, Combinator, Param, Definition, format, constant, byte-order, macro}
+use Rattle.definition.specs.Write.{wParam, wAll, wList, wDefinition, kindOf, kindByte, sizeOf, wEntries, entryOf, wBook}
+use Rattle.definition.specs.Size.{levels, levelsI, levelsP, levelsBook}
+use Rattle.definition.specs.Macros.{Macro, expand}
+use Rattle.laws.specs.Book.{IsBook}
+use Rattle.seek.specs.Here.{Here}
+use Rattle.writer.specs.Buf.{put}
+use Rattle.macros.specs.Instance.{Areas}
+use Rattle.macros.specs.Table.{Rows, Listed}
+use Rattle.macros.specs.Expand.{Puts}
+
+-- parameters
+pub record ParamPast (book : List ℕ) (at r : ℕ) : Type 0 where
+  pub says : length book ≤ 16384 → (p : Param) (z : List ℕ) → Here book at (wParam p z) → levelsI (p .type) ≤ 64 → Here book r z
+
+pub record ParamsLeft (book : List ℕ) (at left r : ℕ) : Type 0 where
+  pub says : length book ≤ 16384 → (ps : List Param) (z : List ℕ) → Here book at (wAll wParam ps z) → left ≡ length ps → levelsP ps ≤ 64 → Here book r z
+
+pub record ParamsPast (book : List ℕ) (at r : ℕ) : Type 0 where
+  pub says : length book ≤ 16384 → (ps : List Param) (z : List ℕ) → Here book at (wList wParam ps z) → levelsP ps ≤ 64 → Here book r z
+
+-- rule 5: "or the book left when expansion is done .. is over either": the levels, body by body
+unfoldable pub shallow : Combinator → Out Combinator
+shallow d = given (leb (levels d) 64) macro-growth d
+
+unfoldable pub expandOne : Definition → List Macro → Out Definition
+expandOne (format n ps c) ms = expand c ms >>= λ d. shallow d >>= λ e. done (format n ps e)
+expandOne (constant n x) ms = done (constant n x)
+expandOne (byte-order x) ms = done (byte-order x)
+expandOne (macro n ps c) ms = done (macro n ps c)
+
+abbrev pub andOne : Out Definition → Out (List Definition) → Out (List Definition)
+andOne x t = x >>= λ e. t >>= λ es. done (e ∷ es)
+
+unfoldable pub shallowAll : List Definition → List Macro → Out (List Definition)
+shallowAll [] ms = done []
+shallowAll (format n ps c ∷ ds) ms = andOne (expandOne (format n ps c) ms) (shallowAll ds ms)
+shallowAll (constant n x ∷ ds) ms = andOne (expandOne (constant n x) ms) (shallowAll ds ms)
+shallowAll (byte-order x ∷ ds) ms = andOne (expandOne (byte-order x) ms) (shallowAll ds ms)
+shallowAll (macro n ps c ∷ ds) ms = shallowAll ds ms
+
+-- rule 1: "All kind 4 definitions are then removed": how many are left
+unfoldable pub keptOf : List Definition → ℕ
+keptOf [] = 0
+keptOf (format n ps c ∷ ds) = suc (keptOf ds)
+keptOf (constant n x ∷ ds) = suc (keptOf ds)
+keptOf (byte-order x ∷ ds) = suc (keptOf ds)
+keptOf (macro n ps c ∷ ds) = keptOf ds
+
+pub record Counting (book : List ℕ) (entry left n r : ℕ) : Type 0 where
+  pub says : (ds : List Definition) (at : ℕ) (z : List ℕ) → Here book entry (wEntries at (map entryOf ds) z) → left ≡ length ds → r ≡ n + keptOf ds
+
+pub record KeptOf (book : List ℕ) (r : ℕ) : Type 0 where
+  pub says : (ds : List Definition) → book ≡ wBook ds → IsBook ds → r ≡ keptOf ds
+
+-- what an expansion of the whole book needs
+pub record Whole (macros pl hs : List ℕ) (rows : ℕ) (book a b marks row out : List ℕ) (ms : List Macro) : Type 0 where
+  pub areas : Areas macros book a b row
+  pub marks-long : length marks ≡ 8192
+  pub out-long : length out ≡ 16384
+  pub table : Rows macros pl hs rows ms
+
+pub record Formatted (macros pl hs : List ℕ) (rows : ℕ) (book : List ℕ) (at : ℕ) (a b marks row out : List ℕ) (o : ℕ) (out′ : List ℕ) (r : ℕ) : Type 0 where
+  pub says : (ms : List Macro) → Whole macros pl hs rows book a b marks row out ms → (n : Name) (ps : List Param) (c : Combinator) (z : List ℕ) → Here book at (wDefinition (format n ps c) z)
+      → levelsP ps ≤ 64 → levels c ≤ 64 → Puts out o (expandOne (format n ps c) ms >>= λ e. done (wDefinition e [])) out′ r
+
+pub record Kept (kind size : ℕ) (macros pl hs : List ℕ) (rows : ℕ) (book : List ℕ) (at : ℕ) (a b marks row out : List ℕ) (o : ℕ) (out′ : List ℕ) (r : ℕ) : Type 0 where
+  pub says : (ms : List Macro) → Whole macros pl hs rows book a b marks row out ms → (d : Definition) (z : List ℕ) → Here book at (wDefinition d z)
+      → kind ≡ kindByte (kindOf d) → (kind ≡ 4 → ⊥) → size ≡ sizeOf d → levelsBook (d ∷ []) ≤ 64 → Puts out o (expandOne d ms >>= λ e. done (wDefinition e [])) out′ r
+
+-- the entries stand in out from e on, the bodies from o on, if the bodies fit; else the place is past the end
+abbrev pub WritesBy : List ℕ → ℕ → ℕ → List Definition → List ℕ → ℕ → Bool → Type 0
+WritesBy out e o es out′ r true = (r ≡ o + length (wAll wDefinition es [])) × (out′ ≡ put (put out e (wEntries o (map entryOf es) [])) o (wAll wDefinition es []))
+WritesBy out e o es out′ r false = length out < r
+
+abbrev pub Writes : List ℕ → ℕ → ℕ → Out (List Definition) → List ℕ → ℕ → Type 0
+Writes out e o (refused k) out′ r = length out < r
+Writes out e o (done es) out′ r = WritesBy out e o es out′ r (leb (o + length (wAll wDefinition es [])) (length out))
+
+-- the definitions that are left
+pub record Listing (macros pl hs : List ℕ) (rows : ℕ) (book a b marks row out : List ℕ) (entry at left e o : ℕ) (out′ : List ℕ) (r : ℕ) : Type 0 where
+  pub says : (ms : List Macro) → Whole macros pl hs rows book a b marks row out ms → (ds : List Definition) → Listed book entry at ds → left ≡ length ds → e + 6 * keptOf ds ≤ o → o ≤ length out
+      → Writes out e o (shallowAll ds ms) out′ r
+
+pub record Booked (macros pl hs : List ℕ) (rows : ℕ) (book a b marks row out : List ℕ) (o : ℕ) (out′ : List ℕ) (r : ℕ) : Type 0 where
+  pub says : (ms : List Macro) → Whole macros pl hs rows book a b marks row out ms → (ds : List Definition) → book ≡ wBook ds → IsBook ds → o ≡ 2 + 6 * keptOf ds → o ≤ length out
+      → Writes out 2 o (shallowAll ds ms) out′ r

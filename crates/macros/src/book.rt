@@ -1,0 +1,225 @@
+// The book that is left: macros removed, order kept, contents made anew, and each format's body expanded.
+use crate::expand::expand_macros_in_combinator;
+use crate::first_marks;
+use crate::skip_over;
+use crate::walk_over;
+use calls::Walk;
+use calls::combinator;
+use calls::skip_inner;
+use seek::byte;
+use seek::name_past;
+use seek::number;
+use seek::past;
+use writer::put_byte;
+use writer::put_part;
+use writer::put_u16;
+ghost use mathlib.Core.Path.{_≡_};
+ghost use mathlib.Core.List.{[], _∷_};
+ghost use Prim.Native.Nat.{_-_, _%_};
+ghost use Rattle.definition.specs.Write.{wU16};
+ghost use Rattle.writer.specs.Buf.{Wrote};
+ghost use Rattle.macros.specs.Left.{ParamPast, ParamsPast, KeptOf, Formatted, Kept, Booked};
+
+fn minus(x: usize, y: usize) -> usize
+    ensures { λ r. ⌜ r ≡ x - y ⌝ }
+{
+    if x < y {
+        return 0;
+    }
+    x - y
+}
+
+// The place behind a parameter: a name and a type.
+fn param_past(book: &[u8], at: usize, marks: &mut [u16]) -> usize
+    ensures { λ r. ⌜ ParamPast (now (book .entry)) at r ⌝ }
+{
+    let p = name_past(book, at);
+    let w = skip_over(book, p, marks);
+    w.at
+}
+
+// The place behind a count and as many parameters.
+fn params_past(book: &[u8], at: usize, marks: &mut [u16]) -> usize
+    ensures { λ r. ⌜ ParamsPast (now (book .entry)) at r ⌝ }
+{
+    let mut left = number(book, at);
+    let mut here = past(book, at, 2);
+    while 0 < left {
+        here = param_past(book, here, marks);
+        left -= 1;
+    }
+    here
+}
+
+// A format: its name and its parameters are copied, and its body is expanded. Over 64 levels it is refused.
+fn expand_format(
+    macros: &[u8],
+    places: &[u16],
+    hashes: &[u16],
+    rows: usize,
+    book: &[u8],
+    at: usize,
+    a: &mut [u8],
+    b: &mut [u8],
+    marks: &mut [u16],
+    row: &mut [u16],
+    out: &mut [u8],
+    o: usize,
+) -> usize
+    ensures { λ r. ⌜ Formatted (now (macros .entry)) (now (places .entry)) (now (hashes .entry)) rows (now (book .entry)) at (now (a .entry)) (now (b .entry)) (now (marks .entry)) (now (row .entry)) (now (out .entry)) o (now (out .exit)) r ⌝ }
+{
+    let params = name_past(book, at);
+    let body = params_past(book, params, marks);
+    let q = put_part(book, at, body, out, o);
+    let w = walk_over(book, body, 64, marks);
+    let end = w.at;
+    let n = w.n;
+    let r = expand_macros_in_combinator(
+        macros,
+        places,
+        hashes,
+        rows,
+        book,
+        body,
+        end,
+        first_marks(&marks[..], n),
+        a,
+        b,
+        row,
+        out,
+        q,
+    );
+    if out.len() < r {
+        return r;
+    }
+    let v = walk_over(&out[..], q, 129, marks);
+    let left = v.left;
+    if left < 65 {
+        return out.len() + 1;
+    }
+    r
+}
+
+// A definition that is kept: a format is expanded, any other is copied.
+fn expand_definition(
+    kind: u8,
+    size: usize,
+    macros: &[u8],
+    places: &[u16],
+    hashes: &[u16],
+    rows: usize,
+    book: &[u8],
+    at: usize,
+    a: &mut [u8],
+    b: &mut [u8],
+    marks: &mut [u16],
+    row: &mut [u16],
+    out: &mut [u8],
+    o: usize,
+) -> usize
+    ensures { λ r. ⌜ Kept kind size (now (macros .entry)) (now (places .entry)) (now (hashes .entry)) rows (now (book .entry)) at (now (a .entry)) (now (b .entry)) (now (marks .entry)) (now (row .entry)) (now (out .entry)) o (now (out .exit)) r ⌝ }
+{
+    if kind == 1 {
+        return expand_format(
+            macros,
+            places,
+            hashes,
+            rows,
+            book,
+            at,
+            a,
+            b,
+            marks,
+            row,
+            out,
+            o,
+        );
+    }
+    let end = past(book, at, size);
+    put_part(book, at, end, out, o)
+}
+
+// An entry of the contents.
+fn put_entry(kind: u8, at: usize, size: usize, out: &mut [u8], e: usize) -> usize
+    ensures { λ r. ⌜ Wrote (now (out .entry)) e (kind ∷ 0 ∷ wU16 (at % 65536) (wU16 (size % 65536) [])) (now (out .exit)) r ⌝ }
+{
+    let p = put_byte(kind, out, e);
+    let q = put_byte(0, out, p);
+    let r = put_u16((at % 65536) as u16, out, q);
+    put_u16((size % 65536) as u16, out, r)
+}
+
+// How many definitions are no macros.
+pub fn count_kept(book: &[u8]) -> usize
+    ensures { λ r. ⌜ KeptOf (now (book .entry)) r ⌝ }
+{
+    let mut left = number(book, 0) as usize;
+    let mut entry = past(book, 0, 2);
+    let mut n: usize = 0;
+    while 0 < left {
+        let kind = byte(book, entry);
+        entry = past(book, entry, 6);
+        left -= 1;
+        if kind != 4 {
+            n += 1;
+        }
+    }
+    n
+}
+
+// The definitions that are listed from `entry` on, of which the bodies stand from `at` on: entries go to out from `e` on, bodies from `o` on.
+pub fn expand_all(
+    macros: &[u8],
+    places: &[u16],
+    hashes: &[u16],
+    rows: usize,
+    book: &[u8],
+    a: &mut [u8],
+    b: &mut [u8],
+    marks: &mut [u16],
+    row: &mut [u16],
+    out: &mut [u8],
+    bodies: usize,
+) -> usize
+    ensures { λ r. ⌜ Booked (now (macros .entry)) (now (places .entry)) (now (hashes .entry)) rows (now (book .entry)) (now (a .entry)) (now (b .entry)) (now (marks .entry)) (now (row .entry)) (now (out .entry)) bodies (now (out .exit)) r ⌝ }
+{
+    let mut left = number(book, 0) as usize;
+    let mut entry = past(book, 0, 2);
+    let mut at = past(book, 2, 6 * left);
+    let mut e = 2;
+    let mut o = bodies;
+    while 0 < left {
+        let kind = byte(book, entry);
+        let size = number(book, past(book, entry, 4)) as usize;
+        let next = past(book, at, size);
+        entry = past(book, entry, 6);
+        left -= 1;
+        if kind == 4 {
+            at = next;
+            continue;
+        }
+        let r = expand_definition(
+            kind,
+            size,
+            macros,
+            places,
+            hashes,
+            rows,
+            book,
+            at,
+            a,
+            b,
+            marks,
+            row,
+            out,
+            o,
+        );
+        if out.len() < r {
+            return r;
+        }
+        e = put_entry(kind, o, minus(r, o), out, e);
+        o = r;
+        at = next;
+    }
+    o
+}
