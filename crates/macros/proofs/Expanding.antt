@@ -16,7 +16,7 @@ use Rattle.lookup.specs.Name.{nameAt}
 use Rattle.writer.specs.Buf.{part, Wrote}
 use Rattle.writer.proofs.Put.{part-none, part-split}
 use Rattle.writer.proofs.Wrote.{same-length}
-use Rattle.calls.specs.Pieces.{Piece, raw, call, macro-call, places, written, expanded}
+use Rattle.calls.specs.Pieces.{Piece, raw, call, macro-call, places, written, rewritten, expanded}
 use Rattle.calls.proofs.Splits.{s-inner}
 use Rattle.calls.proofs.Expanded.{onto}
 use Rattle.macros.specs.declared.table.Found.{Found}
@@ -109,7 +109,7 @@ module _ {macros pl hs : List ℕ} {rows : ℕ} {book marks a b row out : List �
 module _ {macros pl hs : List ℕ} {rows : ℕ} {book : List ℕ} {to : ℕ} {marks a b row out : List ℕ} {copied o i : ℕ} where
   -- the end
   pub expanding-all : length marks ≤ i + 1 → {out′ : List ℕ} {r : ℕ} → Wrote out o (part copied to book) out′ r → Expanding macros pl hs rows book to marks a b row out copied o i out′ r
-  unfolding places written expanded
+  unfolding places written rewritten
   expanding-all k {out′} {r} w = record { says = λ ar ms rs x ps z h c m f dp. last ms ps x z h c m f }
     where
       last : (ms : List Macro) (ps : List Piece) (x : ℕ) (z : List ℕ) → Here book x (written invocation ps z) → copied ≤ x → drop i marks ≡ places x ps → to ≡ x + length (written invocation ps [])

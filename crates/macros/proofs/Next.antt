@@ -14,7 +14,7 @@ use Rattle.seek.specs.Here.{Here}
 use Rattle.writer.specs.Buf.{after, part, Wrote}
 use Rattle.writer.proofs.Put.{part-none, part-split, put-past}
 use Rattle.writer.proofs.Wrote.{glue, place-is, same-length}
-use Rattle.calls.specs.Pieces.{Piece, raw, call, macro-call, places, written, expanded}
+use Rattle.calls.specs.Pieces.{Piece, raw, call, macro-call, places, written, rewritten, expanded}
 use Rattle.calls.proofs.Splits.{s-inner}
 use Rattle.calls.proofs.Expanded.{onto}
 use Rattle.macros.specs.Deep.{DeepP}
@@ -69,7 +69,7 @@ module _ (ms : List Macro) (s marks : List ℕ) (i : ℕ) (k : i + 1 < length ma
       }
 
   pub next-of : (ps : List Piece) (x : ℕ) → Here s x (written invocation ps z) → drop i marks ≡ places x ps → DeepP ps → Next ms s marks i x ps z
-  unfolding places written expanded expand levels
+  unfolding places written rewritten expand levels
   next-of [] x h e dp = absurd (omega (arith, ap length e, length-drop i marks))
   next-of (raw b ∷ ps) x h e dp =
       let n = next-of ps (x + length b) (step-here b h) e dp in
