@@ -1,7 +1,7 @@
 // The entry points: what they answer, what they leave in the work area, for every input.
 use book::read;
-use macros::expand_macros;
 use macros::Expanded;
+use macros::expand_macros;
 use premise::holds;
 use reader::Verdict;
 use writer::zero_range;
@@ -82,7 +82,7 @@ pub fn premise(book: &[u8], work: &mut [u8]) -> Tested
     answer
 }
 
-fn numbers(t: Tested) -> Numbers
+fn in_numbers(t: Tested) -> Numbers
     ensures { λ r. ⌜ (r .code ≡ told t .code) × (r .holds ≡ told t .holds) ⌝ }
 {
     match t {
@@ -101,5 +101,5 @@ pub extern "C" fn samulsto_premise(book: &[u8], work: &mut [u8]) -> Numbers
     ensures { λ _. ⌜ now (work .exit) ≡ zeroed (now (work .entry)) ⌝ }
 {
     let answer = premise(book, work);
-    numbers(answer)
+    in_numbers(answer)
 }
