@@ -1,0 +1,3 @@
+mod Growth
+mod Opening
+mod Telling

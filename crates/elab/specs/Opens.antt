@@ -1,0 +1,39 @@
+-- The steps that all entry points share: codes 1 to 6, and the expanded book.
+use mathlib.Core.Path.{_≡_}
+use mathlib.Core.List.{List}
+use Prim.Native.Nat.{ℕ, _≤_}
+use lib.Dec.{leb}
+use lib.ListN.{length, take}
+use Rattle.definition.specs.Code.{Code, number, work-short}
+use Rattle.definition.specs.Out.{Out, refused, done, _>>=_, given}
+use Rattle.definition.specs.Tree.{Definition}
+use Rattle.definition.specs.Write.{wBook}
+use Rattle.definition.specs.Answer.{expanded}
+use Rattle.laws.specs.Book.{IsBook}
+use Rattle.elab.specs.declared.Opened.{Opened}
+use Rattle.elab.specs.declared.Opened.the-variants.{Book, Refused}
+
+-- "Codes stand in this order": 1, then 2 to 6
+unfoldable pub opened : List ℕ → ℕ → Out (List Definition)
+opened book workLength = given (leb 65536 workLength) work-short book >>= λ b. expanded b
+
+-- a code
+pub record Refuses (book : List ℕ) (workLength : ℕ) (code : ℕ) : Type 0 where
+  pub reason : Code
+  pub is : opened book workLength ≡ refused reason
+  pub numbered : code ≡ number reason
+
+-- the expanded book stands in the first bytes of the work area
+pub record Expands (book : List ℕ) (workLength : ℕ) (work : List ℕ) (len : ℕ) : Type 0 where
+  pub left : List Definition
+  pub is : opened book workLength ≡ done left
+  pub isBook : IsBook left
+  pub holds : take len work ≡ wBook left
+  pub fits : len ≤ workLength
+
+abbrev pub OpensBy : List ℕ → ℕ → List ℕ → Opened → Type 0
+OpensBy book workLength work (Book len) = Expands book workLength work len
+OpensBy book workLength work (Refused code) = Refuses book workLength code
+
+pub record Opens (book : List ℕ) (workLength : ℕ) (work : List ℕ) (r : Opened) : Type 0 where
+  pub by : OpensBy book workLength work r

@@ -1,0 +1,105 @@
+// The entry points: what they answer, what they leave in the work area, for every input.
+use book::read;
+use macros::Expanded;
+use macros::expand_macros;
+use premise::holds;
+use reader::Verdict;
+use writer::zero_range;
+ghost use mathlib.Core.Path.{_≡_};
+ghost use lib.ListN.{length};
+ghost use Rattle.definition.specs.Answer.{zeroed};
+ghost use Rattle.definition.specs.Premise.{premise};
+ghost use Rattle.elab.specs.Opens.{Opens};
+ghost use Rattle.elab.specs.Tells.{told};
+
+// The expanded book, which fills the work area's first bytes, or a code.
+pub enum Opened {
+    Book { len: usize },
+    Refused { code: u8 },
+}
+
+// The premise test's answer: yes, no or a code.
+pub enum Tested {
+    Holds,
+    Fails,
+    Refused { code: u8 },
+}
+
+// The same in numbers, for callers in other languages: the code, and 1 for yes.
+#[repr(C)]
+pub struct Numbers {
+    pub code: u32,
+    pub holds: u32,
+}
+
+// Codes 1 to 6.
+fn open_book(book: &[u8], work: &mut [u8]) -> Opened
+    ensures { λ r. ⌜ Opens (now (book .entry)) (length (now (work .entry))) (now (work .exit)) r ⌝ }
+{
+    if work.len() < 65536 {
+        return Opened::Refused { code: 1 };
+    }
+    if 16384 < book.len() {
+        return Opened::Refused { code: 2 };
+    }
+    let verdict = read(book);
+    match verdict {
+        Verdict::Refused(f) => Opened::Refused { code: f.code },
+        Verdict::Sound => {
+            let got = expand_macros(book, book, &mut work[..16384]);
+            match got {
+                Expanded::Grown => Opened::Refused { code: 6 },
+                Expanded::Book { len } => Opened::Book { len },
+            }
+        }
+    }
+}
+
+// The premise test, with the work area left as it is then.
+fn test(book: &[u8], work: &mut [u8]) -> Tested
+    ensures { λ r. ⌜ told r ≡ premise (now (book .entry)) (length (now (work .entry))) ⌝ }
+{
+    let opened = open_book(book, work);
+    match opened {
+        Opened::Refused { code } => Tested::Refused { code },
+        Opened::Book { len } => {
+            if holds(&work[..len]) {
+                return Tested::Holds;
+            }
+            Tested::Fails
+        }
+    }
+}
+
+// "takes a book and a work area, gives 1 to 6 as above, else yes or no"; "The work area is all zero afterwards."
+pub fn premise(book: &[u8], work: &mut [u8]) -> Tested
+    ensures { λ r. ⌜ told r ≡ premise (now (book .entry)) (length (now (work .entry))) ⌝ }
+    ensures { λ _. ⌜ now (work .exit) ≡ zeroed (now (work .entry)) ⌝ }
+{
+    let answer = test(book, work);
+    let end = work.len();
+    zero_range(work, 0, end);
+    answer
+}
+
+fn in_numbers(t: Tested) -> Numbers
+    ensures { λ r. ⌜ (r .code ≡ told t .code) × (r .holds ≡ told t .holds) ⌝ }
+{
+    match t {
+        Tested::Holds => Numbers { code: 0, holds: 1 },
+        Tested::Fails => Numbers { code: 0, holds: 0 },
+        Tested::Refused { code } => Numbers {
+            code: code as u32,
+            holds: 0,
+        },
+    }
+}
+
+#[no_mangle]
+pub extern "C" fn samulsto_premise(book: &[u8], work: &mut [u8]) -> Numbers
+    ensures { λ r. ⌜ (r .code ≡ premise (now (book .entry)) (length (now (work .entry))) .code) × (r .holds ≡ premise (now (book .entry)) (length (now (work .entry))) .holds) ⌝ }
+    ensures { λ _. ⌜ now (work .exit) ≡ zeroed (now (work .entry)) ⌝ }
+{
+    let answer = premise(book, work);
+    in_numbers(answer)
+}

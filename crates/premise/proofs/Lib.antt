@@ -1,0 +1,4 @@
+mod Bools
+mod Known
+mod Every
+mod Bodies

@@ -1,0 +1,205 @@
+// The premise test over an expanded book, on validated bytes: document 01's "Premise test and listing".
+use calls::Walk;
+use calls::combinator;
+use contents::params_past;
+use lookup::name_at;
+use names::fresh::find_name;
+use names::fresh::take_source_name;
+use seek::byte;
+use seek::name_past;
+use seek::number;
+use seek::past;
+ghost use mathlib.Core.Path.{_≡_};
+ghost use Prim.Native.Nat.{min};
+ghost use lib.ListN.{take};
+ghost use Rattle.calls.specs.Splice.{everyPlace};
+ghost use Rattle.premise.specs.Known.{Takes, Named, Rows, knownAt};
+ghost use Rattle.premise.specs.Holds.{DefinitionHolds, FormatHolds, BodiesHold, Holds};
+
+// The definition at a place gets row n if it is a format or a constant; the number of rows then.
+fn take_defined(
+    s: &[u8],
+    kind: u8,
+    at: usize,
+    places: &mut [u16],
+    hashes: &mut [u16],
+    hints: &mut [u16],
+    n: usize,
+) -> usize
+    ensures { λ r. ⌜ Takes (now (s .entry)) kind at (now (places .entry)) (now (hashes .entry)) (now (hints .entry)) n (now (places .exit)) (now (hashes .exit)) (now (hints .exit)) r ⌝ }
+{
+    if kind < 1 {
+        return n;
+    }
+    if 2 < kind {
+        return n;
+    }
+    if 32768 <= at {
+        return n;
+    }
+    if places.len() <= n {
+        return n;
+    }
+    if hashes.len() <= n {
+        return n;
+    }
+    if hints.len() <= n {
+        return n;
+    }
+    take_source_name(s, at, places, hashes, hints, n);
+    n + 1
+}
+
+// The names of all formats and constants, a row for each; the number of rows.
+pub fn take_names(s: &[u8], places: &mut [u16], hashes: &mut [u16], hints: &mut [u16]) -> usize
+    ensures { λ r. ⌜ Named (now (s .entry)) (now (places .entry)) (now (hashes .entry)) (now (hints .entry)) (now (places .exit)) (now (hashes .exit)) (now (hints .exit)) r ⌝ }
+{
+    let mut left = number(s, 0) as usize;
+    let mut entry = past(s, 0, 2);
+    let mut at = past(s, 2, 6 * left);
+    let mut n = 0;
+    while 0 < left {
+        let kind = byte(s, entry);
+        let sized = past(s, entry, 4);
+        let size = number(s, sized) as usize;
+        n = take_defined(s, kind, at, places, hashes, hints, n);
+        at = past(s, at, size);
+        entry = past(s, entry, 6);
+        left -= 1;
+    }
+    n
+}
+
+// Whether the call at a place is one of a name in the table, or a macro's.
+fn is_known(s: &[u8], call: usize, places: &[u16], hashes: &[u16], n: usize) -> bool
+    requires { ⌜ Rows (now s) (now places) (now hashes) n ⌝ }
+    ensures { λ r. ⌜ r ≡ knownAt (now (s .entry)) (now (places .entry)) n call ⌝ }
+{
+    let tag = byte(s, call);
+    let a = past(s, call, 1);
+    if tag == 15 {
+        let found = find_name(name_at(s, a), s, &s[..0], places, hashes, n);
+        return found < n;
+    }
+    true
+}
+
+// The same of every call that is marked.
+fn all_known(s: &[u8], marks: &[u16], places: &[u16], hashes: &[u16], n: usize) -> bool
+    requires { ⌜ Rows (now s) (now places) (now hashes) n ⌝ }
+    ensures { λ r. ⌜ r ≡ everyPlace (knownAt (now (s .entry)) (now (places .entry)) n) (now (marks .entry)) ⌝ }
+{
+    let mut i = 0;
+    while i + 1 < marks.len() {
+        let call = marks[i] as usize;
+        i += 2;
+        if !is_known(s, call, places, hashes, n) {
+            return false;
+        }
+    }
+    true
+}
+
+fn least(x: usize, y: usize) -> usize
+    ensures { λ r. ⌜ r ≡ min x y ⌝ }
+{
+    if x < y {
+        return x;
+    }
+    y
+}
+
+// The first n marks.
+fn first_marks(marks: &[u16], n: usize) -> &[u16]
+    ensures { λ r. ⌜ now r ≡ take n (now (marks .entry)) ⌝ }
+{
+    let end = least(n, marks.len());
+    &marks[..end]
+}
+
+// The format at a place: its body, behind its name and its parameters.
+fn format_holds(
+    s: &[u8],
+    at: usize,
+    places: &[u16],
+    hashes: &[u16],
+    n: usize,
+    marks: &mut [u16],
+) -> bool
+    requires { ⌜ Rows (now s) (now places) (now hashes) n ⌝ }
+    ensures { λ r. ⌜ FormatHolds (now (s .entry)) at (now (places .entry)) n (now (marks .entry)) r ⌝ }
+{
+    let params = name_past(s, at);
+    let body = params_past(s, params, marks);
+    let w = combinator(
+        s,
+        Walk {
+            at: body,
+            n: 0,
+            left: 64,
+            plain: true,
+        },
+        64,
+        marks,
+    );
+    let plain = w.plain;
+    let count = w.n;
+    if plain {
+        return all_known(s, first_marks(&marks[..], count), places, hashes, n);
+    }
+    false
+}
+
+// The definition at a place: only of a format is anything asked.
+fn definition_holds(
+    s: &[u8],
+    kind: u8,
+    at: usize,
+    places: &[u16],
+    hashes: &[u16],
+    n: usize,
+    marks: &mut [u16],
+) -> bool
+    requires { ⌜ Rows (now s) (now places) (now hashes) n ⌝ }
+    ensures { λ r. ⌜ DefinitionHolds (now (s .entry)) kind at (now (places .entry)) n (now (marks .entry)) r ⌝ }
+{
+    if kind == 1 {
+        return format_holds(s, at, places, hashes, n, marks);
+    }
+    true
+}
+
+// Every format's body, with the names that may be called in a table.
+fn bodies_hold(s: &[u8], places: &[u16], hashes: &[u16], n: usize, marks: &mut [u16]) -> bool
+    requires { ⌜ Rows (now s) (now places) (now hashes) n ⌝ }
+    ensures { λ r. ⌜ BodiesHold (now (s .entry)) (now (places .entry)) n (now (marks .entry)) r ⌝ }
+{
+    let mut left = number(s, 0) as usize;
+    let mut entry = past(s, 0, 2);
+    let mut at = past(s, 2, 6 * left);
+    while 0 < left {
+        let kind = byte(s, entry);
+        let sized = past(s, entry, 4);
+        let size = number(s, sized) as usize;
+        let here = at;
+        at = past(s, at, size);
+        entry = past(s, entry, 6);
+        left -= 1;
+        if !definition_holds(s, kind, here, places, hashes, n, marks) {
+            return false;
+        }
+    }
+    true
+}
+
+// Whether every Invocation in a format's body names a format or a constant, and every chain there stands on Bytes or Tail.
+pub fn holds(s: &[u8]) -> bool
+    ensures { λ r. ⌜ Holds (now (s .entry)) r ⌝ }
+{
+    let mut places = [0u16; 512];
+    let mut hashes = [0u16; 512];
+    let mut hints = [0u16; 512];
+    let mut marks = [0u16; 8192];
+    let n = take_names(s, &mut places, &mut hashes, &mut hints);
+    bodies_hold(s, &places, &hashes, n, &mut marks)
+}
