@@ -126,7 +126,7 @@ module _ (t : Tables) (rs : List Record) (agree : (p : ℕ) → p < length (t .b
     type-is (own i p) w =
         let f = end-is i p (w .rest) (w .stands) in
         let e : find rs p ≡ absent = w .clear p (omega arith) (omega (arith, sizeI-some i)) (λ k. k) in
-        rw (e, f .0) (sym (calls-stretch (t .book) rs p (p + sizeI i) (p + sizeI i) (omega arith) (omega arith) (f .1) (λ x a b. w .clear x a b (λ k. k)) ∙ rw (calls-end (t .book) rs (p + sizeI i)) (append-nil (part p (p + sizeI i) (t .book)))))
+        rw (e, f .0) (sym (calls-stretch (t .book) rs p (p + sizeI i) (p + sizeI i) (omega arith) (omega arith) (f .1) (λ x a b. w .clear x a b (λ k. k)) ∙ rw (calls-end (t .book) rs (p + sizeI i) (p + sizeI i) (omega arith)) (append-nil (part p (p + sizeI i) (t .book)))))
     type-is (passed c p) w =
         let f = inner-at c p (w .rest) (w .stands) in
         passed-is p (p + sizeI (innerOf c)) (find rs p) (getD (t .number) p 0) refl (agree p (omega (arith, f .1, sizeI-some (innerOf c)))) (f .0) (omega (arith, sizeI-some (innerOf c))) (f .1)
