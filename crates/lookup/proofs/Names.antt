@@ -3,13 +3,13 @@
 use mathlib.Core.Path.{_≡_, refl, sym, ap, _∙_}
 use mathlib.Core.Logic.{_⊎_, inl, inr, ⊎-elim}
 use mathlib.Core.List.{List, [], _∷_, _++_}
-use mathlib.Core.Bool.{Bool, true, false, cond}
-use Prim.Native.Nat.{ℕ, suc, _+_, _-_, _≤_, _<_}
+use mathlib.Core.Bool.{Bool, true, false}
+use Prim.Native.Nat.{ℕ, _+_, _-_, _≤_, _<_}
 use native.Mathlib.Omega.{arith}
 use native.Mathlib.Numerals.{add-one}
 use lib.Dec.{eqb}
-use lib.ListN.{length, getD, take, drop, drop-of-length-le, length-take, length-drop}
-use lib.Seq.{drop-cons, drop-length, take-append-seam, take-nil, take-all, drop-drop, getD-drop}
+use lib.ListN.{length, getD, drop, drop-of-length-le, length-take, length-drop}
+use lib.Seq.{drop-cons, take-append-seam, take-nil, take-all, drop-drop, getD-drop}
 use borrow.Author.Tests.{eqb-true, eq-eqb, ne-eqb}
 use Rattle.definition.specs.Tree.{Name}
 use Rattle.definition.specs.Names.{eqName}

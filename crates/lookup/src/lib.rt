@@ -2,12 +2,24 @@
 // the generated ones in the work area.
 ghost use mathlib.Core.Path.{_≡_};
 ghost use Rattle.definition.specs.Names.{eqName};
-ghost use Rattle.lookup.specs.Name.{nameAt, nameOf};
+ghost use Rattle.lookup.specs.Name.{nameAt, nameOf, placeOf};
 
 // Where a name's length byte stands: in the book, or among the generated names of the work area.
 pub enum Place {
     Source { at: usize },
     Made { at: usize },
+}
+
+// A place in 16 bits, as a table keeps it: places in the book are below 32,768, and those among the generated names follow from there.
+pub fn place_of(code: u16) -> Place
+    ensures { λ r. ⌜ r ≡ placeOf code ⌝ }
+{
+    if code < 32768 {
+        return Place::Source { at: code as usize };
+    }
+    Place::Made {
+        at: (code - 32768) as usize,
+    }
 }
 
 // The name whose length byte stands at a place, as far as the slice reaches.

@@ -2,23 +2,23 @@
 -- Assumes nothing.
 use mathlib.Core.Path.{_≡_, refl, sym, ap, _∙_, subst}
 use mathlib.Core.Logic.{_⊎_, inl, inr, ⊎-elim}
-use mathlib.Core.List.{List, [], _∷_, _++_}
-use mathlib.Core.Bool.{Bool, true, false}
-use Prim.Native.Nat.{ℕ, zero, suc, _+_, _-_, _≤_, _<_, min}
+use mathlib.Core.List.{List}
+use mathlib.Core.Bool.{true, false}
+use Prim.Native.Nat.{ℕ, _+_, _-_, _≤_, _<_}
 use native.Mathlib.Omega.{arith}
-use native.Mathlib.Nat.{eq-or-lt-of-le, le-refl, zero-add}
+use native.Mathlib.Nat.{zero-add}
 use lib.Dec.{eqb}
 use borrow.Author.Tests.{eqb-true, eqb-false}
 use Rattle.lookup.proofs.Names.{yes-no}
-use lib.ListN.{length, take, drop, getD, set, length-take, length-set, take-append-drop}
+use lib.ListN.{length, take, getD, set, length-set, take-append-drop}
 use lib.Seq.{length-take-le, getD-set-same, getD-set-other}
 use Rattle.definition.specs.Tree.{Name}
-use Rattle.definition.specs.Names.{elem, decimal, numbered, fresh}
-use Rattle.writer.specs.Buf.{put, after, Wrote}
+use Rattle.definition.specs.Names.{elem, numbered, fresh}
+use Rattle.writer.specs.Buf.{after, Wrote}
 use Rattle.writer.proofs.Put.{put-fits, within}
 use Rattle.writer.proofs.Wrote.{glue}
 use Rattle.names.specs.Name.{Held}
-use Rattle.names.specs.Taken.{row, taken, Table, Hints, Found, FirstFree, Fresh}
+use Rattle.names.specs.Taken.{Store, row, taken, Table, Hints, Found, FirstFree, Fresh}
 use Rattle.names.proofs.Held.{held-whole}
 use Rattle.names.proofs.Free.{fresh-base, fresh-number, held-new}
 use Rattle.names.proofs.Rows.{found-not, found-is, found-name, long-free, length-taken}
@@ -34,7 +34,7 @@ stood d at h =
     }
 
 -- the base is free
-pub chosen-base : {d : List ℕ} {at : ℕ} {names places : List ℕ} {n r : ℕ} → Found (take at d) names places n r → r ≡ n → at ≤ length d → Fresh d at names places n d at
+pub chosen-base : {d : List ℕ} {at : ℕ} {names : Store} {places : List ℕ} {n r : ℕ} → Found (take at d) names places n r → r ≡ n → at ≤ length d → Fresh d at names places n d at
 chosen-base {d} {at} {names} {places} {n} f e h =
     let q : fresh (take at d) (taken names places n) ≡ take at d = fresh-base (take at d) (taken names places n) (found-not (take at d) names places f e) in
     record {
@@ -44,7 +44,7 @@ chosen-base {d} {at} {names} {places} {n} f e h =
     }
 
 -- a base that has no room is free, and stays too long
-pub chosen-long : {d : List ℕ} {at : ℕ} {names places hashes : List ℕ} {n : ℕ} → Table names places hashes n → 255 ≤ length d → length d < at → Fresh d at names places n d (length d + 1)
+pub chosen-long : {d : List ℕ} {at : ℕ} {names : Store} {places hashes : List ℕ} {n : ℕ} → Table names places hashes n → 255 ≤ length d → length d < at → Fresh d at names places n d (length d + 1)
 chosen-long {d} {at} {names} {places} {hashes} {n} t h k = record {
   within = λ m. absurd (omega arith);
   beyond = λ m. (omega arith, refl);
@@ -54,7 +54,7 @@ chosen-long {d} {at} {names} {places} {hashes} {n} t h k = record {
       rw (fresh-base base (taken names places n) (long-free base t (omega arith))) (subst (λ (m : ℕ). Held d m base) e g);
 }
 
-module _ {d : List ℕ} {at : ℕ} {names places hints : List ℕ} {n r : ℕ} {d′ : List ℕ} {k len : ℕ} (h : Hints names places hints n) (f : Found (take at d) names places n r) (less : r < n)
+module _ {d : List ℕ} {at : ℕ} {names : Store} {places hints : List ℕ} {n r : ℕ} {d′ : List ℕ} {k len : ℕ} (h : Hints names places hints n) (f : Found (take at d) names places n r) (less : r < n)
     (w : FirstFree d at names places n (getD hints r 0) d′ k len) where
   -- below the first free number all are taken: the hint says so of the first, the search of the rest
   all-taken : (j : ℕ) → j < k → elem (numbered (take at d) j) (taken names places n) ≡ true

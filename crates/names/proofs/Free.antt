@@ -2,25 +2,25 @@
 -- Assumes nothing.
 use mathlib.Core.Path.{_≡_, refl, sym, ap, _∙_, subst}
 use mathlib.Core.Logic.{⊎-elim}
-use mathlib.Core.List.{List, [], _∷_, _++_}
-use mathlib.Core.Bool.{Bool, true, false, not}
-use Prim.Native.Nat.{ℕ, zero, suc, _+_, _-_, _/_, _%_, _≤_, _<_, min}
+use mathlib.Core.List.{List, _∷_}
+use mathlib.Core.Bool.{true, false, not}
+use Prim.Native.Nat.{ℕ, zero, suc, _+_, _-_, _/_, _≤_, _<_}
 use native.Mathlib.Omega.{arith}
 use native.Mathlib.Nat.{eq-or-lt-of-le, le-refl}
 use lib.Dec.{eqb}
 use borrow.Author.Tests.{eq-eqb, ne-eqb}
-use lib.ListN.{length, take, getD, set, length-append, length-take, length-set}
-use lib.Seq.{take-nil, take-all, getD-set-same, getD-set-other}
+use lib.ListN.{length, take, length-append, length-take}
+use lib.Seq.{take-nil, take-all}
 use Rattle.definition.specs.Tree.{Name}
-use Rattle.definition.specs.Names.{eqName, elem, decimal, child, numbered, firstFree, fresh}
+use Rattle.definition.specs.Names.{elem, decimal, child, numbered, firstFree, fresh}
 use Rattle.writer.specs.Buf.{put, after, Wrote}
-use Rattle.writer.proofs.Put.{put-over, put-nil, take-put, length-put, within}
-use Rattle.writer.proofs.Wrote.{place-is, same-length, wrote-none}
+use Rattle.writer.proofs.Put.{put-over, take-put, within}
+use Rattle.writer.proofs.Wrote.{same-length}
 use Rattle.names.specs.Name.{Held, Child}
-use Rattle.names.specs.Taken.{row, taken, Table, Hints, Found, Tells, FirstFree, Fresh}
+use Rattle.names.specs.Taken.{Store, taken, Table, Found, Tells, FirstFree}
 use Rattle.names.proofs.Held.{held-whole, grown}
 use Rattle.names.proofs.Decimal.{decimal-small, decimal-large}
-use Rattle.names.proofs.Rows.{found-not, found-is, found-name, long-free, length-taken}
+use Rattle.names.proofs.Rows.{found-not, found-is, long-free}
 
 -- ---- a larger number has no fewer digits
 some-digit : (n : ℕ) → 1 ≤ length (decimal n)
@@ -73,7 +73,7 @@ pub held-new : {d p d′ : List ℕ} {r : ℕ} → Wrote d 0 p d′ r → Held d
 held-new {d} w = grown (record { place = omega arith; bytes = sym (take-nil (length d)) }) w
 
 -- whether the name that the buffer holds is free
-module _ {d : List ℕ} {at : ℕ} {names places : List ℕ} {n : ℕ} where
+module _ {d : List ℕ} {at : ℕ} {names : Store} {places : List ℕ} {n : ℕ} where
   pub tells-long : {hashes : List ℕ} → Table names places hashes n → 255 ≤ length d → length d < at → Tells d at (taken names places n) true
   tells-long t h k = record { says = λ name g. long-free name t (let z = g .place in omega arith) }
 
@@ -129,7 +129,7 @@ module _ {d₀ : List ℕ} {at : ℕ} {names : List Name} {n first : ℕ} {d : L
   }
 
 -- ---- the search: a number that is free, or the last
-module _ {d : List ℕ} {at : ℕ} {names places : List ℕ} {n first : ℕ} where
+module _ {d : List ℕ} {at : ℕ} {names : Store} {places : List ℕ} {n first : ℕ} where
   pub search-stops : {p : List ℕ} {i : ℕ} → Trying d at (taken names places n) n first p i → {d′ : List ℕ} {r : ℕ} → Child p at (decimal i) d′ r
       → at ≤ length d → (i < n → Tells d′ r (taken names places n) true) → FirstFree d at names places n first d′ i r
   search-stops {p} {i} t w h f = record {

@@ -1,16 +1,16 @@
 -- A name in a buffer that grows by a write.
 -- Assumes nothing.
-use mathlib.Core.Path.{_≡_, refl, sym, ap, _∙_}
+use mathlib.Core.Path.{_≡_, sym, ap, _∙_}
 use mathlib.Core.Logic.{⊎-elim}
-use mathlib.Core.List.{List, [], _∷_, _++_, append-nil, append-assoc}
+use mathlib.Core.List.{List, [], _∷_, _++_, append-nil}
 use Prim.Native.Nat.{ℕ, suc, _+_, _-_, _≤_, _<_, min}
 use native.Mathlib.Omega.{arith}
-use lib.ListN.{length, take, drop, length-append, length-take, drop-of-length-le}
+use lib.ListN.{length, take, drop, length-append, drop-of-length-le}
 use lib.Seq.{take-all, take-append-le, take-append-add}
 use Rattle.definition.specs.Tree.{Name}
 use Rattle.definition.specs.Names.{child}
 use Rattle.writer.specs.Buf.{put, Wrote}
-use Rattle.writer.proofs.Put.{length-put, put-past, take-written, within}
+use Rattle.writer.proofs.Put.{put-past, take-written, within}
 use Rattle.writer.proofs.Wrote.{place-is, same-length}
 use Rattle.names.specs.Name.{Held, Child}
 

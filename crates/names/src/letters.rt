@@ -1,6 +1,7 @@
 // The segment of a label, byte by byte: "ASCII letters lower-cased, digits kept, every other character one '_'". A character's first byte
 // gives its one '_', and its other bytes, 128 to 191, give none, which is 0 here. The rule is proved over the whole table.
 pub const TABLE: [u8; 256] = [
+    95, // 0: every other character one '_'
     95,
     95,
     95,
@@ -48,8 +49,7 @@ pub const TABLE: [u8; 256] = [
     95,
     95,
     95,
-    95,
-    48,
+    48, // 48: digits kept, from '0'
     49,
     50,
     51,
@@ -59,14 +59,14 @@ pub const TABLE: [u8; 256] = [
     55,
     56,
     57,
+    95, // 58: every other character one '_'
     95,
     95,
     95,
     95,
     95,
     95,
-    95,
-    97,
+    97, // 65: 'A' to 'Z' lower-cased
     98,
     99,
     100,
@@ -92,13 +92,13 @@ pub const TABLE: [u8; 256] = [
     120,
     121,
     122,
+    95, // 91: '_'
     95,
     95,
     95,
     95,
     95,
-    95,
-    97,
+    97, // 97: 'a' to 'z' kept
     98,
     99,
     100,
@@ -124,11 +124,12 @@ pub const TABLE: [u8; 256] = [
     120,
     121,
     122,
+    95, // 123: '_'
     95,
     95,
     95,
     95,
-    95,
+    0, // 128: continuation bytes give none
     0,
     0,
     0,
@@ -192,8 +193,7 @@ pub const TABLE: [u8; 256] = [
     0,
     0,
     0,
-    0,
-    95,
+    95, // 192: first bytes of longer characters one '_'
     95,
     95,
     95,

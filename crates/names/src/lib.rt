@@ -41,8 +41,8 @@ pub fn generated_segment(label: &[u8], dst: &mut [u8], at: usize) -> usize
 pub fn child_generated_name(label: &[u8], dst: &mut [u8], at: usize) -> usize
     ensures { λ r. ⌜ Child (now (dst .entry)) at (segment (now (label .entry))) (now (dst .exit)) r ⌝ }
 {
-    let o = put_byte(b'_', dst, at);
-    generated_segment(label, dst, o)
+    let first = put_byte(b'_', dst, at);
+    generated_segment(label, dst, first)
 }
 
 // The child of a Wrap.
@@ -60,7 +60,7 @@ pub fn item_generated_name(dst: &mut [u8], at: usize) -> usize
 }
 
 // A number in decimal digits, the first first.
-fn put_decimal(n: usize, dst: &mut [u8], at: usize) -> usize
+pub fn put_decimal(n: usize, dst: &mut [u8], at: usize) -> usize
     ensures { λ r. ⌜ Wrote (now (dst .entry)) at (decimal n) (now (dst .exit)) r ⌝ }
 {
     if n < 10 {

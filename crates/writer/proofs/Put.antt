@@ -3,8 +3,8 @@
 use mathlib.Core.Path.{_≡_, refl, sym, ap, _∙_}
 use mathlib.Core.Logic.{⊎-elim}
 use mathlib.Core.List.{List, [], _∷_, _++_, append-assoc, append-nil}
-use Prim.Native.Nat.{ℕ, zero, suc, _+_, _-_, _≤_, _<_, min}
-use native.Mathlib.Nat.{add-zero, add-assoc}
+use Prim.Native.Nat.{ℕ, suc, _+_, _-_, _≤_, _<_, min}
+use native.Mathlib.Nat.{add-zero}
 use mathlib.Core.Logic.{_⊎_, inl, inr}
 use mathlib.Core.Bool.{Bool, true, false}
 use lib.Dec.{leb}
@@ -12,7 +12,7 @@ use borrow.Author.Tests.{leb-true, leb-false}
 use native.Mathlib.Numerals.{add-one}
 use native.Mathlib.Omega.{arith}
 use lib.ListN.{length, take, drop, getD, set, length-append, length-take, length-drop, take-append-drop, List·getD-append, drop-of-length-le}
-use lib.Seq.{set-split, take-at, drop-at, length-take-le, drop-drop, take-append-le, take-append-add, getD-drop, getD-take, getD-append-add, ext-getD, take-suc, take-add, take-length, take-all, take-nil, take-take}
+use lib.Seq.{set-split, take-at, drop-at, length-take-le, drop-drop, take-append-le, take-append-add, getD-drop, getD-take, getD-append-add, take-suc, take-add, take-length, take-all, take-nil, take-take}
 use Rattle.writer.specs.Buf.{put, part}
 
 pub length-put : (d : List ℕ) (at : ℕ) (p : List ℕ) → length (put d at p) ≡ length d

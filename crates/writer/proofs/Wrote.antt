@@ -1,12 +1,12 @@
 -- Writes one after the other, and what a place within the buffer tells of them.
 -- Assumes nothing.
-use mathlib.Core.Path.{_≡_, refl, sym, ap, _∙_}
+use mathlib.Core.Path.{_≡_, sym, ap, _∙_}
 use mathlib.Core.Logic.{⊎-elim}
 use mathlib.Core.List.{List, [], _∷_, _++_, append-nil}
 use Prim.Native.Nat.{ℕ, suc, _+_, _-_, _≤_, _<_, min, _%_}
 use native.Mathlib.Omega.{arith}
 use lib.ListN.{length, set, take, drop, length-append, length-take, take-append-drop}
-use Rattle.definition.specs.Write.{wName, wU16}
+use Rattle.definition.specs.Write.{wName}
 use Rattle.writer.specs.Buf.{put, after, Wrote, nameBytes}
 use Rattle.writer.proofs.Put.{length-put, put-nil, put-past, put-put, put-cut, put-first, within}
 

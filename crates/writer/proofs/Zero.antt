@@ -1,13 +1,13 @@
 -- A range that is zeroed one element after the other.
 -- Assumes nothing.
-use mathlib.Core.Path.{_≡_, refl, sym, ap, _∙_}
+use mathlib.Core.Path.{_≡_, sym, ap, _∙_}
 use mathlib.Core.Logic.{⊎-elim}
-use mathlib.Core.List.{List, [], _∷_, _++_}
-use Prim.Native.Nat.{ℕ, suc, _+_, _-_, _≤_, _<_, min, max}
+use mathlib.Core.List.{List}
+use Prim.Native.Nat.{ℕ, _+_, _-_, _≤_, _<_, min, max}
 use native.Mathlib.Omega.{arith}
-use lib.ListN.{length, set, replicate, length-replicate, replicate-append-replicate}
+use lib.ListN.{length, set, length-replicate, replicate-append-replicate}
 use Rattle.writer.specs.Buf.{put, zeros}
-use Rattle.writer.proofs.Put.{put-nil, put-past, put-push, put-cut, within}
+use Rattle.writer.proofs.Put.{put-nil, put-push, put-cut, within}
 
 long : (n : ℕ) → length (zeros n) ≡ n
 long n = length-replicate {0} {A = ℕ} n 0

@@ -2,7 +2,7 @@
 -- every write is cut where the buffer ends, and the place after a write that was cut is one past the buffer's end. So writes one after the other
 -- need no test between them: the last place says whether all of them fit.
 -- Assumes nothing.
-use mathlib.Core.List.{List, [], _∷_, _++_}
+use mathlib.Core.List.{List, _∷_, _++_}
 use mathlib.Core.Path.{_≡_}
 use Prim.Native.Nat.{ℕ, suc, _+_, _-_, _%_, min}
 use lib.ListN.{length, take, drop, replicate}

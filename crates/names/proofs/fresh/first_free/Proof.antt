@@ -1,70 +1,43 @@
--- `names::fresh/first_free` meets its contract.
+-- `names::fresh::first_free` meets its contract.
 -- Assumes nothing.
-use Rattle.names.specs.Taken.{taken}
+use Rattle.names.specs.Taken.{both, taken}
 use Rattle.writer.proofs.Wrote as written
 use Prim.Native.Nat.{_-_}
 use Rattle.names.proofs.Free.{Trying, trying-none, search-stops, search-goes-on, search-ends}
-use mathlib.Core.Path.{_≡_, refl, sym, ap, _∙_}
+use mathlib.Core.Path.{_∙_}
 use native.Mathlib.Omega.{arith}
 use borrow.Author.Needs.{needs}
 use Rattle.names.proofs.fresh.first_free.Statement.{statement}
 use Rattle.names.proofs.fresh.first_free.Tie as tie
-use Rattle.names.proofs.fresh.first_free.Reads as reads
-use Rattle.names.proofs.fresh.first_free.Lts as lts
-use Rattle.names.proofs.fresh.is_free.Reads as is-free-reads
-use Rattle.names.proofs.numbered_name.Reads as numbered-name-reads
 
 abbrev Inv-loop : tie.InvT-loop
-Inv-loop path₀ at names places hashes n first i₀ path i = Trying path₀ at (taken names places n) n first path i
+Inv-loop path₀ at book made places hashes n first number₀ path number = Trying path₀ at (taken (both book made) places n) n first path number
 
 abbrev μ-loop : tie.MeasureT-loop
-μ-loop path₀ at names places hashes n first i₀ path i = n - i
+μ-loop path₀ at book made places hashes n first number₀ path number = n - number
 
--- src/fresh.rt:77:5
 loop-holds : tie.Need-loop-holds Inv-loop μ-loop
 loop-holds c = trying-none _ _ _ _ _ (omega arith)
 
--- src/fresh.rt:78:13
-numbered-name-requires : tie.Need-numbered-name-requires Inv-loop μ-loop
-numbered-name-requires c κs = search needs
-
--- src/fresh.rt:79:12
 is-free-requires : tie.Need-is-free-requires Inv-loop μ-loop
 is-free-requires c κs =
-    let p = c .before .before .before .before .before .before .before .before .before .before .before .pre in
+    let p = c .before .before .before .before .before .before .before .before .before .before .before .before .pre in
     (p .0, let a = c .before .before .before .before .before .before .loop .inv .long in let b = written.same-length (c .before .before .before .numbered-name .ensures .wrote) in omega arith)
 
--- src/fresh.rt:80:13
 same-length : tie.Need-same-length Inv-loop μ-loop
 same-length c = written.same-length (c .before .before .before .before .before .numbered-name .ensures .wrote) ∙ c .before .before .before .before .before .before .before .before .loop .inv .long
 
--- src/fresh.rt:80:13
 returns : tie.Need-returns Inv-loop μ-loop
-returns c = search-stops (c .before .before .before .before .before .before .before .before .loop .inv) (c .before .before .before .before .before .numbered-name .ensures) (c .before .before .before .before .before .before .before .before .before .before .before .before .before .pre .2) (λ h. rw (c .if1 .taken) at (c .before .is-free .ensures))
+returns c = search-stops (c .before .before .before .before .before .before .before .before .loop .inv) (c .before .before .before .before .before .numbered-name .ensures) (c .before .before .before .before .before .before .before .before .before .before .before .before .before .before .pre .2) (λ h. rw (c .if1 .taken) at (c .before .is-free .ensures))
 
--- src/fresh.rt:82:9
-add-i : tie.Need-add-i Inv-loop μ-loop
-add-i c = search needs
-
--- src/fresh.rt:77:5
-loop-less : tie.Need-loop-less Inv-loop μ-loop
-loop-less c = search needs
-
--- src/fresh.rt:77:5
 loop-again : tie.Need-loop-again Inv-loop μ-loop
-loop-again c = search-goes-on (c .before .before .before .before .before .before .before .before .loop .inv) (c .before .before .before .before .before .numbered-name .ensures) (c .before .before .before .before .before .before .before .before .before .before .before .before .before .pre .2) (c .before .before .before .before .before .before .before .loop-test .taken) (rw (c .if1 .left) at (c .before .is-free .ensures))
+loop-again c = search-goes-on (c .before .before .before .before .before .before .before .before .loop .inv) (c .before .before .before .before .before .numbered-name .ensures) (c .before .before .before .before .before .before .before .before .before .before .before .before .before .before .pre .2) (c .before .before .before .before .before .before .before .loop-test .taken) (rw (c .if1 .left) at (c .before .is-free .ensures))
 
--- src/fresh.rt:84:9
-numbered-name-requires-2 : tie.Need-numbered-name-requires-2 Inv-loop μ-loop
-numbered-name-requires-2 c κs = search needs
-
--- src/fresh.rt:72:1
 same-length-2 : tie.Need-same-length-2 Inv-loop μ-loop
 same-length-2 c = written.same-length (c .before .before .numbered-name2 .ensures .wrote) ∙ c .before .before .before .before .before .loop .inv .long
 
--- src/fresh.rt:72:1
 returns-2 : tie.Need-returns-2 Inv-loop μ-loop
-returns-2 c = search-stops (search-ends (c .before .before .before .before .before .loop .inv) (c .before .before .before .before .loop-test .left)) (c .before .before .numbered-name2 .ensures) (c .before .before .before .before .before .before .before .before .before .before .pre .2) (λ h. absurd (omega arith))
+returns-2 c = search-stops (search-ends (c .before .before .before .before .before .loop .inv) (c .before .before .before .before .loop-test .left)) (c .before .before .numbered-name2 .ensures) (c .before .before .before .before .before .before .before .before .before .before .before .pre .2) (λ h. absurd (omega arith))
 
 pub first-free-spec : {M : Type 1} → statement M
 first-free-spec =
@@ -73,13 +46,13 @@ first-free-spec =
     Inv-loop
     μ-loop
     loop-holds
-    numbered-name-requires
+    (λ c κs. search needs)
     is-free-requires
     same-length
     returns
-    add-i
-    loop-less
+    (λ c. search needs)
+    (λ c. search needs)
     loop-again
-    numbered-name-requires-2
+    (λ c κs. search needs)
     same-length-2
     returns-2)

@@ -1,16 +1,14 @@
--- `names::fresh/name_hash` meets its contract.
+-- `names::fresh::name_hash` meets its contract.
 -- Assumes nothing.
 use Rattle.names.specs.Taken.{hashFrom, hashOf}
 use lib.ListN.{length, drop}
 use Prim.Native.Nat.{_≤_, _<_, _-_}
 use Rattle.names.proofs.Rows.{hash-on, hash-end}
-use mathlib.Core.Path.{_≡_, refl, sym, ap, _∙_}
+use mathlib.Core.Path.{_≡_, refl}
 use native.Mathlib.Omega.{arith}
 use borrow.Author.Needs.{needs}
 use Rattle.names.proofs.fresh.name_hash.Statement.{statement}
 use Rattle.names.proofs.fresh.name_hash.Tie as tie
-use Rattle.names.proofs.fresh.name_hash.Reads as reads
-use Rattle.names.proofs.fresh.name_hash.Lts as lts
 
 abbrev Inv-loop : tie.InvT-loop
 Inv-loop name h₀ i₀ h i = (i ≤ length name) × (h < 65536) × (hashOf name ≡ hashFrom h (drop i name))
@@ -18,45 +16,20 @@ Inv-loop name h₀ i₀ h i = (i ≤ length name) × (h < 65536) × (hashOf name
 abbrev μ-loop : tie.MeasureT-loop
 μ-loop name h₀ i₀ h i = length name - i
 
--- src/fresh.rt:27:5
 loop-holds : tie.Need-loop-holds Inv-loop μ-loop
 loop-holds c = (omega arith, omega arith, refl)
 
--- src/fresh.rt:28:14
-mul-h : tie.Need-mul-h Inv-loop μ-loop
-mul-h c = search needs
-
--- src/fresh.rt:28:23
-shared-slice-read-h : tie.Need-shared-slice-read-h Inv-loop μ-loop
-shared-slice-read-h c = search needs
-
--- src/fresh.rt:28:23
 cast-h : tie.Need-cast-h Inv-loop μ-loop
 cast-h c = omega (arith, c .shared-slice-known .given (c .before .before .loop .i))
 
--- src/fresh.rt:28:14
 add-h : tie.Need-add-h Inv-loop μ-loop
 add-h c = omega (arith, c .shared-slice-known .given (c .before .before .loop .i))
 
--- src/fresh.rt:29:9
-add-i : tie.Need-add-i Inv-loop μ-loop
-add-i c = search needs
-
--- src/fresh.rt:27:5
-loop-less : tie.Need-loop-less Inv-loop μ-loop
-loop-less c = search needs
-
--- src/fresh.rt:27:5
 loop-again : tie.Need-loop-again Inv-loop μ-loop
 loop-again c =
     let l = c .before .before .loop in
     (omega arith, omega arith, hash-on _ (l .i) (l .h) (omega arith) (l .inv .2))
 
--- src/fresh.rt:31:5
-cast-result : tie.Need-cast-result Inv-loop μ-loop
-cast-result c = search needs
-
--- src/fresh.rt:22:1
 returns : tie.Need-returns Inv-loop μ-loop
 returns c =
     let l = c .before .loop in
@@ -69,12 +42,12 @@ name-hash-spec =
     Inv-loop
     μ-loop
     loop-holds
-    mul-h
-    shared-slice-read-h
+    (λ c. search needs)
+    (λ c. search needs)
     cast-h
     add-h
-    add-i
-    loop-less
+    (λ c. search needs)
+    (λ c. search needs)
     loop-again
-    cast-result
+    (λ c. search needs)
     returns)
