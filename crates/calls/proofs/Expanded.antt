@@ -8,12 +8,12 @@ use Prim.Native.Nat.{ℕ, suc}
 use lib.Dec.{leb}
 use Rattle.definition.specs.Tree.{Name, CaseKind, Combinator, plain, chained, Inner, leaf, struct, choice, shell, bytes, invocation, macro-invocation, Fields, no-field, field, const, Cases, no-case, case, Inners, no-inner, inner}
 use Rattle.definition.specs.Write.{wU16, wName, wText, wLen, caseByte, wOpen, wShut, wSelector, wLabel, leafTag, fieldByte, countF, countC, wCombinator, wInner, wFields, wCases}
-use Rattle.definition.specs.Code.{Code, macro-growth}
+use Rattle.definition.specs.Code.{macro-growth}
 use Rattle.definition.specs.Out.{Out, refused, done, _>>=_, given}
 use Rattle.definition.specs.Names.{eqName}
 use Rattle.definition.specs.Size.{size, levels}
 use Rattle.definition.specs.Macros.{Macro, subst, limited, instance, innerOf, expandBy, expandMacro, expand, expandI, expandF, expandC}
-use Rattle.calls.specs.Pieces.{Piece, raw, call, macro-call, pieces, piecesI, piecesF, piecesC, expanded}
+use Rattle.calls.specs.Pieces.{Piece, raw, pieces, piecesI, piecesF, piecesC, expanded}
 use Rattle.calls.proofs.Splits.{s-name, s-text, s-len, s-selector, s-label, s-open, s-shut}
 
 -- a value, or code 6

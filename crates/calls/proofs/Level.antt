@@ -1,15 +1,15 @@
 -- The walk, unrolled by one level or one step in the code's own terms.
 -- Assumes nothing.
-use mathlib.Core.List.{List, [], _∷_, _++_}
-use mathlib.Core.Path.{_≡_, refl, sym, ap, _∙_}
-use Prim.Native.Nat.{ℕ, zero, suc, _+_, _-_, _%_, _≤_, _<_}
+use mathlib.Core.List.{List, [], _∷_}
+use mathlib.Core.Path.{_≡_, refl, ap}
+use Prim.Native.Nat.{ℕ, zero, suc, _-_, _%_, _≤_, _<_}
 use lib.Dec.{eqb, eqb·suc-zero}
 use native.Mathlib.Numerals.{sub-one}
 use native.Mathlib.Omega.{arith}
 use Rattle.writer.specs.Buf.{Wrote}
 use Rattle.writer.proofs.Wrote.{glue}
 use Rattle.calls.specs.declared.Walk.{Walk}
-use Rattle.calls.specs.Walk.{Step, walk, times, pairOf, markAt, innerBy, combinatorBy, argumentBy, combinatorAt, argumentAt}
+use Rattle.calls.specs.Walk.{Step, walk, times, markAt, combinatorBy, argumentBy, combinatorAt, argumentAt}
 
 pub combinator-level : (k : ℕ) (s : List ℕ) (w : Walk) (m : List ℕ) → combinatorAt k s w m ≡ combinatorBy (eqb k 0) (k - 1) (combinatorAt (k - 1) s) (argumentAt (k - 1) s) s w m
 unfolding combinatorAt combinatorBy

@@ -1,4 +1,8 @@
+mod Bools
 pub mod Splits
 pub mod Written
 pub mod Expanded
-pub mod Level
+mod Level
+mod Steps
+mod Over
+pub mod Link

@@ -2,13 +2,14 @@
 -- Assumes nothing.
 use mathlib.Core.Path.{_≡_, refl, ap, sym, _∙_}
 use mathlib.Core.List.{List, [], _∷_, _++_}
-use mathlib.Core.Bool.{Bool, true, false, _&&_}
+use mathlib.Core.Bool.{Bool, _&&_}
 use Prim.Native.Nat.{ℕ, suc}
 use Rattle.definition.specs.Tree.{Name, CaseKind, Combinator, plain, chained, Inner, leaf, struct, choice, shell, bytes, invocation, macro-invocation, Fields, no-field, field, const, Cases, no-case, case}
-use Rattle.definition.specs.Write.{wU16, wName, wText, caseByte, wShut, countF, countC, wCombinator, wInner, wFields, wCases}
+use Rattle.definition.specs.Write.{wU16, wText, caseByte, wShut, countF, countC, wCombinator, wInner, wFields, wCases}
 use Rattle.definition.specs.Macros.{subst, substI, substF, substC}
 use Rattle.definition.specs.Bodies.{everyInvocation, everyInvocationI, everyInvocationF, everyInvocationC}
-use Rattle.calls.specs.Pieces.{Piece, raw, call, macro-call, pieces, piecesI, piecesF, piecesC, written, replaced, every}
+use Rattle.calls.specs.Pieces.{Piece, raw, pieces, piecesI, piecesF, piecesC, written, replaced, every}
+use Rattle.calls.proofs.Bools.{and-assoc}
 use Rattle.calls.proofs.Splits.{s-name, s-text, s-len, s-selector, s-label, s-open, s-shut}
 
 mutual
@@ -83,10 +84,6 @@ module _ (p : Name) (a : Inner) where
     subst-isC no-case k ps r = refl
     subst-isC (case l c f) k ps r =
         rw (subst-is c (piecesC f k ps) r, subst-isC f k ps r, s-label k l [] (wCombinator (subst c p a) (wCases (substC f p a) k (written (replaced p a) ps r))))
-
-and-assoc : (x y z : Bool) → (x && y) && z ≡ x && (y && z)
-and-assoc true y z = refl
-and-assoc false y z = refl
 
 module _ (test : Name → Bool) where
   mutual

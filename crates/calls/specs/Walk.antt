@@ -2,7 +2,7 @@
 -- It mirrors the code; that it is the walk over the combinator's tree is shown in proofs/Link.antt.
 use mathlib.Core.List.{List, [], _∷_}
 use mathlib.Core.Bool.{Bool, true, false}
-use Prim.Native.Nat.{ℕ, zero, suc, _+_, _-_, _%_, min}
+use Prim.Native.Nat.{ℕ, zero, suc, _+_, _%_, min}
 use lib.Dec.{eqb}
 use lib.ListN.{length}
 use Rattle.seek.specs.At.{byteAt, pastAt, numberAt, namePast, textPast, namesPast, lengthPast}
@@ -167,3 +167,9 @@ argumentsAt k s w m = many (argumentAt k s) s w m
 
 abbrev pub macroAt : ℕ → List ℕ → ℕ → Step
 macroAt k s at w m = macroBy (argumentAt k s) s at w m
+
+-- an inner, gone over with nothing recorded
+unfoldable pub skipAt : ℕ → List ℕ → Step
+skipAt k s w m =
+    let g = innerAt k s (silent w (w .at) (length m + 1)) m in
+    (back w (g .0), g .1)

@@ -9,11 +9,10 @@ use seek::past;
 use seek::text_past;
 ghost use mathlib.Core.Path.{_≡_};
 ghost use mathlib.Core.List.{[], _∷_};
-ghost use mathlib.Core.Bool.{Bool};
 ghost use Prim.Native.Nat.{_+_, min};
 ghost use lib.ListN.{length};
 ghost use Rattle.writer.specs.Buf.{Wrote};
-ghost use Rattle.calls.specs.Walk.{moved, entered, standsOn, chainedTo, silent, back, callPast, textOrLength, selectorPast, labelPast, markAt, callAt, combinatorAt, innerAt, fieldsAt, fieldAt, wrapAt, choiceAt, casesAt, caseAt, arrayAt, macroAt, argumentsAt, argumentAt};
+ghost use Rattle.calls.specs.Walk.{moved, entered, standsOn, chainedTo, silent, back, textOrLength, selectorPast, labelPast, markAt, callAt, combinatorAt, innerAt, fieldsAt, fieldAt, wrapAt, choiceAt, casesAt, caseAt, arrayAt, macroAt, argumentsAt, argumentAt, skipAt};
 
 // Where the walk stands: its place, how many numbers are recorded, the fewest levels that were left on the way, and whether
 // every chain so far stands on Bytes or Tail.
@@ -199,7 +198,7 @@ pub fn combinator(s: &[u8], w: Walk, levels: usize, marks: &mut [u16]) -> Walk
 }
 
 // An inner, with so many levels left below it.
-pub fn inner(s: &[u8], w: Walk, levels: usize, marks: &mut [u16]) -> Walk
+fn inner(s: &[u8], w: Walk, levels: usize, marks: &mut [u16]) -> Walk
     ensures { λ r. ⌜ (r ≡ innerAt levels (now (s .entry)) w (now (marks .entry)) .0) × (now (marks .exit) ≡ innerAt levels (now (s .entry)) w (now (marks .entry)) .1) ⌝ }
 {
     let at = w.at;
@@ -347,4 +346,14 @@ fn argument(s: &[u8], w: Walk, levels: usize, marks: &mut [u16]) -> Walk
         return w;
     }
     inner(s, w, levels - 1, marks)
+}
+
+// An inner with so many levels left below it, gone over with nothing recorded: a macro's argument, or a parameter's type.
+pub fn skip_inner(s: &[u8], w: Walk, levels: usize, marks: &mut [u16]) -> Walk
+    ensures { λ r. ⌜ (r ≡ skipAt levels (now (s .entry)) w (now (marks .entry)) .0) × (now (marks .exit) ≡ skipAt levels (now (s .entry)) w (now (marks .entry)) .1) ⌝ }
+{
+    let at = w.at;
+    let v = silent(w, at, marks.len() + 1);
+    let u = inner(s, v, levels, marks);
+    back(w, u)
 }

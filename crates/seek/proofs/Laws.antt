@@ -6,7 +6,7 @@ use Prim.Native.Nat.{ℕ, zero, suc, _-_, _≤_, _<_}
 use native.Mathlib.Numerals.{sub-one}
 use native.Mathlib.Omega.{arith}
 use lib.ListN.{length, List·getD-eq-default}
-use Rattle.seek.specs.At.{byteAt, pastAt, namePast, namesPast}
+use Rattle.seek.specs.At.{byteAt, namePast, namesPast}
 
 -- past the end
 pub byte-out : (s : List ℕ) (at : ℕ) → length s ≤ at → 0 ≡ byteAt s at

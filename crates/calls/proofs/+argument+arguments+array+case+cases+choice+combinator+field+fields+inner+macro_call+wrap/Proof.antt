@@ -1,3 +1,5 @@
+-- The walker's functions, which call each other, meet their contracts.
+-- Assumes nothing.
 use borrow.Author.Needs.{needs}
 use borrow.Author.Tests.{eq-eqb, ne-eqb}
 use native.Mathlib.Omega.{arith}

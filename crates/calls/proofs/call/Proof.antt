@@ -1,3 +1,5 @@
+-- `calls::call` meets its contract.
+-- Assumes nothing.
 use Rattle.calls.specs.Walk.{callPast, callAt}
 use borrow.Author.Needs.{needs}
 use Rattle.calls.proofs.call.Statement.{statement}

@@ -1,3 +1,5 @@
+-- `calls::chained_to` meets its contract.
+-- Assumes nothing.
 use Rattle.calls.specs.Walk.{chainedTo}
 use borrow.Author.Needs.{needs}
 use Rattle.calls.proofs.chained_to.Statement.{statement}

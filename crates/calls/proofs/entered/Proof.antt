@@ -1,3 +1,5 @@
+-- `calls::entered` meets its contract.
+-- Assumes nothing.
 use Rattle.calls.specs.Walk.{entered}
 use borrow.Author.Needs.{needs}
 use Rattle.calls.proofs.entered.Statement.{statement}

@@ -1,3 +1,5 @@
+-- `calls::mark` meets its contract.
+-- Assumes nothing.
 use Rattle.calls.proofs.Level.{marked}
 use borrow.Author.Needs.{needs}
 use Rattle.calls.proofs.mark.Statement.{statement}

@@ -1,3 +1,5 @@
+-- `calls::put_mark` meets its contract.
+-- Assumes nothing.
 use native.Mathlib.Omega.{arith}
 use Rattle.writer.proofs.Wrote.{wrote-one, wrote-past}
 use borrow.Author.Needs.{needs}

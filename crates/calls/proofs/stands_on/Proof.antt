@@ -1,3 +1,5 @@
+-- `calls::stands_on` meets its contract.
+-- Assumes nothing.
 use borrow.Author.Tests.{eq-eqb, ne-eqb}
 use Rattle.calls.specs.Walk.{standsOn}
 use Rattle.calls.proofs.stands_on.Statement.{statement}

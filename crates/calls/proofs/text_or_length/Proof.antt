@@ -1,3 +1,5 @@
+-- `calls::text_or_length` meets its contract.
+-- Assumes nothing.
 use borrow.Author.Tests.{eq-eqb, ne-eqb}
 use Rattle.calls.specs.Walk.{textOrLength}
 use borrow.Author.Needs.{needs}

@@ -1,3 +1,5 @@
+-- `seek::byte` meets its contract.
+-- Assumes nothing.
 use mathlib.Core.Path.{refl}
 use Rattle.seek.specs.At.{byteAt}
 use Rattle.seek.proofs.Laws.{byte-out}

@@ -1,3 +1,5 @@
+-- `seek::length_past` meets its contract.
+-- Assumes nothing.
 use Rattle.seek.specs.At.{lengthPast}
 use borrow.Author.Needs.{needs}
 use Rattle.seek.proofs.length_past.Statement.{statement}

@@ -1,3 +1,5 @@
+-- `seek::name_past` meets its contract.
+-- Assumes nothing.
 use Rattle.seek.specs.At.{namePast}
 use borrow.Author.Needs.{needs}
 use Rattle.seek.proofs.name_past.Statement.{statement}

@@ -1,3 +1,5 @@
+-- `seek::number` meets its contract.
+-- Assumes nothing.
 use Rattle.seek.specs.At.{numberAt}
 use borrow.Author.Needs.{needs}
 use Rattle.seek.proofs.number.Statement.{statement}

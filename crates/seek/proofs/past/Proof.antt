@@ -1,3 +1,5 @@
+-- `seek::past` meets its contract.
+-- Assumes nothing.
 use native.Mathlib.Omega.{arith}
 use Rattle.seek.specs.At.{pastAt}
 use borrow.Author.Needs.{needs}

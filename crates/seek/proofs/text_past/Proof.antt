@@ -1,3 +1,5 @@
+-- `seek::text_past` meets its contract.
+-- Assumes nothing.
 use Rattle.seek.specs.At.{textPast}
 use borrow.Author.Needs.{needs}
 use Rattle.seek.proofs.text_past.Statement.{statement}
