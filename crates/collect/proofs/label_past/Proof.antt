@@ -1,0 +1,26 @@
+use borrow.Author.Tests.{eq-eqb, ne-eqb}
+use Rattle.collect.specs.Walk.{labelPast}
+use borrow.Author.Needs.{needs}
+use Rattle.collect.proofs.label_past.Statement.{statement}
+use Rattle.collect.proofs.label_past.Tie as tie
+use Rattle.collect.proofs.label_past.Reads as reads
+use Rattle.collect.proofs.label_past.Lts as lts
+use Rattle.seek.proofs.name_past.Reads as name-past-reads
+use Rattle.seek.proofs.text_past.Reads as text-past-reads
+
+name-past-requires : tie.Need-name-past-requires
+name-past-requires c κs = search needs
+
+returns : tie.Need-returns
+unfolding labelPast
+returns c = rw (eq-eqb _ _ (c .before .if1 .taken)) (c .name-past .ensures)
+
+text-past-requires : tie.Need-text-past-requires
+text-past-requires c κs = search needs
+
+returns-2 : tie.Need-returns-2
+unfolding labelPast
+returns-2 c = rw (ne-eqb _ _ (c .before .if1 .left)) (c .text-past .ensures)
+
+pub label-past-spec : {M : Type 1} → statement M
+label-past-spec = tie.close (tie.spec name-past-requires returns text-past-requires returns-2)

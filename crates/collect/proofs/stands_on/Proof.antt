@@ -1,0 +1,17 @@
+use borrow.Author.Tests.{eq-eqb, ne-eqb}
+use Rattle.collect.specs.Walk.{standsOn}
+use Rattle.collect.proofs.stands_on.Statement.{statement}
+use Rattle.collect.proofs.stands_on.Tie as tie
+use Rattle.collect.proofs.stands_on.Reads as reads
+use Rattle.collect.proofs.stands_on.Lts as lts
+
+returns : tie.Need-returns
+unfolding standsOn
+returns c = rw (eq-eqb _ _ (c .if1 .taken))
+
+returns-2 : tie.Need-returns-2
+unfolding standsOn
+returns-2 c = rw (ne-eqb _ _ (c .if1 .left))
+
+pub stands-on-spec : {M : Type 1} → statement M
+stands-on-spec = tie.close (tie.spec returns returns-2)

@@ -1,0 +1,3 @@
+pub mod Anonymous
+pub mod Uses
+pub mod Walk
