@@ -50,7 +50,7 @@ module _ (more all at : ℕ) where
   behind-short k (b ∷ c ∷ d ∷ e ∷ f ∷ l) h = ([], rw (width-more, part-short more l (omega arith)))
 
   known-bad : (m : Maybe Kind) (here l : List ℕ) → ((k : Kind) → (z : List ℕ) × (behind (6 + more) all at k l ≡ bad not-a-book z))
-    → from here (known m here l >>= λ y. behind (6 + more) all at (y .0) (y .1)) ≡ bad not-a-book here
+      → from here (known m here l >>= λ y. behind (6 + more) all at (y .0) (y .1)) ≡ bad not-a-book here
   unfolding known
   known-bad absent here l f = refl
   known-bad (just k) here l f = rw (f k .1)
@@ -65,9 +65,9 @@ module _ (more all at : ℕ) where
   no-kind a l e = rw e
 
   six : (a b c d e f : ℕ) (l : List ℕ) (k : Kind) → getD kinds a absent ≡ just k → more ≤ length l
-    → entry (6 + more) all at (a ∷ b ∷ c ∷ d ∷ e ∷ f ∷ l)
+      → entry (6 + more) all at (a ∷ b ∷ c ∷ d ∷ e ∷ f ∷ l)
       ≡ from (a ∷ b ∷ c ∷ d ∷ e ∷ f ∷ l) (require (eqb b 0 && eqb (c + 256 * d) at && leb (at + (e + 256 * f)) all) not-a-book (drop more l)
-        >>= λ y. ok (record { kind = k; size = e + 256 * f; extra = take more l }) (y .1))
+      >>= λ y. ok (record { kind = k; size = e + 256 * f; extra = take more l }) (y .1))
   unfolding entry oneOf known byte u16
   six a b c d e f l k w h = rw (w, width-more, part-is more l h)
 
@@ -76,7 +76,7 @@ next : (s : List ℕ) (p q : ℕ) → q ≡ p + 1 → p < length s → drop p s 
 next s p q e h = rw (e, add-one p, drop-cons s p 0 h)
 
 bytes : (s : List ℕ) (p : ℕ) → p + 6 ≤ length s
-  → drop p s ≡ getD s p 0 ∷ getD s (p + 1) 0 ∷ getD s (p + 2) 0 ∷ getD s (p + 2 + 1) 0 ∷ getD s (p + 4) 0 ∷ getD s (p + 4 + 1) 0 ∷ drop (p + 6) s
+    → drop p s ≡ getD s p 0 ∷ getD s (p + 1) 0 ∷ getD s (p + 2) 0 ∷ getD s (p + 2 + 1) 0 ∷ getD s (p + 4) 0 ∷ getD s (p + 4 + 1) 0 ∷ drop (p + 6) s
 bytes s p h =
     next s p (p + 1) refl (omega arith)
     ∙ ap (λ l. getD s p 0 ∷ l) (next s (p + 1) (p + 2) (omega arith) (omega arith)
@@ -135,7 +135,7 @@ none-below (suc a) h = absurd (omega arith)
 -- the answers of the code
 module _ (s : List ℕ) (p want more : ℕ) where
   refuses : entry (6 + more) (length s) want (drop p s) ≡ bad not-a-book (drop p s)
-    → Found s p want (6 + more) (NoEntry (record { code = 3; at = p })) (entry (6 + more) (length s) want (drop p s))
+      → Found s p want (6 + more) (NoEntry (record { code = 3; at = p })) (entry (6 + more) (length s) want (drop p s))
   unfolding number
   refuses e = record { told = record { kind = not-a-book; coded = refl; fails = e; along = refl } }
 
@@ -166,19 +166,21 @@ module _ (s : List ℕ) (p want more : ℕ) where
               refuses (at-bad s p want more h (k .0) (k .1) (rw (eq-eqb (getD s (p + 1) 0) 0 b, eq-eqb (offset s p) want (sym e ∙ w), ← z, lt-leb (want + n) (length s) f)))
 
           pub f-ok : (q : ℕ) → q ≡ p + (6 + more) → want + n ≤ length s
-            → Found s p want (6 + more) (Found-entry (getD s p 0) (want + n) (record { at = q })) (entry (6 + more) (length s) want (drop p s))
+              → Found s p want (6 + more) (Found-entry (getD s p 0) (want + n) (record { at = q })) (entry (6 + more) (length s) want (drop p s))
           unfolding value
           f-ok q u f =
               let k = some-kind (getD s p 0) l g in
-              record { told = record {
-                value = value s p want more h (k .0) (k .1);
-                gives = rw u (at-ok s p want more h (k .0) (k .1) (rw (eq-eqb (getD s (p + 1) 0) 0 b, eq-eqb (offset s p) want (sym e ∙ w), ← z, le-leb (want + n) (length s) f)));
-                kinded = k .1;
-                sized = ap (λ x. want + x) z;
-                fits = f;
-                past = u;
-                within = omega arith
-              } }
+              record {
+                told = record {
+                  value = value s p want more h (k .0) (k .1);
+                  gives = rw u (at-ok s p want more h (k .0) (k .1) (rw (eq-eqb (getD s (p + 1) 0) 0 b, eq-eqb (offset s p) want (sym e ∙ w), ← z, le-leb (want + n) (length s) f)));
+                  kinded = k .1;
+                  sized = ap (λ x. want + x) z;
+                  fits = f;
+                  past = u;
+                  within = omega arith;
+                };
+              }
 
 -- an entry that was read, taken apart
 pub record Opened (s : List ℕ) (p want more : ℕ) (e : Entry) (z : List ℕ) : Type 0 where
@@ -202,7 +204,7 @@ module _ (s : List ℕ) (p want more : ℕ) (e : Entry) (z : List ℕ) (w : entr
 
   module _ (h : p + (6 + more) ≤ length s) where
     tested : (k : Kind) → getD kinds (getD s p 0) absent ≡ just k → (t : Bool)
-      → (eqb (getD s (p + 1) 0) 0 && eqb (offset s p) want && leb (want + sizeAt s p) (length s)) ≡ t → Opened s p want more e z
+        → (eqb (getD s (p + 1) 0) 0 && eqb (offset s p) want && leb (want + sizeAt s p) (length s)) ≡ t → Opened s p want more e z
     unfolding value
     tested k g false f = absurd (not-bad (at-bad s p want more h k g f))
     tested k g true f =
@@ -215,7 +217,7 @@ module _ (s : List ℕ) (p want more : ℕ) (e : Entry) (z : List ℕ) (w : entr
           sized = rw v;
           fits = rw v u;
           rest = y;
-          room = h
+          room = h;
         }
 
     kinded-by : (m : Maybe Kind) → getD kinds (getD s p 0) absent ≡ m → Opened s p want more e z

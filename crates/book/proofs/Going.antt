@@ -98,7 +98,7 @@ begin s more n h =
       after = drop (2 + (6 + more) * n) s;
       reads = h .reads;
       full = h .full;
-      goes = λ v e. e ∙ rw (h .counted, h .reads, h .cuts, o .1)
+      goes = λ v e. e ∙ rw (h .counted, h .reads, h .cuts, o .1);
     }
 
 module _ (s : List ℕ) (more left want here : ℕ) (g : Going s more left want here) where
@@ -142,7 +142,7 @@ module _ (s : List ℕ) (more left want here : ℕ) (g : Going s more left want 
           after = g .after;
           reads = rw (o .rest) at (d .then);
           full = i;
-          goes = λ x u. g .goes x (rw (← (d .both)) (u ∙ sym (first-sound s want (d .first) (d .others) (omega arith) (getD s here 0) (o .kinded) y)))
+          goes = λ x u. g .goes x (rw (← (d .both)) (u ∙ sym (first-sound s want (d .first) (d .others) (omega arith) (getD s here 0) (o .kinded) y)));
         })
 
 pub start-going : (s : List ℕ) (more w n : ℕ) → w ≡ more → Holds s (6 + more) n → Going s more n (2 + (6 + w) * n) 2

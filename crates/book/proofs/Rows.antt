@@ -52,7 +52,7 @@ pub record First (width all n at : ℕ) (l : List ℕ) (es : List Entry) (z : Li
   pub both : first ∷ others ≡ es
 
 first-by : (width all n at : ℕ) (l : List ℕ) (es : List Entry) (z : List ℕ) (m : Res (List ℕ) Entry) → entry width all at l ≡ m
-  → (m >>= λ y. entries width all n (at + y .0 .size) (y .1) >>= λ w. ok (y .0 ∷ w .0) (w .1)) ≡ ok es z → First width all n at l es z
+    → (m >>= λ y. entries width all n (at + y .0 .size) (y .1) >>= λ w. ok (y .0 ∷ w .0) (w .1)) ≡ ok es z → First width all n at l es z
 first-by width all n at l es z (bad k r) f e = absurd (no-value k r z es e)
 first-by width all n at l es z (ok x r) f e =
     let o = part-one (λ (xs : List Entry). x ∷ xs) es z (entries width all n (at + x .size) r) e in
@@ -71,7 +71,7 @@ none-of width all (suc n) at l es z h e = absurd (omega arith)
 module _ (s : List ℕ) (more : ℕ) where
   -- where the entries end, and that the bodies lie in the book
   run : (n want p : ℕ) (es : List Entry) (z : List ℕ) → entries (6 + more) (length s) n want (drop p s) ≡ ok es z → (n ≡ 0 → want ≤ length s)
-    → (z ≡ drop (p + (6 + more) * n) s) × (want + total es ≤ length s)
+      → (z ≡ drop (p + (6 + more) * n) s) × (want + total es ≤ length s)
   unfolding entries total
   run zero want p es z e h =
       let v : [] ≡ es = cc in
@@ -96,7 +96,7 @@ module _ (s : List ℕ) (more : ℕ) where
 
   -- one entry more
   filled-by : (at : ℕ) (e : Entry) (es : List Entry) (z : List ℕ) (t : Bool)
-    → cond t (ok (e ∷ es) z) (bad not-a-book (drop at s)) ≡ (cond t (ok es z) (bad not-a-book (drop at s)) >>= λ y. ok (e ∷ y .0) (y .1))
+      → cond t (ok (e ∷ es) z) (bad not-a-book (drop at s)) ≡ (cond t (ok es z) (bad not-a-book (drop at s)) >>= λ y. ok (e ∷ y .0) (y .1))
   filled-by at e es z true = refl
   filled-by at e es z false = refl
 
@@ -105,12 +105,12 @@ module _ (s : List ℕ) (more : ℕ) where
   filled-more at e es z = rw (← (add-assoc at (e .size) (total es))) (filled-by (at + e .size + total es) e es z (eqb (at + e .size + total es) (length s)))
 
   row-by : (at : ℕ) (e : Entry) (m : Res (List ℕ) (List Entry))
-    → ((m >>= λ y. ok (e ∷ y .0) (y .1)) >>= λ y. filled s at (y .0) (y .1)) ≡ ((m >>= λ y. filled s (at + e .size) (y .0) (y .1)) >>= λ y. ok (e ∷ y .0) (y .1))
+      → ((m >>= λ y. ok (e ∷ y .0) (y .1)) >>= λ y. filled s at (y .0) (y .1)) ≡ ((m >>= λ y. filled s (at + e .size) (y .0) (y .1)) >>= λ y. ok (e ∷ y .0) (y .1))
   row-by at e (bad k r) = refl
   row-by at e (ok es r) = filled-more at e es r
 
   row-more : (n at : ℕ) (l : List ℕ) (e : Entry) (r : List ℕ) → entry (6 + more) (length s) at l ≡ ok e r
-    → rowOf (6 + more) s (suc n) at l ≡ (rowOf (6 + more) s n (at + e .size) r >>= λ y. ok (e ∷ y .0) (y .1))
+      → rowOf (6 + more) s (suc n) at l ≡ (rowOf (6 + more) s n (at + e .size) r >>= λ y. ok (e ∷ y .0) (y .1))
   unfolding rowOf entries
   row-more n at l e r w = rw w (row-by at e (entries (6 + more) (length s) n (at + e .size) r))
 
@@ -123,7 +123,7 @@ module _ (s : List ℕ) (more : ℕ) where
     told-by k q c e = subst (λ (y : EntryStep). FoundBy s p want (6 + more) y (entry (6 + more) (length s) want (drop p s))) e (f .told)
 
     pub r-more : {k q : ℕ} {c : Cursor} (n : ℕ) (r : Walked) → x ≡ Found-entry k q c → 0 < n → Ends s (c .at) r (rowOf (6 + more) s (n - 1) q (drop (c .at) s))
-      → Ends s p r (rowOf (6 + more) s n want (drop p s))
+        → Ends s p r (rowOf (6 + more) s n want (drop p s))
     r-more zero r e h w = absurd (omega arith)
     r-more {k} {q} {c} (suc n) r e h w =
         let t = told-by k q c e in
@@ -194,7 +194,7 @@ module _ (s : List ℕ) (more : ℕ) where
       full-by false e es′ r f = absurd (no-value _ _ r es′ (rw e at f))
 
     table-by : (m : Res (List ℕ) (List Entry)) → entries (6 + more) (length s) n (2 + (6 + more) * n) (drop 2 s) ≡ m → (k : Code) (r : List ℕ)
-      → (m >>= λ y. filled s (2 + (6 + more) * n) (y .0) (y .1)) ≡ bad k r → (m >>= λ y. whole (cut (y .0) (y .1))) ≡ bad k r
+        → (m >>= λ y. filled s (2 + (6 + more) * n) (y .0) (y .1)) ≡ bad k r → (m >>= λ y. whole (cut (y .0) (y .1))) ≡ bad k r
     table-by (bad j x) e k r f = same-bad f
     table-by (ok es z) e k r f = left-by es z e _ refl k r f
 
@@ -203,32 +203,35 @@ module _ (s : List ℕ) (more : ℕ) where
     table-bad k r f = table-as ∙ table-by _ refl k r f
 
     holds-by : n ≤ 512 → (m : Res (List ℕ) (List Entry)) → entries (6 + more) (length s) n (2 + (6 + more) * n) (drop 2 s) ≡ m → (es : List Entry) (z : List ℕ)
-      → (m >>= λ y. filled s (2 + (6 + more) * n) (y .0) (y .1)) ≡ ok es z → (Holds s (6 + more) n) × (z ≡ drop (2 + (6 + more) * n) s) × (2 + (6 + more) * n ≤ length s)
+        → (m >>= λ y. filled s (2 + (6 + more) * n) (y .0) (y .1)) ≡ ok es z → (Holds s (6 + more) n) × (z ≡ drop (2 + (6 + more) * n) s) × (2 + (6 + more) * n ≤ length s)
     holds-by few (bad j x) e es z f = absurd (no-value j x z es f)
     holds-by few (ok es′ z′) e es z f =
         let i = lies es′ z′ e in
         let u = cut-fits es′ (2 + (6 + more) * n) (i .1) in
-        let v = full-by es′ z′ e _ refl es z f in
-        (record {
-          rows = es′;
-          bodies = u .0;
-          counted = c;
-          few = few;
-          reads = e ∙ ap (ok es′) (i .0);
-          full = v .2;
-          cuts = rw (u .1) (whole-full (u .0) (ends es′ z′ e) (v .2))
-        }, sym (v .1) ∙ i .0, omega (arith, v .2))
+        let v = full-by es′ z′ e _ refl es z f in (
+          record {
+            rows = es′;
+            bodies = u .0;
+            counted = c;
+            few = few;
+            reads = e ∙ ap (ok es′) (i .0);
+            full = v .2;
+            cuts = rw (u .1) (whole-full (u .0) (ends es′ z′ e) (v .2));
+          },
+          sym (v .1) ∙ i .0,
+          omega (arith, v .2),
+        )
 
     pub table-holds : n ≤ 512 → (es : List Entry) (z : List ℕ) → rowOf (6 + more) s n (2 + (6 + more) * n) (drop 2 s) ≡ ok es z
-      → (Holds s (6 + more) n) × (z ≡ drop (2 + (6 + more) * n) s) × (2 + (6 + more) * n ≤ length s)
+        → (Holds s (6 + more) n) × (z ≡ drop (2 + (6 + more) * n) s) × (2 + (6 + more) * n ≤ length s)
     unfolding rowOf
     table-holds few es z f = holds-by few _ refl es z f
 
 -- where the loops start: `w` is what the code has for `more`
 module _ (s : List ℕ) (more w n : ℕ) (e : w ≡ more) where
   pub start-row : 2 ≤ length s
-    → (n ≤ 0 → 2 + (6 + w) * n ≤ length s)
-    × ((r : Walked) → Ends s 2 r (rowOf (6 + more) s n (2 + (6 + w) * n) (drop 2 s)) → Ends s 2 r (rowOf (6 + more) s n (2 + (6 + more) * n) (drop 2 s)))
+      → (n ≤ 0 → 2 + (6 + w) * n ≤ length s)
+      × ((r : Walked) → Ends s 2 r (rowOf (6 + more) s n (2 + (6 + w) * n) (drop 2 s)) → Ends s 2 r (rowOf (6 + more) s n (2 + (6 + more) * n) (drop 2 s)))
   start-row h = (λ z. let q : n ≡ 0 = omega arith in rw (q, mul-zero) h, λ r i. rw e at i)
 
 pub small : (w n : ℕ) → w < 256 → n ≤ 512 → (6 + w) * n ≤ 134144

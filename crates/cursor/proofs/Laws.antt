@@ -37,7 +37,7 @@ module _ {A : Type 0} (s : List ℕ) (p : ℕ) (m : Res (List ℕ) A) where
 
 -- one reading fails as another does
 pub fails-as : {A B : Type 0} {s : List ℕ} {p : ℕ} {f : Fault} {m : Res (List ℕ) A} (m′ : Res (List ℕ) B) → Fails s p f m
-  → ((k : Code) → m ≡ bad k (drop (f .at) s) → m′ ≡ bad k (drop (f .at) s)) → Fails s p f m′
+    → ((k : Code) → m ≡ bad k (drop (f .at) s) → m′ ≡ bad k (drop (f .at) s)) → Fails s p f m′
 fails-as m′ g h = record { kind = g .kind; coded = g .coded; fails = h (g .kind) (g .fails); along = g .along }
 
 -- what a number answers, with the answer in hand
@@ -62,7 +62,7 @@ module _ (s : List ℕ) (p : ℕ) where
   n-one h g = record { told = here-3 s p _ (u16-one s p h g) }
 
   pub n-at : (a b : ℕ) → p + 1 < length s → a ≡ getD s p 0 → b ≡ getD s (p + 1) 0
-    → Took s p (got (a + 256 * b) (record { at = p + 1 + 1 })) (u16 (drop p s))
+      → Took s p (got (a + 256 * b) (record { at = p + 1 + 1 })) (u16 (drop p s))
   n-at a b h e f = record { told = record { gives = rw (e, f) (u16-at s p h); along = simp length-drop (omega arith) } }
 
 pub ruleset number-laws = (b-end, b-at, n-none, n-one, n-at)
@@ -113,12 +113,12 @@ module _ (s : List ℕ) (p : ℕ) (dots : Bool) where
   m-short n l e h = record { told = here-3 s p _ (rw (byte-at s p l, ← e, part-past s (p + 1) n h)) }
 
   pub m-no : (n : ℕ) → p < length s → n ≡ getD s p 0 → p + 1 + n ≤ length s → tested dots (take (p + 1 + n - (p + 1)) (drop (p + 1) s)) ≡ false
-    → Part s p (p + 1) (Refused (fault 4 p)) (nameBy (tested dots) (drop p s))
+      → Part s p (p + 1) (Refused (fault 4 p)) (nameBy (tested dots) (drop p s))
   unfolding nameBy
   m-no n l e h w = record { told = here-4 s p _ (rw (byte-at s p l, ← e, part-at s (p + 1) n h, w)) }
 
   pub m-yes : (n : ℕ) → p < length s → n ≡ getD s p 0 → p + 1 + n ≤ length s → tested dots (take (p + 1 + n - (p + 1)) (drop (p + 1) s)) ≡ true
-    → Part s p (p + 1) (Past (record { at = p + 1 + n })) (nameBy (tested dots) (drop p s))
+      → Part s p (p + 1) (Past (record { at = p + 1 + n })) (nameBy (tested dots) (drop p s))
   unfolding nameBy
   m-yes n l e h w = record { told = record { gives = rw (byte-at s p l, ← e, part-at s (p + 1) n h, w); along = along s (p + 1) n h ∙ along s p 1 (omega arith) } }
 

@@ -54,33 +54,73 @@ pub fn lead(b: u8) -> Awaits
     ensures { λ r. ⌜ behind b ≡ ranges r ⌝ }
 {
     if b < 0x80 {
-        return Awaits { left: 0, low: 0x80, high: 0xBF };
+        return Awaits {
+            left: 0,
+            low: 0x80,
+            high: 0xBF,
+        };
     }
     if b < 0xC2 {
-        return Awaits { left: 1, low: 1, high: 0 };
+        return Awaits {
+            left: 1,
+            low: 1,
+            high: 0,
+        };
     }
     if b < 0xE0 {
-        return Awaits { left: 1, low: 0x80, high: 0xBF };
+        return Awaits {
+            left: 1,
+            low: 0x80,
+            high: 0xBF,
+        };
     }
     if b == 0xE0 {
-        return Awaits { left: 2, low: 0xA0, high: 0xBF };
+        return Awaits {
+            left: 2,
+            low: 0xA0,
+            high: 0xBF,
+        };
     }
     if b == 0xED {
-        return Awaits { left: 2, low: 0x80, high: 0x9F };
+        return Awaits {
+            left: 2,
+            low: 0x80,
+            high: 0x9F,
+        };
     }
     if b < 0xF0 {
-        return Awaits { left: 2, low: 0x80, high: 0xBF };
+        return Awaits {
+            left: 2,
+            low: 0x80,
+            high: 0xBF,
+        };
     }
     if b == 0xF0 {
-        return Awaits { left: 3, low: 0x90, high: 0xBF };
+        return Awaits {
+            left: 3,
+            low: 0x90,
+            high: 0xBF,
+        };
     }
     if b < 0xF4 {
-        return Awaits { left: 3, low: 0x80, high: 0xBF };
+        return Awaits {
+            left: 3,
+            low: 0x80,
+            high: 0xBF,
+        };
     }
     if b == 0xF4 {
-        return Awaits { left: 3, low: 0x80, high: 0x8F };
+        return Awaits {
+            left: 3,
+            low: 0x80,
+            high: 0x8F,
+        };
     }
-    Awaits { left: 1, low: 1, high: 0 }
+    Awaits {
+        left: 1,
+        low: 1,
+        high: 0,
+    }
 }
 
 // One byte further: the first of a character, or one that the character wants.
@@ -92,18 +132,34 @@ pub fn next(a: Awaits, b: u8) -> Awaits
         return lead(b);
     }
     if b < a.low {
-        return Awaits { left: 1, low: 1, high: 0 };
+        return Awaits {
+            left: 1,
+            low: 1,
+            high: 0,
+        };
     }
     if a.high < b {
-        return Awaits { left: 1, low: 1, high: 0 };
+        return Awaits {
+            left: 1,
+            low: 1,
+            high: 0,
+        };
     }
-    Awaits { left: left - 1, low: 0x80, high: 0xBF }
+    Awaits {
+        left: left - 1,
+        low: 0x80,
+        high: 0xBF,
+    }
 }
 
 pub fn utf8(t: &[u8]) -> bool
     ensures { λ r. ⌜ r ≡ wellFormed (now (t .entry)) ⌝ }
 {
-    let mut state = Awaits { left: 0, low: 0x80, high: 0xBF };
+    let mut state = Awaits {
+        left: 0,
+        low: 0x80,
+        high: 0xBF,
+    };
     let mut i = 0;
     while i < t.len() {
         state = next(state, t[i]);

@@ -82,6 +82,6 @@ refuses (Refused f) e = record { told = fails-as _ (e .told) (λ j w. same-bad w
 
 -- the tree made of two things that were read
 pub made-in : {A B C : Type 0} {s : List ℕ} {p : ℕ} {r : Walked} (m : Res (List ℕ) A) (g : A × List ℕ → Res (List ℕ) B) (h : A → B → C)
-  → Ends s p r (m >>= g) → Ends s p r (m >>= λ y. g y >>= λ z. ok (h (y .0) (z .0)) (z .1))
+    → Ends s p r (m >>= g) → Ends s p r (m >>= λ y. g y >>= λ z. ok (h (y .0) (z .0)) (z .1))
 made-in {r = r} (bad k l) g h e = refuses r e
 made-in (ok a l) g h e = made (h a) e

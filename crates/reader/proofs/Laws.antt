@@ -98,7 +98,7 @@ module _ {s : List ℕ} {p : ℕ} where
 
   -- the items of a tag that has a text alone
   pub leaf : {r : Walked} (k b : ℕ) → (b ≡ 4 → ⊥) → (b ≡ 5 → ⊥) → (b ≡ 7 → ⊥) → (b ≡ 8 → ⊥) → (b ≡ 9 → ⊥) → (b ≡ 10 → ⊥) → (b ≡ 12 → ⊥) → (b ≡ 15 → ⊥) → (b ≡ 16 → ⊥)
-    → Ends s p r (text (drop p s)) → Ends s p r (itemsAt k (tagOf b) (drop p s))
+      → Ends s p r (text (drop p s)) → Ends s p r (itemsAt k (tagOf b) (drop p s))
   unfolding items
   leaf k b f₄ f₅ f₇ f₈ f₉ f₁₀ f₁₂ f₁₅ f₁₆ e = let t = leaf-tag b f₄ f₅ f₇ f₈ f₉ f₁₀ f₁₂ f₁₅ f₁₆ in rw (t .1) (made _ e)
 

@@ -37,7 +37,7 @@ module _ {A : Type 0} (row : ℕ → Reader A) where
 
   -- an item whose last part is read by m
   pub last : {B : Type 0} {s : List ℕ} {p q : ℕ} {m : Res (List ℕ) B} {x : Walked} → Ends s q x m
-    → ((n : ℕ) (r : Walked) → Ends s q r (m >>= λ y. row n (y .1)) → Ends s p r (row (suc n) (drop p s))) → Leads s p x row
+      → ((n : ℕ) (r : Walked) → Ends s q r (m >>= λ y. row n (y .1)) → Ends s p r (row (suc n) (drop p s))) → Leads s p x row
   last {x = Past c} e k = record { told = λ n r w. k n r (then _ e refl (λ a. w)) }
   last {x = Refused f} e k = record { told = λ n. k n (Refused f) (fails _ e refl) }
 

@@ -51,7 +51,7 @@ module _ {A : Type 0} where
   from-zero t d n f e = record {
     inside = λ b l h. full t d f b (omega arith);
     below = λ b h. absurd (omega arith);
-    above = λ b h. List·getD-eq-default t absent (omega arith)
+    above = λ b h. List·getD-eq-default t absent (omega arith);
   }
 
   from-one-in : (t : List (Maybe A)) (d : A) → Full t → (b : ℕ) → 1 ≤ b → b ≤ length t → getD (absent ∷ t) b absent ≡ just (orElse (getD (absent ∷ t) b absent) d)
@@ -66,7 +66,7 @@ module _ {A : Type 0} where
   from-one t d n f e = record {
     inside = λ b l h. from-one-in t d f b l (omega arith);
     below = λ b h. from-one-below t b h;
-    above = λ b h. List·getD-eq-default (absent ∷ t) absent {n = b} (omega arith)
+    above = λ b h. List·getD-eq-default (absent ∷ t) absent {n = b} (omega arith);
   }
 
   module _ (t : List (Maybe A)) (d : A) (low high : ℕ) (sp : Spans t d low high) where
@@ -77,9 +77,9 @@ module _ {A : Type 0} where
     one-got (x ∷ l) b r e =
         ⊎-elim
         (λ (g : low ≤ x). ⊎-elim
-          (λ (h : x ≤ high). let e′ = rw (le-leb low x g, le-leb x high h) at e in let v : x ≡ b = cc in let w : l ≡ r = cc in rw (← v, ← w) (rw (sp .inside x g h) , g , h))
-          (λ (h : high < x). let e′ = rw (le-leb low x g, lt-leb x high h) at e in let z : _≡_ {A = ℕ} 0 1 = cc in absurd (omega arith))
-          (either x high))
+        (λ (h : x ≤ high). let e′ = rw (le-leb low x g, le-leb x high h) at e in let v : x ≡ b = cc in let w : l ≡ r = cc in rw (← v, ← w) (rw (sp .inside x g h), g, h))
+        (λ (h : high < x). let e′ = rw (le-leb low x g, lt-leb x high h) at e in let z : _≡_ {A = ℕ} 0 1 = cc in absurd (omega arith))
+        (either x high))
         (λ (g : x < low). let e′ = rw (lt-leb low x g) at e in let z : _≡_ {A = ℕ} 0 1 = cc in absurd (omega arith))
         (either low x)
 
@@ -89,15 +89,15 @@ module _ {A : Type 0} where
     one-bad (x ∷ l) k r e =
         ⊎-elim
         (λ (g : low ≤ x). ⊎-elim
-          (λ (h : x ≤ high). let e′ = rw (le-leb low x g, le-leb x high h) at e in let z : _≡_ {A = ℕ} 0 1 = cc in absurd (omega arith))
-          (λ (h : high < x). rw (sp .above x h) (same-bad (rw (le-leb low x g, lt-leb x high h) at e)))
-          (either x high))
+        (λ (h : x ≤ high). let e′ = rw (le-leb low x g, le-leb x high h) at e in let z : _≡_ {A = ℕ} 0 1 = cc in absurd (omega arith))
+        (λ (h : high < x). rw (sp .above x h) (same-bad (rw (le-leb low x g, lt-leb x high h) at e)))
+        (either x high))
         (λ (g : x < low). rw (sp .below x g) (same-bad (rw (lt-leb low x g) at e)))
         (either low x)
 
 module _ {A : Type 0} {t : List (Maybe A)} {d : A} {low high : ℕ} (sp : Spans t d low high) {s : List ℕ} {p : ℕ} {x : Step} where
   pub entry : {b : ℕ} {c : Cursor} → Took s p x (among low high (drop p s)) → x ≡ got b c
-    → (Gives s p (orElse (getD t b absent) d) (c .at) (oneOf t (drop p s))) × (low ≤ b) × (b ≤ high)
+      → (Gives s p (orElse (getD t b absent) d) (c .at) (oneOf t (drop p s))) × (low ≤ b) × (b ≤ high)
   entry {b} {c} k e =
       let g = took-got b c k e in
       let o = one-got t d low high sp (drop p s) b (drop (c .at) s) (g .gives) in
@@ -105,7 +105,7 @@ module _ {A : Type 0} {t : List (Maybe A)} {d : A} {low high : ℕ} (sp : Spans 
 
   module _ {B : Type 0} (g : A × List ℕ → Res (List ℕ) B) where
     pub tabled : {b : ℕ} {c : Cursor} {r : Walked} → Took s p x (among low high (drop p s)) → x ≡ got b c
-      → (low ≤ b → b ≤ high → Ends s (c .at) r (g (orElse (getD t b absent) d, drop (c .at) s))) → Ends s p r (oneOf t (drop p s) >>= g)
+        → (low ≤ b → b ≤ high → Ends s (c .at) r (g (orElse (getD t b absent) d, drop (c .at) s))) → Ends s p r (oneOf t (drop p s) >>= g)
     tabled k e n = let o = entry k e in after g (o .0) (n (o .1) (o .2))
 
     pub untabled : {f : Fault} → Took s p x (among low high (drop p s)) → x ≡ none f → Ends s p (Refused f) (oneOf t (drop p s) >>= g)
@@ -199,12 +199,12 @@ leaf-is isMacroInvocation e = absurd (not-both e)
 
 -- a tag that is none of those with more than a text
 pub leaf-tag : (b : ℕ) → (b ≡ 4 → ⊥) → (b ≡ 5 → ⊥) → (b ≡ 7 → ⊥) → (b ≡ 8 → ⊥) → (b ≡ 9 → ⊥) → (b ≡ 10 → ⊥) → (b ≡ 12 → ⊥) → (b ≡ 15 → ⊥) → (b ≡ 16 → ⊥)
-  → (k : Leaf) × (tagOf b ≡ isLeaf k)
+    → (k : Leaf) × (tagOf b ≡ isLeaf k)
 unfolding tagOf
 leaf-tag b f₄ f₅ f₇ f₈ f₉ f₁₀ f₁₂ f₁₅ f₁₆ =
     ⊎-elim
     (λ (g : 17 ≤ b). (never, rw (List·getD-eq-default tags absent {n = b} g)))
     (λ (g : b < 17). leaf-is (tagOf b)
-      (rw (ne-eqb b 4 f₄, ne-eqb b 5 f₅, ne-eqb b 7 f₇, ne-eqb b 8 f₈, ne-eqb b 9 f₉, ne-eqb b 10 f₁₀, ne-eqb b 12 f₁₂, ne-eqb b 15 f₁₅, ne-eqb b 16 f₁₆)
-       at (all-at leafTest 17 leaf-test b g)))
+    (rw (ne-eqb b 4 f₄, ne-eqb b 5 f₅, ne-eqb b 7 f₇, ne-eqb b 8 f₈, ne-eqb b 9 f₉, ne-eqb b 10 f₁₀, ne-eqb b 12 f₁₂, ne-eqb b 15 f₁₅, ne-eqb b 16 f₁₆)
+    at (all-at leafTest 17 leaf-test b g)))
     (either 17 b)

@@ -45,12 +45,12 @@ typesFrom params j (suc n) = record { own = eqb (getD params (4 * j + 3) 0) 1; a
 -- the row of lift i, and the rows of the first n lifts in walk order
 unfoldable pub rowAt : List ℕ → List ℕ → List ℕ → List ℕ → ℕ → Row
 rowAt s names rows params i = record {
-    at = getD rows (5 * i) 0;
-    end = getD rows (5 * i + 1) 0;
-    name = nameAt names (getD rows (5 * i + 2) 0);
-    params = namesFrom s params (getD rows (5 * i + 3) 0) (getD rows (5 * i + 4) 0);
-    types = typesFrom params (getD rows (5 * i + 3) 0) (getD rows (5 * i + 4) 0)
-  }
+  at = getD rows (5 * i) 0;
+  end = getD rows (5 * i + 1) 0;
+  name = nameAt names (getD rows (5 * i + 2) 0);
+  params = namesFrom s params (getD rows (5 * i + 3) 0) (getD rows (5 * i + 4) 0);
+  types = typesFrom params (getD rows (5 * i + 3) 0) (getD rows (5 * i + 4) 0);
+}
 
 unfoldable pub rowsOf : List ℕ → List ℕ → List ℕ → List ℕ → ℕ → List Row
 rowsOf s names rows params zero = []
