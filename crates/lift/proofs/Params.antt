@@ -17,7 +17,7 @@ use Rattle.tables.specs.Rows.{TypeAt, namesFrom, typesFrom}
 use Rattle.collect.specs.Uses.{nameIn, namesIn}
 use Rattle.lift.specs.declared.Built.{Built}
 use Rattle.lift.specs.declared.Built.the-variants.{All, Missing}
-use Rattle.lift.specs.Bound.{Bound, typeOf, boundAt, firstOf, joined, bindersOf, namesSize, typesSize, withParam, Filled, Builds}
+use Rattle.lift.specs.Bound.{Bound, typeOf, boundAt, firstOf, joined, bindersOf, namesSize, typesSize, withParam, Filled, Within, Builds}
 
 -- ---- one name more
 joined-none : (x : Maybe Bound) → joined x absent ≡ absent
@@ -221,3 +221,13 @@ module _ {s uses : List ℕ} {i : ℕ} {env : List Bound} {params₀ : List ℕ}
 pub use-short : (s : List ℕ) (x : ℕ) {n : Name} → n ≡ nameIn s x → length n ≤ 255
 unfolding nameIn
 use-short s x e = rw e (simp length-take (omega arith))
+
+-- what was built, by the answer
+pub builds-all : {s uses : List ℕ} {k : ℕ} {env : List Bound} {params : List ℕ} {first : ℕ} {params′ : List ℕ} {names types : ℕ} (b : Built) → Builds s uses k env params first params′ b → b ≡ All names types
+    → Filled s uses k env params first params′ names types × Within k names types
+unfolding Builds
+builds-all b h e = rw e at h
+
+pub builds-none : (s uses : List ℕ) (k : ℕ) (env : List Bound) (params : List ℕ) (first : ℕ) (params′ : List ℕ) (b : Built) → Builds s uses k env params first params′ b → b ≡ Missing → bindersOf env (namesIn s (take k uses)) ≡ absent
+unfolding Builds
+builds-none s uses k env params first params′ b h e = rw e at h

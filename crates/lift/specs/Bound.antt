@@ -81,7 +81,18 @@ pub record Filled (s uses : List ℕ) (k : ℕ) (env : List Bound) (params : Lis
   pub kept : (i : ℕ) → i < 4 * first → getD params′ i 0 ≡ getD params i 0
   pub long : length params′ ≡ length params
 
+-- no type has fewer than three bytes
+abbrev pub Sized : List ℕ → ℕ → Type 0
+Sized binders b = (j : ℕ) → j < b → 3 ≤ getD binders (4 * j + 3) 0
+
+-- what k names and types take, at the least and at the most
+pub record Within (k names types : ℕ) : Type 0 where
+  pub names-least : k ≤ names
+  pub names-most : names ≤ 256 * k
+  pub types-least : 3 * k ≤ types
+  pub types-most : types ≤ 65535 * k
+
 -- "8: free dependent without binder"
 unfoldable pub Builds : List ℕ → List ℕ → ℕ → List Bound → List ℕ → ℕ → List ℕ → Built → Type 0
 Builds s uses k env params first params′ Missing = bindersOf env (namesIn s (take k uses)) ≡ absent
-Builds s uses k env params first params′ (All names types) = Filled s uses k env params first params′ names types
+Builds s uses k env params first params′ (All names types) = Filled s uses k env params first params′ names types × Within k names types

@@ -6,26 +6,26 @@ use native.Mathlib.Omega.{arith}
 use lib.ListN.{length}
 use borrow.Author.Needs.{needs}
 use Rattle.collect.specs.Uses.{nameIn}
-use Rattle.lift.specs.Bound.{boundFrom, Filled, Builds}
+use Rattle.lift.specs.Bound.{boundFrom, Filled, Within, Builds}
 use Rattle.lift.proofs.Params.{filled-none, filled-missing, filled-more, use-short}
 use Rattle.lift.proofs.build_param_defns.Statement.{statement}
 use Rattle.lift.proofs.build_param_defns.Tie as tie
 
 abbrev Inv-loop : tie.InvT-loop
-Inv-loop s uses k binders b params₀ first names₀ types₀ i₀ params names types i = (i ≤ k) × (names ≤ 256 * i) × (types ≤ 65535 * i) × Filled s uses i (boundFrom s binders 0 b) params₀ first params names types
+Inv-loop s uses k binders b params₀ first names₀ types₀ i₀ params names types i = (i ≤ k) × Within i names types × Filled s uses i (boundFrom s binders 0 b) params₀ first params names types
 
 abbrev μ-loop : tie.MeasureT-loop
 μ-loop s uses k binders b params₀ first names₀ types₀ i₀ params names types i = k - i
 
 loop-holds : tie.Need-loop-holds Inv-loop μ-loop
-loop-holds c = (omega arith, omega arith, omega arith, filled-none _ _ _ _ _)
+loop-holds c = (omega arith, record { names-least = omega arith; names-most = omega arith; types-least = omega arith; types-most = omega arith }, filled-none _ _ _ _ _)
 
 returns : tie.Need-returns Inv-loop μ-loop
 unfolding Builds
 returns c =
     let l = c .before .before .before .before .before .loop in
     let s = c .before .before .before .before .before .before .before .before .before .before in
-    filled-missing (l .inv .3) (omega (arith, s .pre .1)) (s .args .k) (c .before .before .before .before .loop-test .taken) (s .pre .1)
+    filled-missing (l .inv .2) (omega (arith, s .pre .1)) (s .args .k) (c .before .before .before .before .loop-test .taken) (s .pre .1)
     (rw (← (c .before .before .name-of-use .ensures)) (c .before .find-binder .ensures .none (c .if1 .taken)))
 
 fits : tie.Need-add-names-2 Inv-loop μ-loop
@@ -41,11 +41,12 @@ loop-again c =
     let f = c .before .before .before .before .before .before .find-binder in
     let s = c .before .before .before .before .before .before .before .before .before .before .before .before .before .before .before in
     let q = ap length (n .ensures) in
-    let short = use-short _ _ (n .ensures) in (
+    let short = use-short _ _ (n .ensures) in
+    let t = c .fetch .ensures in
+    let sized = s .pre .4 (f .result) (omega (arith, f .ensures .within, c .before .before .before .before .before .if1 .left)) in (
       omega arith,
-      omega arith,
-      omega (arith, c .fetch .ensures .1),
-      filled-more (l .inv .3) (omega (arith, s .pre .1)) (s .args .binders .now) (f .result)
+      record { names-least = omega arith; names-most = omega arith; types-least = omega arith; types-most = omega arith },
+      filled-more (l .inv .2) (omega (arith, s .pre .1)) (s .args .binders .now) (f .result)
           (rw (← (n .ensures)) (f .ensures .some (omega (arith, f .ensures .within, c .before .before .before .before .before .if1 .left))))
           (c .before .before .before .put-param .ensures) q (c .fetch .ensures .0),
     )
@@ -55,7 +56,7 @@ unfolding Builds
 returns-2 c =
     let l = c .before .loop in
     let e : l .i ≡ c .before .before .before .before .before .before .args .k = omega arith in
-    rw e at (l .inv .3)
+    (rw e at (l .inv .2), rw e at (l .inv .1))
 
 pub build-param-defns-spec : {M : Type 1} → statement M
 build-param-defns-spec =
