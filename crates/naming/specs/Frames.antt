@@ -1,0 +1,111 @@
+-- Frames: what a node still has to do, by places in the expanded book.
+use mathlib.Core.Bool.{Bool, true, false}
+use mathlib.Core.List.{List, [], _∷_}
+use mathlib.Core.Path.{_≡_}
+use Prim.Native.Nat.{ℕ, zero, suc, _+_, _≤_}
+use lib.Dec.{eqb}
+use lib.ListN.{length}
+use Rattle.definition.specs.Tree.{Combinator, Inner, shell}
+use Rattle.definition.specs.Write.{wInner, wCombinator, wFields, wCases, wOpen, wShut, countF, countC, caseByte}
+use Rattle.definition.specs.Size.{levels, levelsI, levelsF, levelsC}
+use Rattle.laws.proofs.Sizes.{sizeI, sizeF, sizeC}
+use Rattle.seek.specs.At.{byteAt, pastAt, numberAt}
+use Rattle.seek.specs.Here.{Here}
+use Rattle.calls.specs.Walk.{walk, selectorPast, skipAt}
+use Rattle.collect.specs.Uses.{pick}
+use Rattle.names.specs.Name.{Held}
+use Rattle.lift.specs.Bound.{boundFrom}
+use Rattle.naming.specs.Nodes.{Rest, fields, cases, one, tail, Own, walked, lifted, Link, ahead, behind, Node, restOf, skip}
+use Rattle.naming.specs.declared.Frame.{Frame}
+use Rattle.naming.specs.declared.Begin.{Begin}
+
+-- where the inner at a place ends, by the walker over calls
+unfoldable pub innerEnd : List ℕ → ℕ → ℕ
+innerEnd s at = skipAt 64 s (walk at 0 64 true) (0 ∷ []) .0 .at
+
+-- where the combinator at a place ends; k bounds the chains
+unfoldable pub combinatorEnd : ℕ → List ℕ → ℕ → ℕ
+combinatorEnd zero s at = at
+combinatorEnd (suc k) s at =
+    let e = innerEnd s at in
+    let a = pastAt s e 1 in
+    pick (eqb (byteAt s e) 1) (combinatorEnd k s a) a
+
+-- the children of a Choice whose selector stands at a place, and those of the inner at a place
+abbrev pub start : ℕ → ℕ → ℕ → Begin
+start here kind left = record { here = here; kind = kind; left = left }
+
+unfoldable pub casesBegin : List ℕ → ℕ → Begin
+casesBegin s at =
+    let a = selectorPast s at in
+    let b = pastAt s a 1 in
+    let left = numberAt s b in
+    let here = pastAt s b 2 in
+    pick (eqb (byteAt s a) 1) (start here 2 left) (pick (eqb (byteAt s a) 2) (start here 3 left) (start here 4 left))
+
+unfoldable pub beginAt : List ℕ → ℕ → Begin
+beginAt s at =
+    let tag = byteAt s at in
+    let a = pastAt s at 1 in
+    pick (eqb tag 4) (start (pastAt s a 2) 1 (numberAt s a))
+    (pick (eqb tag 5) (start at 5 1)
+    (pick (eqb tag 7) (casesBegin s a)
+    (pick (eqb tag 8) (start at 5 1)
+    (pick (eqb tag 9) (start at 5 1)
+    (pick (eqb tag 12) (start at 5 1) (start at 0 0))))))
+
+-- the rest of an inner begins at `here`, and z follows it. kind: 1 fields, 2 to 4 cases of Enums, Ints, Arrays, 5 the child of a Wrap, Vec, Array or Option, 0 none
+unfoldable pub RestIs : List ℕ → List ℕ → ℕ → ℕ → ℕ → ℕ → Rest → Type 0
+RestIs s z here kind left child (fields f) = Here s here (wFields f z) × (kind ≡ 1) × (left ≡ countF f)
+RestIs s z here kind left child (cases f k i) = Here s here (wCases f k z) × (kind ≡ 1 + caseByte k) × (left ≡ countC f) × (child ≡ i)
+RestIs s z here kind left child (one x c) = Here s here (wOpen x (wCombinator c (wShut x z))) × (kind ≡ 5)
+RestIs s z here kind left child (tail k) = kind ≡ 0
+
+unfoldable pub sizeRest : Rest → ℕ
+sizeRest (fields f) = sizeF f
+sizeRest (cases f k i) = sizeC f k
+sizeRest (one x c) = sizeI (shell x c)
+sizeRest (tail k) = k
+
+-- the levels below a node
+unfoldable pub levelsRest : Rest → ℕ
+levelsRest (fields f) = levelsF f
+levelsRest (cases f k i) = levelsC f
+levelsRest (one x c) = levels c
+levelsRest (tail k) = 0
+
+unfoldable pub levelsLink : Link → ℕ
+levelsLink (ahead c p) = levels c
+levelsLink (behind l) = 0
+
+pub record Begins (s z : List ℕ) (at : ℕ) (i : Inner) (r : Begin) : Type 0 where
+  pub here : r .here ≡ at + skip i
+  pub rest : RestIs s z (r .here) (r .kind) (r .left) 0 (restOf i)
+
+-- a combinator stands at a place
+pub record Stands (s : List ℕ) (p : ℕ) (c : Combinator) : Type 0 where
+  pub after : List ℕ
+  pub is : Here s p (wCombinator c after)
+
+-- the chain of an inner that ends at a place
+unfoldable pub LinkIs : List ℕ → ℕ → Bool → ℕ → Link → Type 0
+LinkIs s end chained link (ahead c p) = (chained ≡ true) × (p ≡ end + 1) × Stands s p c
+LinkIs s end chained link (behind l) = (chained ≡ false) × (link ≡ l)
+
+unfoldable pub OwnIs : ℕ → ℕ → Own → Type 0
+OwnIs own call walked = own ≡ 0
+OwnIs own call (lifted i k) = (own ≡ i + 1) × (call ≡ k)
+
+-- a frame stands for a node with so many levels below it
+pub record FrameIs (s path binders : List ℕ) (k : ℕ) (f : Frame) (n : Node) : Type 0 where
+  pub after : List ℕ
+  pub rest : RestIs s after (f .here) (f .kind) (f .left) (f .child) (n .rest)
+  pub ends : f .end ≡ f .here + sizeRest (n .rest)
+  pub here : f .here ≡ n .at
+  pub done : f .done ≡ n .done
+  pub link : LinkIs s (f .end) (f .chained) (f .link) (n .link)
+  pub name : Held path (f .len) (n .name)
+  pub env : boundFrom s binders 0 (f .bound) ≡ n .env
+  pub own : OwnIs (f .own) (f .call) (n .own)
+  pub deep : levelsRest (n .rest) ≤ k
+  pub deep-link : levelsLink (n .link) ≤ k
