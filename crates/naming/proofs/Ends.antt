@@ -138,7 +138,7 @@ begins (struct f) z {s} {p} h =
 begins (choice x k f) z {s} {p} h =
     let d = number-past (countC f) (next-here (selector-is x (next-here h))) in
     rw (begin-choice x k f z h) (record { here = omega (arith, here-length h, here-length d, before-cases x (caseByte k) (countC f) (wCases f k z)); rest = (d, refl, refl, refl) })
-begins (shell x c) z {s} {p} h = rw (begin-shell x c (wShut x z) h) (record { here = omega arith; rest = (h, refl) })
+begins (shell x c) z {s} {p} h = rw (begin-shell x c (wShut x z) h) (record { here = omega arith; rest = (h, refl, refl) })
 begins (bytes l) z {s} {p} h = rw (begin-bytes (wLen l z) h) (record { here = omega arith; rest = refl })
 begins (invocation n a) z {s} {p} h = rw (begin-call (wName n (wList wName a z)) h) (record { here = omega arith; rest = refl })
 begins (macro-invocation n a) z {s} {p} h = rw (begin-macro (wName n (wU16 (countA a) (wInners a z))) h) (record { here = omega arith; rest = refl })

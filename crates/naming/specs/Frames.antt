@@ -2,7 +2,7 @@
 use mathlib.Core.Bool.{Bool, true, false}
 use mathlib.Core.List.{List, [], _∷_}
 use mathlib.Core.Path.{_≡_}
-use Prim.Native.Nat.{ℕ, zero, suc, _+_, _≤_}
+use Prim.Native.Nat.{ℕ, zero, suc, _+_, _-_, _≤_}
 use lib.Dec.{eqb}
 use lib.ListN.{length}
 use Rattle.definition.specs.Tree.{Combinator, Inner, shell}
@@ -58,7 +58,7 @@ beginAt s at =
 unfoldable pub RestIs : List ℕ → List ℕ → ℕ → ℕ → ℕ → ℕ → Rest → Type 0
 RestIs s z here kind left child (fields f) = Here s here (wFields f z) × (kind ≡ 1) × (left ≡ countF f)
 RestIs s z here kind left child (cases f k i) = Here s here (wCases f k z) × (kind ≡ 1 + caseByte k) × (left ≡ countC f) × (child ≡ i)
-RestIs s z here kind left child (one x c) = Here s here (wOpen x (wCombinator c (wShut x z))) × (kind ≡ 5)
+RestIs s z here kind left child (one x c) = Here s here (wOpen x (wCombinator c (wShut x z))) × (kind ≡ 5) × (left ≡ 1)
 RestIs s z here kind left child (tail k) = kind ≡ 0
 
 unfoldable pub sizeRest : Rest → ℕ
@@ -95,6 +95,28 @@ LinkIs s end chained link (behind l) = (chained ≡ false) × (link ≡ l)
 unfoldable pub OwnIs : ℕ → ℕ → Own → Type 0
 OwnIs own call walked = own ≡ 0
 OwnIs own call (lifted i k) = (own ≡ i + 1) × (call ≡ k)
+
+-- the frame of the node at a place
+unfoldable pub frameAt : List ℕ → ℕ → ℕ → ℕ → ℕ → ℕ → ℕ → Frame
+frameAt s at last len bound own call =
+    let b = beginAt s at in
+    let e = innerEnd s at in
+    record {
+      place = at;
+      last = last;
+      here = b .here;
+      end = e;
+      left = b .left;
+      kind = b .kind;
+      child = 0;
+      len = len;
+      bound = bound;
+      done = b .here - at;
+      chained = eqb (byteAt s e) 1;
+      link = 0;
+      own = own;
+      call = call;
+    }
 
 -- a frame stands for a node with so many levels below it
 pub record FrameIs (s path binders : List ℕ) (k : ℕ) (f : Frame) (n : Node) : Type 0 where

@@ -2,12 +2,16 @@
 use calls::Walk;
 use calls::skip_inner;
 use seek::byte;
+use seek::length_past;
 use seek::name_past;
 use seek::number;
 use seek::past;
+use seek::text_past;
 ghost use mathlib.Core.Path.{_≡_};
+ghost use Prim.Native.Nat.{_-_};
 ghost use Rattle.calls.specs.Walk.{selectorPast};
-ghost use Rattle.naming.specs.Frames.{innerEnd, combinatorEnd, casesBegin, beginAt};
+ghost use Rattle.naming.specs.Frames.{innerEnd, combinatorEnd, casesBegin, beginAt, frameAt};
+ghost use Rattle.naming.specs.Next.{nextField, nextOne, nextOf};
 
 // A node on the way: its combinator from `place` up to `last`; its inner's rest from `here` up to `end`; how many children are left, their
 // sort, and the number of the next; the name's length in the path; how many binders are in force; what the inner takes up to `here` after
@@ -152,5 +156,121 @@ pub fn children_of(s: &[u8], at: usize) -> Begin
             kind: 0,
             left: 0,
         },
+    }
+}
+
+fn minus(a: usize, b: usize) -> usize
+    ensures { λ r. ⌜ r ≡ a - b ⌝ }
+{
+    if a < b {
+        return 0;
+    }
+    a - b
+}
+
+// The frame of the node whose combinator stands from `at` up to `last`.
+pub fn open_node(
+    s: &[u8],
+    at: usize,
+    last: usize,
+    len: usize,
+    bound: usize,
+    own: usize,
+    call: usize,
+) -> Frame
+    ensures { λ r. ⌜ r ≡ frameAt (now (s .entry)) at last len bound own call ⌝ }
+{
+    let b = children_of(s, at);
+    let here = b.here;
+    let end = inner_end(s, at);
+    let more = byte(s, end);
+    let done = minus(here, at);
+    let chained = more == 1;
+    Frame {
+        place: at,
+        last,
+        here,
+        end,
+        left: b.left,
+        kind: b.kind,
+        child: 0,
+        len,
+        bound,
+        done,
+        chained,
+        link: 0,
+        own,
+        call,
+    }
+}
+
+// What a frame does next: nothing, pass a Const field, or walk a child at a place: its chain, or a child that is named by a label, by its
+// number, as a Wrap's or as an item.
+pub enum Next {
+    Done,
+    Pass(usize),
+    Chain(usize),
+    Label(usize, usize),
+    Case(usize),
+    Anon(usize),
+    Item(usize),
+}
+
+// The next of the fields.
+fn next_field(s: &[u8], here: usize) -> Next
+    ensures { λ r. ⌜ r ≡ nextField (now (s .entry)) here ⌝ }
+{
+    let kind = byte(s, here);
+    let a = past(s, here, 1);
+    let b = name_past(s, a);
+    if kind == 3 {
+        let e = text_past(s, b);
+        return Next::Pass(e);
+    }
+    Next::Label(b, a)
+}
+
+// The child of a Wrap, Vec, Array or Option.
+fn next_one(s: &[u8], here: usize) -> Next
+    ensures { λ r. ⌜ r ≡ nextOne (now (s .entry)) here ⌝ }
+{
+    let tag = byte(s, here);
+    let a = past(s, here, 1);
+    if tag == 5 {
+        let b = text_past(s, a);
+        return Next::Anon(b);
+    }
+    if tag == 9 {
+        let b = length_past(s, a);
+        return Next::Item(b);
+    }
+    Next::Item(a)
+}
+
+pub fn next_of(s: &[u8], f: Frame) -> Next
+    ensures { λ r. ⌜ r ≡ nextOf (now (s .entry)) f ⌝ }
+{
+    let end = f.end;
+    if f.chained {
+        let a = past(s, end, 1);
+        return Next::Chain(a);
+    }
+    let kind = f.kind;
+    let here = f.here;
+    if f.left == 0 {
+        return Next::Done;
+    }
+    match kind {
+        0 => Next::Done,
+        1 => next_field(s, here),
+        2 => {
+            let b = name_past(s, here);
+            Next::Label(b, here)
+        }
+        5 => next_one(s, here),
+        _ => {
+            let b = text_past(s, here);
+            Next::Case(b)
+        }
     }
 }
