@@ -18,8 +18,8 @@ use Rattle.laws.proofs.Sizes.{sizeI}
 use Rattle.lifting.specs.After.{chainAt, fieldsAt, casesAt, shellAt, fieldAt, constEnd, caseAt}
 use Rattle.lift.specs.Bound.{Bound}
 use Rattle.lift.specs.Sheet.{Sheet}
-use Rattle.naming.specs.Walk.{Extent, Start, Step, called, starts, finish, visit, binds, walk, walkI, walkF, walkC}
-use Rattle.naming.specs.Nodes.{Rest, fields, cases, one, tail, Own, walked, lifted, Link, ahead, behind, Node, restOf, skip, nodeOf, close, goLink, goRest, goOn, linked, Wait, for-chain, for-field, for-case, for-one, advanced, deliver, resume, run}
+use Rattle.naming.specs.Walk.{plus, Extent, Start, Step, called, starts, finish, visit, binds, walk, walkI, walkF, walkC}
+use Rattle.naming.specs.Nodes.{Rest, fields, cases, one, tail, Own, walked, lifted, Link, ahead, behind, Node, restOf, skip, nodeOf, close, goLink, goRest, goOn, linked, Wait, for-chain, for-field, for-case, for-one, advanced, deliver, resume, run, Opens}
 
 module _ {S A B C : Type 0} where
   pub bind-assoc : (m : Res S A) (f : A × S → Res S B) (g : B × S → Res S C) → (m >>= f) >>= g ≡ m >>= (λ x. f x >>= g)
@@ -37,19 +37,16 @@ module _ {S A B : Type 0} where
   pub bind-bad : (m : Res S A) (f : A × S → Res S B) {k : Code} {s : S} → m ≡ bad k s → m >>= f ≡ bad k s
   bind-bad m f e = rw e
 
-zero-plus : (k : ℕ) → 0 + k ≡ k
-zero-plus k = omega arith
-
 -- an inner goes on from where its rest begins
 rest-is : (i : Inner) (p : ℕ) (name : Name) (env : List Bound) (t : Sheet) → goRest (restOf i) (skip i) (p + skip i) name env t ≡ walkI i p name env t
 unfolding goRest restOf skip walk
-rest-is (leaf k x) p name env t = rw (zero-plus (sizeI (leaf k x)))
+rest-is (leaf k x) p name env t = refl
 rest-is (struct f) p name env t = refl
 rest-is (choice s k f) p name env t = let e : p + (length (wSelector s []) + 4) ≡ p + length (wSelector s []) + 4 = omega arith in rw e
-rest-is (shell x c) p name env t = rw (add-zero p, zero-plus (length (wOpen x [])))
-rest-is (bytes l) p name env t = rw (zero-plus (sizeI (bytes l)))
-rest-is (invocation n a) p name env t = rw (zero-plus (sizeI (invocation n a)))
-rest-is (macro-invocation n a) p name env t = rw (zero-plus (sizeI (macro-invocation n a)))
+rest-is (shell x c) p name env t = rw (add-zero p)
+rest-is (bytes l) p name env t = refl
+rest-is (invocation n a) p name env t = refl
+rest-is (macro-invocation n a) p name env t = refl
 
 -- a node that is walked does what `walk` does, and one that is lifted finishes its lift then
 pub walked-is : (c : Combinator) (p : ℕ) (name : Name) (env : List Bound) (t : Sheet) → goOn (nodeOf c p name env walked) t ≡ walk c p name env t
@@ -81,10 +78,6 @@ module _ (c : Combinator) (p : ℕ) (base : Name) (env : List Bound) (t : Sheet)
   unfolding visit
   visit-refused k u e q = rw (e, q)
 
--- what a node does next: it opens a child and waits, or it is at its end
-pub record Opens (n : Node) (c : Combinator) (p : ℕ) (base : Name) (w : Wait) : Type 0 where
-  pub opens : (t : Sheet) → goOn n t ≡ visit (anonymous c) c p (walk c p) base (n .env) t >>= (λ x. goOn (deliver w (x .0)) (x .1))
-
 module _ (rest : Rest) (at done : ℕ) (name : Name) (env : List Bound) (own : Own) where
   abbrev node : Link → Node
   node l = record { link = l; rest = rest; at = at; done = done; name = name; env = env; own = own }
@@ -112,20 +105,20 @@ module _ (l at done : ℕ) (name : Name) (env : List Bound) (own : Own) where
 
   -- a Const field is passed
   pub passes-const : (a : Name) (x : List ℕ) (f : Fields) (ws : List Wait) (t : Sheet)
-      → run (among (fields (const a x f))) ws t ≡ run (advanced (among (fields (const a x f))) (fields f) (constEnd at a x) (done + (1 + length (wName a []) + length (wText x []))) env) ws t
+      → run (among (fields (const a x f))) ws t ≡ run (advanced (among (fields (const a x f))) (fields f) (constEnd at a x) (plus done (1 + length (wName a []) + length (wText x []))) env) ws t
   unfolding run goOn goLink goRest walk advanced
   passes-const a x f ws t = refl
 
   -- at its end
-  pub ends-fields : (t : Sheet) → goOn (among (fields no-field)) t ≡ close own done l t
+  pub ends-fields : (t : Sheet) → goOn (among (fields no-field)) t ≡ close own (plus done 0) l t
   unfolding goOn goLink goRest walk
   ends-fields t = refl
 
-  pub ends-cases : (k : CaseKind) (i : ℕ) (t : Sheet) → goOn (among (cases no-case k i)) t ≡ close own done l t
+  pub ends-cases : (k : CaseKind) (i : ℕ) (t : Sheet) → goOn (among (cases no-case k i)) t ≡ close own (plus done 0) l t
   unfolding goOn goLink goRest walk
   ends-cases k i t = refl
 
-  pub ends-tail : (k : ℕ) (t : Sheet) → goOn (among (tail k)) t ≡ close own (done + k) l t
+  pub ends-tail : (k : ℕ) (t : Sheet) → goOn (among (tail k)) t ≡ close own (plus done k) l t
   unfolding goOn goLink goRest
   ends-tail k t = refl
 

@@ -2,10 +2,12 @@
 use mathlib.Core.Bool.{Bool, true, false}
 use mathlib.Core.List.{List, [], _∷_}
 use mathlib.Core.Path.{_≡_}
-use Prim.Native.Nat.{ℕ, zero, suc, _+_, _-_, _≤_}
+use Prim.Native.Nat.{ℕ, zero, suc, _+_, _-_, _*_, _≤_}
 use lib.Dec.{eqb}
 use lib.ListN.{length}
-use Rattle.definition.specs.Tree.{Combinator, Inner, shell}
+use Rattle.definition.specs.Tree.{Name, wrap, vec, ints, Combinator, Inner, shell}
+use Rattle.definition.specs.Names.{segment, child, caseSegment, shellSegment}
+use Rattle.lookup.specs.Name.{nameAt}
 use Rattle.definition.specs.Write.{wInner, wCombinator, wFields, wCases, wOpen, wShut, countF, countC, caseByte}
 use Rattle.definition.specs.Size.{levels, levelsI, levelsF, levelsC}
 use Rattle.laws.proofs.Sizes.{sizeI, sizeF, sizeC}
@@ -15,9 +17,13 @@ use Rattle.calls.specs.Walk.{walk, selectorPast, skipAt}
 use Rattle.collect.specs.Uses.{pick}
 use Rattle.names.specs.Name.{Held}
 use Rattle.lift.specs.Bound.{boundFrom}
-use Rattle.naming.specs.Nodes.{Rest, fields, cases, one, tail, Own, walked, lifted, Link, ahead, behind, Node, restOf, skip}
+use Rattle.lift.specs.Sheet.{Sheet}
+use Rattle.naming.specs.Nodes.{Rest, fields, cases, one, tail, Own, walked, lifted, Link, ahead, behind, Node, restOf, skip, close, goOn, Wait, run, Opens}
+use Rattle.naming.specs.Walk.{plus}
 use Rattle.naming.specs.declared.Frame.{Frame}
 use Rattle.naming.specs.declared.Begin.{Begin}
+use Rattle.naming.specs.declared.Next.{Next}
+use Rattle.naming.specs.declared.Next.the-variants.{Done, Pass, Chain, Label, Case, Anon, Item}
 
 -- where the inner at a place ends, by the walker over calls
 unfoldable pub innerEnd : List ℕ → ℕ → ℕ
@@ -129,5 +135,52 @@ pub record FrameIs (s path binders : List ℕ) (k : ℕ) (f : Frame) (n : Node) 
   pub name : Held path (f .len) (n .name)
   pub env : boundFrom s binders 0 (f .bound) ≡ n .env
   pub own : OwnIs (f .own) (f .call) (n .own)
+  -- each binder takes four bytes or more of what stands before
+  pub few : 4 * f .bound ≤ f .here
   pub deep : levelsRest (n .rest) ≤ k
   pub deep-link : levelsLink (n .link) ≤ k
+
+-- the answer for each sort of next step
+pub record Closing (f : Frame) (n : Node) : Type 0 where
+  pub closes : (t : Sheet) → goOn n t ≡ close (n .own) (plus (f .done) (f .end - f .here)) (f .link) t
+
+-- a Const field that ends at e was passed
+unfoldable pub passed : Frame → ℕ → Frame
+passed f e = record {
+  place = f .place;
+  last = f .last;
+  here = e;
+  end = f .end;
+  left = f .left - 1;
+  kind = f .kind;
+  child = f .child + 1;
+  len = f .len;
+  bound = f .bound;
+  done = plus (f .done) (e - f .here);
+  chained = f .chained;
+  link = f .link;
+  own = f .own;
+  call = f .call;
+}
+
+pub record Passing (s path binders : List ℕ) (k : ℕ) (f : Frame) (n : Node) (e : ℕ) : Type 0 where
+  pub next : Node
+  pub frame : FrameIs s path binders k (passed f e) next
+  pub same : (ws : List Wait) (t : Sheet) → run n ws t ≡ run next ws t
+
+-- a child at a place, with its base: the node waits for it
+pub record Opening (s : List ℕ) (k : ℕ) (n : Node) (at : ℕ) (base : Name) : Type 0 where
+  pub child : Combinator
+  pub wait : Wait
+  pub opens : Opens n child at base wait
+  pub stands : Stands s at child
+  pub deep : levels child ≤ k
+
+unfoldable pub NextIs : List ℕ → List ℕ → List ℕ → ℕ → Frame → Node → Next → Type 0
+NextIs s path binders k f n Done = Closing f n
+NextIs s path binders k f n (Pass e) = Passing s path binders k f n e
+NextIs s path binders k f n (Chain at) = Opening s k n at (n .name)
+NextIs s path binders k f n (Label at a) = Opening s k n at (child (n .name) (segment (nameAt s a)))
+NextIs s path binders k f n (Case at) = Opening s k n at (child (n .name) (caseSegment ints [] (f .child)))
+NextIs s path binders k f n (Anon at) = Opening s k n at (child (n .name) (shellSegment (wrap [] [])))
+NextIs s path binders k f n (Item at) = Opening s k n at (child (n .name) (shellSegment vec))

@@ -1,6 +1,7 @@
 -- The same walk with one node for each level: what a node still has to do, and the nodes that wait for it. Document 01: "The walk's call stack may
 -- become one frame for each of the 64 levels." That it is `walk` is shown in proofs/Machine.antt.
 use mathlib.Core.Bool.{Bool, true, false}
+use mathlib.Core.Path.{_≡_}
 use mathlib.Core.List.{List, [], _∷_, _++_}
 use Prim.Native.Nat.{ℕ, suc, _+_, _-_}
 use lib.ListN.{length}
@@ -14,7 +15,7 @@ use Rattle.laws.proofs.Sizes.{sizeI}
 use Rattle.lifting.specs.After.{chainAt, fieldsAt, casesAt, shellAt, fieldAt, constEnd, caseAt}
 use Rattle.lift.specs.Bound.{Bound}
 use Rattle.lift.specs.Sheet.{Sheet}
-use Rattle.naming.specs.Walk.{Extent, called, finish, visit, binds, walk, walkI, walkF, walkC}
+use Rattle.naming.specs.Walk.{plus, Extent, called, finish, visit, binds, walk, walkI, walkF, walkC}
 
 -- the children still to walk, or the bytes that are left
 pub data Rest : Type 0 where
@@ -68,7 +69,7 @@ nodeOf (chained i c) p name env own = record { link = ahead c (chainAt p i); res
 
 -- the end of a node: "its definition is appended after theirs"
 unfoldable pub close : Own → ℕ → ℕ → Sheet → Res Sheet Extent
-close walked k l t = ok (record { whole = k + 1 + l; inner = k }) t
+close walked k l t = ok (record { whole = plus (plus k 1) l; inner = k }) t
 close (lifted i call) k l t = ok (called call) (finish i t)
 
 unfoldable pub goLink : Link → Name → List Bound → Sheet → Res Sheet ℕ
@@ -82,8 +83,8 @@ goRest (fields f) done p name env t = walkF f done p name env t
 goRest (cases f k i) done p name env t = walkC f k i done p name env t
 goRest (one x c) done p name env t = do
   (z, t) ← visit (anonymous c) c (shellAt p x) (walk c (shellAt p x)) (child name (shellSegment x)) env t
-  ok (done + length (wOpen x []) + z .whole + length (wShut x [])) t
-goRest (tail k) done p name env t = ok (done + k) t
+  ok (plus (plus (plus done (length (wOpen x []))) (z .whole)) (length (wShut x []))) t
+goRest (tail k) done p name env t = ok (plus done k) t
 
 unfoldable pub goOn : Node → Sheet → Res Sheet Extent
 goOn n t = do
@@ -106,9 +107,9 @@ advanced n r at done env = record { link = n .link; rest = r; at = at; done = do
 
 unfoldable pub deliver : Wait → Extent → Node
 deliver (for-chain n) z = linked n (z .whole)
-deliver (for-field k l c f n) z = advanced n (fields f) (fieldAt (n .at) l + size c) (n .done + (1 + length (wName l [])) + z .whole) (binds k l (fieldAt (n .at) l) (z .inner) (n .env))
-deliver (for-case l c f k i n) z = advanced n (cases f k (suc i)) (caseAt (n .at) k l + size c) (n .done + length (wLabel k l []) + z .whole) (n .env)
-deliver (for-one x c n) z = advanced n (tail (length (wShut x []))) (shellAt (n .at) x + size c) (n .done + length (wOpen x []) + z .whole) (n .env)
+deliver (for-field k l c f n) z = advanced n (fields f) (fieldAt (n .at) l + size c) (plus (plus (n .done) (1 + length (wName l []))) (z .whole)) (binds k l (fieldAt (n .at) l) (z .inner) (n .env))
+deliver (for-case l c f k i n) z = advanced n (cases f k (suc i)) (caseAt (n .at) k l + size c) (plus (plus (n .done) (length (wLabel k l []))) (z .whole)) (n .env)
+deliver (for-one x c n) z = advanced n (tail (length (wShut x []))) (shellAt (n .at) x + size c) (plus (plus (n .done) (length (wOpen x []))) (z .whole)) (n .env)
 
 -- the nodes that wait go on one after the other
 unfoldable pub resume : List Wait → Extent → Sheet → Res Sheet Extent
@@ -121,3 +122,7 @@ unfoldable pub run : Node → List Wait → Sheet → Res Sheet Extent
 run n ws t = do
   (z, t) ← goOn n t
   resume ws z t
+
+-- what a node does next: it opens a child and waits, or it is at its end
+pub record Opens (n : Node) (c : Combinator) (p : ℕ) (base : Name) (w : Wait) : Type 0 where
+  pub opens : (t : Sheet) → goOn n t ≡ visit (anonymous c) c p (walk c p) base (n .env) t >>= (λ x. goOn (deliver w (x .0)) (x .1))

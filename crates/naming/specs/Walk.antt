@@ -2,7 +2,7 @@
 -- It is crate lifting's `trace` with numbers where that has trees: proofs/Agree.antt.
 use mathlib.Core.Bool.{Bool, true, false, not}
 use mathlib.Core.List.{List, [], _∷_, _++_}
-use Prim.Native.Nat.{ℕ, suc, _+_, _-_}
+use Prim.Native.Nat.{ℕ, suc, _+_, _-_, min}
 use lib.Dec.{leb}
 use lib.ListN.{length}
 use Rattle.definition.specs.Code.{leftover-macro, name-long}
@@ -16,6 +16,10 @@ use Rattle.laws.proofs.Sizes.{sizeI}
 use Rattle.lifting.specs.After.{chainAt, fieldsAt, casesAt, shellAt, fieldAt, constEnd, caseAt}
 use Rattle.lift.specs.Bound.{Bound}
 use Rattle.lift.specs.Sheet.{Sheet, enters}
+
+-- sizes after lifting are kept in 16 bits: where one is larger, 65,535 stands for it, and a lift that has it among its types is over code 10's limit
+unfoldable pub plus : ℕ → ℕ → ℕ
+plus a b = min (a + b) 65535
 
 -- what a combinator takes after lifting, chain and all, and its inner alone
 pub record Extent : Type 0 where
@@ -65,33 +69,33 @@ unfoldable mutual
   pub walk : Combinator → ℕ → Name → List Bound → Sheet → Res Sheet Extent
   walk (plain i) p name env t = do
     (k, t) ← walkI i p name env t
-    ok (record { whole = k + 1 + 0; inner = k }) t
+    ok (record { whole = plus (plus k 1) 0; inner = k }) t
   walk (chained i c) p name env t = do
     (z, t) ← visit (anonymous c) c (chainAt p i) (λ n e t. walk c (chainAt p i) n e t) name env t
     (k, t) ← walkI i p name env t
-    ok (record { whole = k + 1 + z .whole; inner = k }) t
+    ok (record { whole = plus (plus k 1) (z .whole); inner = k }) t
 
   pub walkI : Inner → ℕ → Name → List Bound → Sheet → Res Sheet ℕ
-  walkI (leaf k x) p name env t = ok (sizeI (leaf k x)) t
+  walkI (leaf k x) p name env t = ok (plus 0 (sizeI (leaf k x))) t
   walkI (struct f) p name env t = walkF f 3 (fieldsAt p) name env t
   walkI (choice s k f) p name env t = walkC f k 0 (length (wSelector s []) + 4) (casesAt p s) name env t
   walkI (shell x c) p name env t = do
     (z, t) ← visit (anonymous c) c (shellAt p x) (λ n e t. walk c (shellAt p x) n e t) (child name (shellSegment x)) env t
-    ok (length (wOpen x []) + z .whole + length (wShut x [])) t
-  walkI (bytes l) p name env t = ok (sizeI (bytes l)) t
-  walkI (invocation n a) p name env t = ok (sizeI (invocation n a)) t
-  walkI (macro-invocation n a) p name env t = ok (sizeI (macro-invocation n a)) t
+    ok (plus (plus (plus 0 (length (wOpen x []))) (z .whole)) (length (wShut x []))) t
+  walkI (bytes l) p name env t = ok (plus 0 (sizeI (bytes l))) t
+  walkI (invocation n a) p name env t = ok (plus 0 (sizeI (invocation n a))) t
+  walkI (macro-invocation n a) p name env t = ok (plus 0 (sizeI (macro-invocation n a))) t
 
   -- the fields from p on, of an inner of which `done` bytes stand before them
   pub walkF : Fields → ℕ → ℕ → Name → List Bound → Sheet → Res Sheet ℕ
-  walkF no-field done p name env t = ok done t
+  walkF no-field done p name env t = ok (plus done 0) t
   walkF (field k l c f) done p name env t = do
     (z, t) ← visit (anonymous c) c (fieldAt p l) (λ n e t. walk c (fieldAt p l) n e t) (child name (segment l)) env t
-    walkF f (done + (1 + length (wName l [])) + z .whole) (fieldAt p l + size c) name (binds k l (fieldAt p l) (z .inner) env) t
-  walkF (const l x f) done p name env t = walkF f (done + (1 + length (wName l []) + length (wText x []))) (constEnd p l x) name env t
+    walkF f (plus (plus done (1 + length (wName l []))) (z .whole)) (fieldAt p l + size c) name (binds k l (fieldAt p l) (z .inner) env) t
+  walkF (const l x f) done p name env t = walkF f (plus done (1 + length (wName l []) + length (wText x []))) (constEnd p l x) name env t
 
   pub walkC : Cases → CaseKind → ℕ → ℕ → ℕ → Name → List Bound → Sheet → Res Sheet ℕ
-  walkC no-case k i done p name env t = ok done t
+  walkC no-case k i done p name env t = ok (plus done 0) t
   walkC (case l c f) k i done p name env t = do
     (z, t) ← visit (anonymous c) c (caseAt p k l) (λ n e t. walk c (caseAt p k l) n e t) (child name (caseSegment k l i)) env t
-    walkC f k (suc i) (done + length (wLabel k l []) + z .whole) (caseAt p k l + size c) name env t
+    walkC f k (suc i) (plus (plus done (length (wLabel k l []))) (z .whole)) (caseAt p k l + size c) name env t
