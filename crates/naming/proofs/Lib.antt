@@ -1,3 +1,5 @@
 pub mod Machine
 pub mod Ends
+pub mod Bound
+pub mod Back
 pub mod Opened

@@ -32,6 +32,7 @@ use Rattle.naming.specs.Nodes.{Rest, fields, cases, one, tail, Own, walk
 use Rattle.naming.specs.Frames.{innerEnd, beginAt, RestIs, sizeRest, levelsRest, levelsLink, Begins, Stands, LinkIs, OwnIs, frameAt, FrameIs, Closing, passed, Passing, Opening, NextIs}
 use Rattle.naming.specs.Next.{nextField, nextOne, nextOf}
 use Rattle.naming.proofs.Ends.{inner-rest, inner-end, begins}
+use Rattle.naming.proofs.Back.{back-chain, back-field, back-case, back-one}
 use Rattle.naming.proofs.Machine.{opens-chain, opens-field, opens-case, opens-one, passes-const, ends-fields, ends-cases, ends-tail}
 
 pub past-one : {s : List ℕ} {p x : ℕ} {z : List ℕ} → Here s p (x ∷ z) → pastAt s p 1 ≡ p + 1
@@ -176,9 +177,9 @@ module _ (at done : ℕ) (name : Name) (env : List Bound) (own : Own) where
   unfolding NextIs LinkIs levelsLink
   next-link {s} {path} {binders} {k} {f} c p r g =
       let l = g .link in
-      rw (next-chain s f (l .0), past-step s (f .end) p (l .1) (l .2 .is .reach)) (record { child = c; wait = _; opens = opens-chain r at done name env own c p; stands = l .2; deep = g .deep-link })
+      rw (next-chain s f (l .0), past-step s (f .end) p (l .1) (l .2 .is .reach)) (record { child = c; wait = _; opens = opens-chain r at done name env own c p; stands = l .2; deep = g .deep-link; behind = omega (arith, g .ends, l .1); back = λ path binders h room z few. back-chain at done name env own z c p r p h })
 
-  module _ {s path binders : List ℕ} {k : ℕ} {f : Frame} (l : ℕ) where
+  module _ {s path binders : List ℕ} {k : ℕ} {f : Frame} (small : length s ≤ 16384) (l : ℕ) where
     next-no-field : FrameIs s path binders k f (node (behind l) (fields no-field)) → NextIs s path binders k f (node (behind l) (fields no-field)) (nextOf s f)
     unfolding NextIs LinkIs RestIs sizeRest sizeF wCombinator countF
     next-no-field g =
@@ -206,7 +207,7 @@ module _ (at done : ℕ) (name : Name) (env : List Bound) (own : Own) where
         let e : namePast s (pastAt s (f .here) 1) ≡ fieldAt at a = field-at (fieldByte j) a (wCombinator c (wFields h y)) r ∙ (rw (g .here)) in
         let m : nameAt s (pastAt s (f .here) 1) ≡ a = stands s (pastAt s (f .here) 1) a (wCombinator c (wFields h y)) (next-here r .is) in
         rw (next-field s f (g .link .0) (omega (arith, g .rest .2)) (g .rest .1), byte-here r, no-third j, m, e)
-        (record { child = c; wait = _; opens = opens-field l at done name env own j a c h; stands = record { after = wFields h y; is = rw e at b }; deep = omega (arith, g .deep) })
+        (record { child = c; wait = _; opens = opens-field l at done name env own j a c h; stands = record { after = wFields h y; is = rw e at b }; deep = omega (arith, g .deep); behind = omega (arith, g .here); back = λ path binders fr room z few. back-field at done name env own z small room few l j a c h fr })
 
     next-a-const : (a : Name) (x : List ℕ) (h : Fields) → FrameIs s path binders k f (node (behind l) (fields (const a x h))) → NextIs s path binders k f (node (behind l) (fields (const a x h))) (nextOf s f)
     unfolding NextIs LinkIs RestIs levelsRest wCombinator countF levels nextField sizeRest passed advanced
@@ -245,19 +246,19 @@ module _ (at done : ℕ) (name : Name) (env : List Bound) (own : Own) where
         let e : namePast s (f .here) ≡ caseAt at enums x = label-at x (wCombinator c (wCases h enums y)) r ∙ (rw (g .here)) in
         let m : nameAt s (f .here) ≡ x = stands s (f .here) x (wCombinator c (wCases h enums y)) (r .is) in
         rw (next-label s f (g .link .0) (omega (arith, g .rest .2)) (g .rest .1), m, e)
-        (record { child = c; wait = _; opens = opens-case l at done name env own x c h enums i; stands = record { after = wCases h enums y; is = rw e at (name-here x r) }; deep = omega (arith, g .deep) })
+        (record { child = c; wait = _; opens = opens-case l at done name env own x c h enums i; stands = record { after = wCases h enums y; is = rw e at (name-here x r) }; deep = omega (arith, g .deep); behind = omega (arith, g .here); back = λ path binders fr room z few. back-case at done name env own z small room few l x c h enums i fr })
     next-a-case x c h ints i g =
         let y = g .after in
         let r = g .rest .0 in
         let e : textPast s (f .here) ≡ at + length (wText x []) = text-at x (wCombinator c (wCases h ints y)) r ∙ (rw (g .here)) in
         rw (next-ints s f (g .link .0) (omega (arith, g .rest .2)) (g .rest .1), e, g .rest .3)
-        (record { child = c; wait = _; opens = opens-case l at done name env own x c h ints i; stands = record { after = wCases h ints y; is = rw e at (text-here x r) }; deep = omega (arith, g .deep) })
+        (record { child = c; wait = _; opens = opens-case l at done name env own x c h ints i; stands = record { after = wCases h ints y; is = rw e at (text-here x r) }; deep = omega (arith, g .deep); behind = omega (arith, g .here); back = λ path binders fr room z few. back-case at done name env own z small room few l x c h ints i fr })
     next-a-case x c h arrays i g =
         let y = g .after in
         let r = g .rest .0 in
         let e : textPast s (f .here) ≡ at + length (wText x []) = text-at x (wCombinator c (wCases h arrays y)) r ∙ (rw (g .here)) in
         rw (next-arrays s f (g .link .0) (omega (arith, g .rest .2)) (g .rest .1), e, g .rest .3)
-        (record { child = c; wait = _; opens = opens-case l at done name env own x c h arrays i; stands = record { after = wCases h arrays y; is = rw e at (text-here x r) }; deep = omega (arith, g .deep) })
+        (record { child = c; wait = _; opens = opens-case l at done name env own x c h arrays i; stands = record { after = wCases h arrays y; is = rw e at (text-here x r) }; deep = omega (arith, g .deep); behind = omega (arith, g .here); back = λ path binders fr room z few. back-case at done name env own z small room few l x c h arrays i fr })
 
     next-a-one : (x : Shell) (c : Combinator) → FrameIs s path binders k f (node (behind l) (one x c)) → NextIs s path binders k f (node (behind l) (one x c)) (nextOf s f)
     unfolding NextIs LinkIs RestIs levelsRest wOpen wShut nextOne shellSegment
@@ -266,20 +267,35 @@ module _ (at done : ℕ) (name : Name) (env : List Bound) (own : Own) where
         let b = text-here u (next-here r) in
         let e : textPast s (pastAt s (f .here) 1) ≡ at + length (5 ∷ wText u []) = omega (arith, here-length r, here-length b, adds (wText u) (s-text u) (wCombinator c (wText v (g .after))), g .here) in
         rw (next-one s f (g .link .0) (omega (arith, g .rest .2)) (g .rest .1), byte-here r, e)
-        (record { child = c; wait = _; opens = opens-one l at done name env own (wrap u v) c; stands = record { after = wText v (g .after); is = rw e at b }; deep = g .deep })
+        (record { child = c; wait = _; opens = opens-one l at done name env own (wrap u v) c; stands = record { after = wText v (g .after); is = rw e at b }; deep = g .deep; behind = omega (arith, g .here); back = λ path binders fr room z few. back-one at done name env own z small room few l (wrap u v) c fr })
     next-a-one vec c g =
         let r = g .rest .0 in
         let e : pastAt s (f .here) 1 ≡ at + 1 = past-one r ∙ (rw (g .here)) in
         rw (next-one s f (g .link .0) (omega (arith, g .rest .2)) (g .rest .1), byte-here r, e)
-        (record { child = c; wait = _; opens = opens-one l at done name env own vec c; stands = record { after = g .after; is = rw e at (next-here r) }; deep = g .deep })
+        (record { child = c; wait = _; opens = opens-one l at done name env own vec c; stands = record { after = g .after; is = rw e at (next-here r) }; deep = g .deep; behind = omega (arith, g .here); back = λ path binders fr room z few. back-one at done name env own z small room few l vec c fr })
     next-a-one option c g =
         let r = g .rest .0 in
         let e : pastAt s (f .here) 1 ≡ at + 1 = past-one r ∙ (rw (g .here)) in
         rw (next-one s f (g .link .0) (omega (arith, g .rest .2)) (g .rest .1), byte-here r, e)
-        (record { child = c; wait = _; opens = opens-one l at done name env own option c; stands = record { after = g .after; is = rw e at (next-here r) }; deep = g .deep })
+        (record { child = c; wait = _; opens = opens-one l at done name env own option c; stands = record { after = g .after; is = rw e at (next-here r) }; deep = g .deep; behind = omega (arith, g .here); back = λ path binders fr room z few. back-one at done name env own z small room few l option c fr })
     next-a-one (array u) c g =
         let r = g .rest .0 in
         let b = len-here u (next-here r) in
         let e : lengthPast s (pastAt s (f .here) 1) ≡ at + length (9 ∷ wLen u []) = omega (arith, here-length r, here-length b, adds (wLen u) (s-len u) (wCombinator c (g .after)), g .here) in
         rw (next-one s f (g .link .0) (omega (arith, g .rest .2)) (g .rest .1), byte-here r, e)
-        (record { child = c; wait = _; opens = opens-one l at done name env own (array u) c; stands = record { after = g .after; is = rw e at b }; deep = g .deep })
+        (record { child = c; wait = _; opens = opens-one l at done name env own (array u) c; stands = record { after = g .after; is = rw e at b }; deep = g .deep; behind = omega (arith, g .here); back = λ path binders fr room z few. back-one at done name env own z small room few l (array u) c fr })
+
+-- a frame does next what its node does
+next-by : {s path binders : List ℕ} {k : ℕ} {f : Frame} (small : length s ≤ 16384) (l : Link) (r : Rest) (at done : ℕ) (name : Name) (env : List Bound) (own : Own) → FrameIs s path binders k f (node at done name env own l r)
+    → NextIs s path binders k f (node at done name env own l r) (nextOf s f)
+next-by small (ahead c p) r at done name env own g = next-link at done name env own c p r g
+next-by small (behind l) (fields no-field) at done name env own g = next-no-field at done name env own small l g
+next-by small (behind l) (fields (field j a c h)) at done name env own g = next-a-field at done name env own small l j a c h g
+next-by small (behind l) (fields (const a x h)) at done name env own g = next-a-const at done name env own small l a x h g
+next-by small (behind l) (cases no-case j i) at done name env own g = next-no-case at done name env own small l j i g
+next-by small (behind l) (cases (case x c h) j i) at done name env own g = next-a-case at done name env own small l x c h j i g
+next-by small (behind l) (one x c) at done name env own g = next-a-one at done name env own small l x c g
+next-by small (behind l) (tail j) at done name env own g = next-bytes at done name env own small l j g
+
+pub next-is : {s path binders : List ℕ} {k : ℕ} {f : Frame} {n : Node} → length s ≤ 16384 → FrameIs s path binders k f n → NextIs s path binders k f n (nextOf s f)
+next-is {n = n} small g = next-by small (n .link) (n .rest) (n .at) (n .done) (n .name) (n .env) (n .own) g

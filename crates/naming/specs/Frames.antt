@@ -2,24 +2,24 @@
 use mathlib.Core.Bool.{Bool, true, false}
 use mathlib.Core.List.{List, [], _∷_}
 use mathlib.Core.Path.{_≡_}
-use Prim.Native.Nat.{ℕ, zero, suc, _+_, _-_, _*_, _≤_}
+use Prim.Native.Nat.{ℕ, zero, suc, _+_, _-_, _*_, _≤_, min}
 use lib.Dec.{eqb}
 use lib.ListN.{length}
 use Rattle.definition.specs.Tree.{Name, wrap, vec, ints, Combinator, Inner, shell}
 use Rattle.definition.specs.Names.{segment, child, caseSegment, shellSegment}
 use Rattle.lookup.specs.Name.{nameAt}
 use Rattle.definition.specs.Write.{wInner, wCombinator, wFields, wCases, wOpen, wShut, countF, countC, caseByte}
-use Rattle.definition.specs.Size.{levels, levelsI, levelsF, levelsC}
+use Rattle.definition.specs.Size.{size, levels, levelsI, levelsF, levelsC}
 use Rattle.laws.proofs.Sizes.{sizeI, sizeF, sizeC}
 use Rattle.seek.specs.At.{byteAt, pastAt, numberAt}
 use Rattle.seek.specs.Here.{Here}
 use Rattle.calls.specs.Walk.{walk, selectorPast, skipAt}
 use Rattle.collect.specs.Uses.{pick}
 use Rattle.names.specs.Name.{Held}
-use Rattle.lift.specs.Bound.{boundFrom}
+use Rattle.lift.specs.Bound.{boundFrom, withParam}
 use Rattle.lift.specs.Sheet.{Sheet}
-use Rattle.naming.specs.Nodes.{Rest, fields, cases, one, tail, Own, walked, lifted, Link, ahead, behind, Node, restOf, skip, close, goOn, Wait, run, Opens}
-use Rattle.naming.specs.Walk.{plus}
+use Rattle.naming.specs.Nodes.{Rest, fields, cases, one, tail, Own, walked, lifted, Link, ahead, behind, Node, restOf, skip, close, goOn, Wait, deliver, run, Opens}
+use Rattle.naming.specs.Walk.{plus, Extent}
 use Rattle.naming.specs.declared.Frame.{Frame}
 use Rattle.naming.specs.declared.Begin.{Begin}
 use Rattle.naming.specs.declared.Next.{Next}
@@ -168,19 +168,69 @@ pub record Passing (s path binders : List ℕ) (k : ℕ) (f : Frame) (n : Node) 
   pub frame : FrameIs s path binders k (passed f e) next
   pub same : (ws : List Wait) (t : Sheet) → run n ws t ≡ run next ws t
 
--- a child at a place, with its base: the node waits for it
-pub record Opening (s : List ℕ) (k : ℕ) (n : Node) (at : ℕ) (base : Name) : Type 0 where
+-- the child at a place is done: "A Dependent field binds its label for the fields after it"
+unfoldable pub binding : List ℕ → Frame → Bool
+binding s f = pick (f .chained) false (pick (eqb (f .kind) 1) (eqb (byteAt s (f .here)) 2) false)
+
+unfoldable pub bindBy : List ℕ → Frame → ℕ → ℕ → List ℕ → List ℕ
+bindBy s f at inner binders = pick (binding s f) (withParam binders (f .bound) (min (pastAt s (f .here) 1) 65535) (min at 65535) 0 (min inner 65535)) binders
+
+unfoldable pub boundAfter : List ℕ → Frame → ℕ
+boundAfter s f = pick (binding s f) (f .bound + 1) (f .bound)
+
+-- the frame then: its chain was walked, or the child that ends at e
+unfoldable pub delivered : Frame → ℕ → ℕ → ℕ → ℕ → Frame
+delivered f at e whole bound = pick (f .chained)
+    (record {
+      place = f .place;
+      last = f .last;
+      here = f .here;
+      end = f .end;
+      left = f .left;
+      kind = f .kind;
+      child = f .child;
+      len = f .len;
+      bound = f .bound;
+      done = f .done;
+      chained = false;
+      link = whole;
+      own = f .own;
+      call = f .call;
+    })
+    (record {
+      place = f .place;
+      last = f .last;
+      here = e;
+      end = f .end;
+      left = f .left - 1;
+      kind = pick (eqb (f .kind) 5) 0 (f .kind);
+      child = f .child + 1;
+      len = f .len;
+      bound = bound;
+      done = plus (plus (f .done) (at - f .here)) whole;
+      chained = false;
+      link = f .link;
+      own = f .own;
+      call = f .call;
+    })
+
+-- a child at a place, with its base: the node waits for it, and its frame then stands for what it is when the child is done
+
+pub record Opening (s : List ℕ) (k : ℕ) (f : Frame) (n : Node) (at : ℕ) (base : Name) : Type 0 where
   pub child : Combinator
   pub wait : Wait
   pub opens : Opens n child at base wait
   pub stands : Stands s at child
   pub deep : levels child ≤ k
+  pub behind : f .here ≤ at
+  pub back : (path binders : List ℕ) → FrameIs s path binders k f n → 16384 ≤ length binders → (z : Extent) → z .inner ≤ 65535
+      → FrameIs s path (bindBy s f at (z .inner) binders) k (delivered f at (at + size child) (z .whole) (boundAfter s f)) (deliver wait z)
 
 unfoldable pub NextIs : List ℕ → List ℕ → List ℕ → ℕ → Frame → Node → Next → Type 0
 NextIs s path binders k f n Done = Closing f n
 NextIs s path binders k f n (Pass e) = Passing s path binders k f n e
-NextIs s path binders k f n (Chain at) = Opening s k n at (n .name)
-NextIs s path binders k f n (Label at a) = Opening s k n at (child (n .name) (segment (nameAt s a)))
-NextIs s path binders k f n (Case at) = Opening s k n at (child (n .name) (caseSegment ints [] (f .child)))
-NextIs s path binders k f n (Anon at) = Opening s k n at (child (n .name) (shellSegment (wrap [] [])))
-NextIs s path binders k f n (Item at) = Opening s k n at (child (n .name) (shellSegment vec))
+NextIs s path binders k f n (Chain at) = Opening s k f n at (n .name)
+NextIs s path binders k f n (Label at a) = Opening s k f n at (child (n .name) (segment (nameAt s a)))
+NextIs s path binders k f n (Case at) = Opening s k f n at (child (n .name) (caseSegment ints [] (f .child)))
+NextIs s path binders k f n (Anon at) = Opening s k f n at (child (n .name) (shellSegment (wrap [] [])))
+NextIs s path binders k f n (Item at) = Opening s k f n at (child (n .name) (shellSegment vec))

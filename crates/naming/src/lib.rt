@@ -1,6 +1,7 @@
 // The naming pass of lifting: the walk over the expanded book in walk order, one frame for each level.
 use calls::Walk;
 use calls::skip_inner;
+use lift::store;
 use seek::byte;
 use seek::length_past;
 use seek::name_past;
@@ -8,9 +9,11 @@ use seek::number;
 use seek::past;
 use seek::text_past;
 ghost use mathlib.Core.Path.{_≡_};
-ghost use Prim.Native.Nat.{_-_};
+ghost use Prim.Native.Nat.{_-_, _≤_, min};
+ghost use Rattle.lift.specs.Bound.{withParam};
+ghost use Rattle.naming.specs.Walk.{plus};
 ghost use Rattle.calls.specs.Walk.{selectorPast};
-ghost use Rattle.naming.specs.Frames.{innerEnd, combinatorEnd, casesBegin, beginAt, frameAt};
+ghost use Rattle.naming.specs.Frames.{innerEnd, combinatorEnd, casesBegin, beginAt, frameAt, bindBy, boundAfter, delivered, passed};
 ghost use Rattle.naming.specs.Next.{nextField, nextOne, nextOf};
 
 // A node on the way: its combinator from `place` up to `last`; its inner's rest from `here` up to `end`; how many children are left, their
@@ -273,4 +276,95 @@ pub fn next_of(s: &[u8], f: Frame) -> Next
             Next::Case(b)
         }
     }
+}
+
+// A sum, or 65,535 where it is larger.
+fn plus(a: usize, b: usize) -> usize
+    ensures { λ r. ⌜ r ≡ plus a b ⌝ }
+{
+    if 65535 < a {
+        return 65535;
+    }
+    if 65535 - a < b {
+        return 65535;
+    }
+    a + b
+}
+
+// The binder number j: its name's place, its type's, whether that is a parameter's own, and the type's size after lifting.
+fn put_binder(binders: &mut [u16], j: usize, name: usize, at: usize, own: usize, size: usize)
+    requires { ⌜ (j ≤ 65536) × (own ≤ 1) ⌝ }
+    ensures { λ _. ⌜ now (binders .exit) ≡ withParam (now (binders .entry)) j (min name 65535) (min at 65535) own (min size 65535) ⌝ }
+{
+    store(binders, 4 * j, name);
+    store(binders, 4 * j + 1, at);
+    store(binders, 4 * j + 2, own);
+    store(binders, 4 * j + 3, size);
+}
+
+// The child at a place is done: where it is a Dependent field's, its label is bound from here on. Gives how many binders are in force then.
+pub fn bind_child(s: &[u8], f: Frame, at: usize, inner: usize, binders: &mut [u16]) -> usize
+    requires { ⌜ f .bound ≤ 65535 ⌝ }
+    ensures { λ r. ⌜ (r ≡ boundAfter (now (s .entry)) f) × (now (binders .exit) ≡ bindBy (now (s .entry)) f at inner (now (binders .entry))) ⌝ }
+{
+    let bound = f.bound;
+    let here = f.here;
+    let kind = f.kind;
+    if f.chained {
+        return bound;
+    }
+    if kind != 1 {
+        return bound;
+    }
+    if byte(s, here) != 2 {
+        return bound;
+    }
+    let label = past(s, here, 1);
+    put_binder(binders, bound, label, at, 0, inner);
+    bound + 1
+}
+
+// The frame when its chain, or its child from `at` up to `end`, is done.
+pub fn deliver(f: Frame, at: usize, end: usize, whole: usize, bound: usize) -> Frame
+    requires { ⌜ f .child ≤ 65536 ⌝ }
+    ensures { λ r. ⌜ r ≡ delivered f at end whole bound ⌝ }
+{
+    let mut g = f;
+    g.chained = false;
+    if f.chained {
+        g.link = whole;
+        return g;
+    }
+    let here = f.here;
+    let left = f.left;
+    let first = f.done;
+    let head = minus(at, here);
+    let more = plus(first, head);
+    g.done = plus(more, whole);
+    g.here = end;
+    g.left = minus(left, 1);
+    g.child = f.child + 1;
+    g.bound = bound;
+    if f.kind == 5 {
+        g.kind = 0;
+        return g;
+    }
+    g
+}
+
+// The frame when a Const field that ends at `end` is passed.
+pub fn pass(f: Frame, end: usize) -> Frame
+    requires { ⌜ f .child ≤ 65536 ⌝ }
+    ensures { λ r. ⌜ r ≡ passed f end ⌝ }
+{
+    let mut g = f;
+    let here = f.here;
+    let left = f.left;
+    let first = f.done;
+    let head = minus(end, here);
+    g.done = plus(first, head);
+    g.here = end;
+    g.left = minus(left, 1);
+    g.child = f.child + 1;
+    g
 }
