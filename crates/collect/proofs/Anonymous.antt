@@ -1,12 +1,11 @@
 -- Where a combinator stands, the test by position is the definition's.
 -- Assumes nothing.
-use mathlib.Core.Path.{_≡_, refl}
+use mathlib.Core.Path.{_≡_}
 use mathlib.Core.List.{List, _∷_}
-use mathlib.Core.Bool.{true, false}
 use Prim.Native.Nat.{ℕ, zero, suc, _≤_}
 use native.Mathlib.Nat.{not-suc-le-zero}
 use native.Mathlib.Omega.{arith}
-use Rattle.definition.specs.Tree.{Leaf, constraint-int, constraint-enum, bits, enum, tail, nothing, never, Shell, wrap, vec, option, array, Combinator, plain, chained, Inner, leaf, struct, choice, shell, bytes, invocation, macro-invocation}
+use Rattle.definition.specs.Tree.{constraint-int, constraint-enum, bits, enum, tail, nothing, never, wrap, vec, option, array, Combinator, plain, chained, Inner, leaf, struct, choice, shell, bytes, invocation, macro-invocation}
 use Rattle.definition.specs.Write.{wCombinator, wInner, leafTag, wText, wOpen, wShut}
 use Rattle.definition.specs.Size.{levels, levelsI}
 use Rattle.definition.specs.Collect.{anonymousLeaf, anonymous, anonymousI}

@@ -1,4 +1,4 @@
--- Whether the combinator at a place is anonymous, total on any bytes. That it is the definition's `anonymous` is shown in proofs/Link.antt.
+-- Whether the combinator at a place is anonymous, total on any bytes. That it is the definition's `anonymous` is shown in proofs/Anonymous.antt.
 use mathlib.Core.List.{List}
 use mathlib.Core.Bool.{Bool, true, false}
 use Prim.Native.Nat.{ℕ, zero, suc}

@@ -1,5 +1,5 @@
 -- Collection by position, total on any bytes: what the walk answers and what its two tables hold then. It mirrors the code; that it collects
--- the definition's `free` and tells `leftover` is shown in proofs/Link.antt.
+-- the definition's `free` and tells `leftover` is shown in proofs/Link.antt and proofs/Free.antt.
 -- Assumes nothing.
 use mathlib.Core.List.{List, [], _∷_}
 use mathlib.Core.Bool.{Bool, true, false}

@@ -1,0 +1,65 @@
+-- Collection is the definition's: code 7 exactly where a macro call is left, else the free names, one for each use, in layout order.
+-- Assumes nothing.
+use mathlib.Core.Path.{_≡_, refl, sym, ap, _∙_}
+use mathlib.Core.List.{List, [], _∷_}
+use mathlib.Core.Bool.{true, false}
+use Prim.Native.Nat.{ℕ, _+_, _*_, _≤_, _<_}
+use native.Mathlib.Omega.{arith}
+use lib.ListN.{length, take}
+use Rattle.definition.specs.Tree.{Combinator}
+use Rattle.definition.specs.Write.{wCombinator}
+use Rattle.definition.specs.Size.{levels}
+use Rattle.definition.specs.Collect.{free, leftover}
+use Rattle.writer.specs.Buf.{put}
+use Rattle.writer.proofs.Put.{take-written}
+use Rattle.writer.proofs.Wrote.{place-fits, same-length}
+use Rattle.seek.specs.At.{byteAt}
+use Rattle.seek.specs.Here.{Here}
+use Rattle.seek.proofs.Here.{here-length}
+use Rattle.collect.specs.declared.Collected.the-variants.{Uses, Leftover}
+use Rattle.collect.specs.Uses.{namesIn}
+use Rattle.collect.specs.Walk.{walk, collectAt, answerOf}
+use Rattle.collect.proofs.Without.{without-none}
+use Rattle.collect.proofs.Gathered.{Gathered}
+use Rattle.collect.proofs.Link.{gather}
+use Rattle.collect.proofs.Room.{free-room}
+
+pub length-names : (s l : List ℕ) → length (namesIn s l) ≡ length l
+unfolding namesIn
+length-names s [] = refl
+length-names s (x ∷ l) = let h = length-names s l in omega arith
+
+module _ (s : List ℕ) (p : ℕ) (c : Combinator) (z : List ℕ) (small : (i : ℕ) → byteAt s i < 256) (short : length s < 16777216) (deep : levels c ≤ 64) (h : Here s p (wCombinator c z)) where
+  module _ (bound uses : List ℕ) (labels : length s ≤ 4 * length bound) where
+    gathered : Gathered s z (free c) (leftover c) 0 0 false bound uses (collectAt s p bound uses)
+    unfolding collectAt
+    gathered = gather s small short c 64 deep (walk p 0 0 false) bound uses z record { here = h; room = omega (arith, here-length h); fits = omega arith }
+
+    pub uses-long : length (collectAt s p bound uses .2) ≡ length uses
+    uses-long = same-length (gathered .wrote)
+
+    pub collect-leftover : leftover c ≡ true → answerOf (collectAt s p bound uses .0) ≡ Leftover
+    collect-leftover e = rw (gathered .left, e)
+
+    named : namesIn s (gathered .used) ≡ free c
+    unfolding namesIn
+    named = gathered .named ∙ without-none (free c)
+
+    many : length (gathered .used) ≡ length (free c)
+    many = sym (length-names s (gathered .used)) ∙ ap length named
+
+    module _ (room : length s ≤ length uses) where
+      fits : 0 + length (gathered .used) ≤ length uses
+      fits = omega (arith, many, free-room c z, here-length h)
+
+      counted : collectAt s p bound uses .0 .n ≡ length (free c)
+      counted = place-fits (gathered .wrote) fits ∙ (let e : 0 + length (gathered .used) ≡ length (free c) = omega (arith, many) in e)
+
+      pub collect-uses : leftover c ≡ false → answerOf (collectAt s p bound uses .0) ≡ Uses (length (free c))
+      collect-uses e = rw (gathered .left, e, counted)
+
+      pub collect-names : namesIn s (take (length (free c)) (collectAt s p bound uses .2)) ≡ free c
+      collect-names =
+          rw (gathered .wrote .holds, ← many)
+          (ap (namesIn s) (ap (λ (m : ℕ). take m (put uses 0 (gathered .used))) (let e : length (gathered .used) ≡ 0 + length (gathered .used) = omega arith in e) ∙ take-written uses 0 (gathered .used) fits)
+          ∙ named)

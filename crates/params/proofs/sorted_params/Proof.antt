@@ -1,0 +1,42 @@
+use Rattle.params.proofs.Sorting.{sorted-is}
+use borrow.Author.Needs.{needs}
+use Rattle.params.proofs.sorted_params.Statement.{statement}
+use Rattle.params.proofs.sorted_params.Tie as tie
+use Rattle.params.proofs.sorted_params.Reads as reads
+use Rattle.params.proofs.sorted_params.Lts as lts
+use Rattle.params.proofs.each_once.Reads as each-once-reads
+use Rattle.params.proofs.least.Reads as least-reads
+use Rattle.params.proofs.sort.Reads as sort-reads
+
+least-requires : tie.Need-least-requires
+least-requires c κs = search needs
+
+least-requires-2 : tie.Need-least-requires-2
+least-requires-2 c κs = search needs
+
+sort-requires : tie.Need-sort-requires
+sort-requires c κs = search needs
+
+each-once-requires : tie.Need-each-once-requires
+each-once-requires c κs = search needs
+
+same-length : tie.Need-same-length
+same-length c = search needs
+
+same-length-2 : tie.Need-same-length-2
+same-length-2 c = search needs
+
+returns : tie.Need-returns
+returns c = sorted-is _ _ _ _ _ _ _ _ _ _ (c .before .before .before .before .before .before .before .before .before .before .before .before .least .ensures) (c .before .before .before .before .before .before .before .before .before .before .before .least2 .ensures) (c .before .before .before .before .before .before .before .before .sort .ensures .0) (c .before .before .before .before .before .before .before .before .sort .ensures .1) (c .before .before .each-once .ensures .0) (c .before .before .each-once .ensures .1)
+
+pub sorted-params-spec : {M : Type 1} → statement M
+sorted-params-spec =
+    tie.close
+    (tie.spec
+    least-requires
+    least-requires-2
+    sort-requires
+    each-once-requires
+    same-length
+    same-length-2
+    returns)
