@@ -12,15 +12,17 @@ use lib.Seq.{take-append-seam}
 use Rattle.definition.specs.Tree.{Name}
 use Rattle.definition.specs.Names.{eqName, elem, remove, root}
 use Rattle.definition.specs.Write.{wName}
-use Rattle.laws.proofs.Tests.{yes-no}
-use Rattle.laws.proofs.FreshName.{eqName-true}
-use Rattle.laws.proofs.Elem.{eqName-swap}
+use Rattle.laws.proofs.Tests.{yes-no, not-both}
+use Rattle.laws.proofs.Members.{eqName-true, eqName-refl}
 use Rattle.lookup.specs.Name.{nameAt}
 use Rattle.lookup.proofs.Names.{stands}
 use Rattle.seek.specs.At.{byteAt, pastAt}
 use Rattle.seek.specs.Here.{Here}
 use Rattle.seek.proofs.Here.{byte-here, next-here}
 use Rattle.collect.specs.Uses.{pick, useOf, nameIn, namesIn, useAt}
+
+eqName-swap : (a b : Name) → eqName a b ≡ false → eqName b a ≡ false
+eqName-swap a b e = ⊎-elim (λ (p : eqName b a ≡ true). let q = eqName-true b a p in not-both (eqName a b) (rw q (eqName-refl a)) e) (λ p. p) (yes-no (eqName b a))
 
 -- the names that are not among the bound ones
 unfoldable pub without : List Name → List Name → List Name

@@ -2,3 +2,4 @@ pub mod Walk
 pub mod Nodes
 pub mod Frames
 pub mod Next
+pub mod Lifts

@@ -1,6 +1,7 @@
 // The naming pass of lifting: the walk over the expanded book in walk order, one frame for each level.
 use calls::Walk;
 use calls::skip_inner;
+use lift::Counts;
 use lift::store;
 use seek::byte;
 use seek::length_past;
@@ -15,6 +16,8 @@ ghost use Rattle.naming.specs.Walk.{plus};
 ghost use Rattle.calls.specs.Walk.{selectorPast};
 ghost use Rattle.naming.specs.Frames.{innerEnd, combinatorEnd, casesBegin, beginAt, frameAt, bindBy, boundAfter, delivered, passed};
 ghost use Rattle.naming.specs.Next.{nextField, nextOne, nextOf};
+
+pub mod lifts;
 
 // A node on the way: its combinator from `place` up to `last`; its inner's rest from `here` up to `end`; how many children are left, their
 // sort, and the number of the next; the name's length in the path; how many binders are in force; what the inner takes up to `here` after
@@ -205,6 +208,12 @@ pub fn open_node(
         own,
         call,
     }
+}
+
+// A lift: the length of its name in the path, the size of its call and the counts with it; or document 01's number of a refusal.
+pub enum Named {
+    Lift(usize, usize, Counts),
+    Refused(u8),
 }
 
 // What a frame does next: nothing, pass a Const field, or walk a child at a place: its chain, or a child that is named by a label, by its

@@ -13,7 +13,7 @@ use Rattle.definition.specs.Tree.{Name}
 use Rattle.definition.specs.Names.{eqName, elem, before, sorted}
 use Rattle.laws.specs.Laws.{Ascending}
 use Rattle.laws.proofs.Tests.{yes-no, not-both}
-use Rattle.laws.proofs.FreshName.{eqName-true}
+use Rattle.laws.proofs.Members.{eqName-true}
 use Rattle.laws.proofs.Order.{sorted-ascends, elem-sorted}
 use Rattle.collect.specs.Uses.{nameIn, namesIn}
 use Rattle.collect.proofs.Without.{names-append}

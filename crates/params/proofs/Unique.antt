@@ -12,7 +12,7 @@ use Rattle.definition.specs.Tree.{Name}
 use Rattle.definition.specs.Names.{eqName, elem, before}
 use Rattle.laws.specs.Laws.{Less, ends, smaller, equal, Ascending}
 use Rattle.laws.proofs.Tests.{yes-no, not-both}
-use Rattle.laws.proofs.FreshName.{eqName-true, eqName-refl}
+use Rattle.laws.proofs.Members.{eqName-true, eqName-refl}
 
 -- of two names that differ the one that the other is not before
 pub less-of : (a b : Name) → eqName a b ≡ false → before b a ≡ false → Less a b
