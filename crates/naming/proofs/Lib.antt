@@ -3,3 +3,4 @@ pub mod Ends
 pub mod Bound
 pub mod Back
 pub mod Opened
+pub mod Lifting

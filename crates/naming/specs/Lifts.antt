@@ -12,6 +12,8 @@ use Rattle.seek.specs.At.{byteAt}
 use Rattle.seek.specs.Here.{Here}
 use Rattle.names.specs.Name.{Held}
 use Rattle.lift.specs.declared.Counts.{Counts}
+use Rattle.lift.specs.declared.Lifted.{Lifted}
+use Rattle.lift.specs.declared.Lifted.the-variants as lifted
 use Rattle.lift.specs.Bound.{Bound}
 use Rattle.lift.specs.Sheet.{Sheet, sheetOf, Tables}
 use Rattle.naming.specs.declared.Named.{Named}
@@ -35,6 +37,10 @@ pub record Scratch (s bound uses spare : List ℕ) : Type 0 where
   pub labels : length s ≤ length bound
   pub uses-long : length s ≤ length uses
   pub spare-long : length s ≤ length spare
+
+abbrev pub namedOf : ℕ → Lifted → Named
+namedOf n (lifted.Made call v) = Lift n call v
+namedOf n (lifted.Refused c) = Refused c
 
 -- the answer, with document 01's number for a refusal; else the length of the name in the path, the size of the call and the counts
 unfoldable pub Answers : Res Sheet Start → Named → List ℕ → (Counts → Sheet) → (Counts → Type 0) → Type 0

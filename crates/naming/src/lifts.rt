@@ -11,7 +11,17 @@ ghost use Prim.Native.Nat.{_≤_};
 ghost use lib.ListN.{length};
 ghost use Rattle.lift.specs.Bound.{boundFrom, Sized};
 ghost use Rattle.lift.specs.Sheet.{Tables};
-ghost use Rattle.naming.specs.Lifts.{Some, Scratch, Lifts};
+ghost use Rattle.naming.specs.Lifts.{Some, Scratch, namedOf, Lifts};
+
+// What a lift answers, with the length of its name.
+fn named_of(n: usize, entered: Lifted) -> Named
+    ensures { λ r. ⌜ r ≡ namedOf n entered ⌝ }
+{
+    match entered {
+        Lifted::Made(call, v) => Named::Lift(n, call, v),
+        Lifted::Refused(c) => Named::Refused(c),
+    }
+}
 
 // The combinator from `at` up to `end` is lifted; path holds its base in its first `len` bytes, and then its name. Codes 9, 7, 8, 10 in this order.
 pub fn lift_anonymous_combinator(
@@ -38,7 +48,16 @@ pub fn lift_anonymous_combinator(
     ensures { λ r. ⌜ Lifts (now (s .entry)) at end (now (path .entry)) len (boundFrom (now (s .entry)) (now (binders .entry)) 0 b) (now (made .entry)) (now (places .entry)) (now (rows .entry)) (now (params .entry)) (now (number .entry)) w (now (path .exit)) (now (made .exit)) (now (places .exit)) (now (hashes .exit)) (now (hints .exit)) (now (rows .exit)) (now (params .exit)) (now (number .exit)) r ⌝ }
 {
     let taken = w.taken;
-    let n = fresh_generated_name(path, len, s, &made[..], &places[..], &hashes[..], hints, taken);
+    let n = fresh_generated_name(
+        path,
+        len,
+        s,
+        &made[..],
+        &places[..],
+        &hashes[..],
+        hints,
+        taken,
+    );
     if path.len() < n {
         return Named::Refused(9);
     }
@@ -65,10 +84,7 @@ pub fn lift_anonymous_combinator(
                 number,
                 w,
             );
-            match entered {
-                Lifted::Made(call, v) => Named::Lift(n, call, v),
-                Lifted::Refused(c) => Named::Refused(c),
-            }
+            named_of(n, entered)
         }
     }
 }
