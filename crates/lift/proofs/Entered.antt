@@ -1,0 +1,167 @@
+-- A lift is entered: the tables say the sheet with it, and stay right.
+-- Assumes nothing.
+use mathlib.Core.Path.{_≡_, refl, sym, ap, _∙_}
+use mathlib.Core.Logic.{⊎-elim}
+use mathlib.Core.Bool.{true, false, _&&_}
+use mathlib.Core.List.{List, [], _∷_, _++_, map}
+use Prim.Native.Nat.{ℕ, zero, suc, _+_, _-_, _*_, _%_, _≤_, _<_}
+use native.Mathlib.Omega.{arith}
+use native.Mathlib.Nat.{eq-or-lt-of-le}
+use native.Mathlib.Numerals.{add-one}
+use lib.Dec.{leb}
+use lib.ListN.{length, take, getD, set, length-set, length-take}
+use borrow.Author.Tests.{le-leb, lt-leb}
+use Rattle.definition.specs.Code.{number, no-binder, result-long}
+use Rattle.definition.specs.Res.{Maybe, absent, just, Res, bad, ok, _>>=_, require}
+use Rattle.definition.specs.Tree.{Name}
+use Rattle.lookup.specs.Name.{nameAt}
+use Rattle.writer.specs.Buf.{put, nameBytes}
+use Rattle.writer.proofs.Put.{length-put, getD-put-at}
+use Rattle.collect.specs.Uses.{namesIn}
+use Rattle.tables.specs.Rows.{Row, rowAt, rowsOf, namesFrom, typesFrom}
+use Rattle.names.specs.Taken.{both, taken, Table, Hints, Packed, Grown, Took}
+use Rattle.lift.specs.declared.Counts.{Counts}
+use Rattle.lift.specs.declared.Lifted.{Lifted}
+use Rattle.lift.specs.declared.Lifted.the-variants.{Made, Refused}
+use Rattle.lift.specs.Bound.{Bound, typeOf, bindersOf, namesSize, typesSize, Filled, Within}
+use Rattle.lift.specs.Sheet.{Sheet, callSize, headSize, entered, fits, enterWith, sheetOf, RowIn, Tables, withRow, Gives}
+use Rattle.lift.specs.Enters.{Adds, Enters}
+use Rattle.lift.proofs.Params.{Same}
+use Rattle.lift.proofs.Rows.{row-length, row-before, row-at, row-end, row-name, row-first, row-count, byte-before, rows-kept, name-taken}
+
+fits-ok : (t : Sheet) → t .bytes ≤ 16384 → t .defns ≤ 512 → fits t ≡ ok tt t
+unfolding fits
+fits-ok t h k = rw (le-leb (t .bytes) 16384 h, le-leb (t .defns) 512 k)
+
+fits-bytes : (t : Sheet) → 16384 < t .bytes → fits t ≡ bad result-long t
+unfolding fits
+fits-bytes t h = rw (lt-leb (t .bytes) 16384 h)
+
+and-false : (b : mathlib.Core.Bool.Bool) → b && false ≡ false
+and-false true = refl
+and-false false = refl
+
+fits-defns : (t : Sheet) → 512 < t .defns → fits t ≡ bad result-long t
+unfolding fits
+fits-defns t h = rw (lt-leb (t .defns) 512 h, and-false (leb (t .bytes) 16384))
+
+-- ---- refusals
+module _ {s : List ℕ} {at end : ℕ} {n : Name} {ns : List Name} {env : List Bound} {made places rows params number : List ℕ} {w : Counts} {made′ places′ hashes′ hints′ rows′ params′ number′ : List ℕ} where
+  pub refused-binder : bindersOf env ns ≡ absent → Enters s at end n ns env made places rows params number w made′ places′ hashes′ hints′ rows′ params′ number′ (Refused 8)
+  unfolding Gives enterWith number
+  refused-binder e = record { gives = λ finished. rw e refl }
+
+  module _ (bs : List Bound) (all : bindersOf env ns ≡ just bs) where
+    pub refused-bytes : 16384 < w .bytes + 6 + (length n + 3 + namesSize ns + typesSize bs) + (length n + namesSize ns + 5)
+        → Enters s at end n ns env made places rows params number w made′ places′ hashes′ hints′ rows′ params′ number′ (Refused 10)
+    unfolding Gives enterWith number entered callSize headSize sheetOf
+    refused-bytes h = record { gives = λ finished. rw (all, fits-bytes (entered at end n ns bs (sheetOf s made places rows params finished w)) h) refl }
+
+    pub refused-defns : 512 ≤ w .defns → Enters s at end n ns env made places rows params number w made′ places′ hashes′ hints′ rows′ params′ number′ (Refused 10)
+    unfolding Gives enterWith number entered sheetOf
+    refused-defns h = record { gives = λ finished. rw (all, fits-defns (entered at end n ns bs (sheetOf s made places rows params finished w)) (omega arith)) refl }
+
+pub cut-length : (l : List ℕ) (n : ℕ) → n ≤ length l → length (take n l) ≡ n
+cut-length l n h = simp length-take (omega arith)
+
+sheet-is : {a a′ : List Name} {r r′ : List Row} {f : List ℕ} {b b′ d d′ : ℕ} → a ≡ a′ → r ≡ r′ → b ≡ b′ → d ≡ d′
+    → _≡_ {A = Sheet} (record { taken = a; rows = r; finished = f; bytes = b; defns = d }) (record { taken = a′; rows = r′; finished = f; bytes = b′; defns = d′ })
+sheet-is p q r s = rw (p, q, r, s)
+
+module _ {s uses : List ℕ} {k : ℕ} {env : List Bound} {at end : ℕ} {n : Name} {made places hashes hints rows params number : List ℕ} {w : Counts} {params′ : List ℕ} {names types : ℕ}
+    (t : Tables s made places hashes hints rows params w) (f : Filled s uses k env params (w .params) params′ names types) (wi : Within k names types)
+    (short : length n ≤ 255) (bytes : ℕ) (sum : bytes ≡ w .bytes + 6 + (length n + 3 + names + types) + (length n + names + 5)) (small : bytes ≤ 16384) (few : w .defns < 512)
+    {made′ places′ hashes′ hints′ rows′ number′ : List ℕ} {v : Counts} (a : Adds n at end k made places hashes hints rows number w bytes made′ places′ hashes′ hints′ rows′ number′ v) where
+  abbrev g : Took n made (w .end) places hashes hints (w .taken) made′ places′ hashes′ hints′ (v .end)
+  g = a .took
+
+  grown : Grown n (both s made) places hashes hints (w .taken) (both s made′) places′ hashes′ hints′
+  grown = g .grown s (t .table) (t .hinted) (t .packed)
+
+  params-fit : 4 * (w .params + k) ≤ length params
+  params-fit = omega (arith, t .room, t .params-long, wi .names-least, wi .types-least)
+
+  rows-fit : 5 * (w .lifts + 1) ≤ length rows
+  rows-fit = omega (arith, t .rows-long, t .few .0)
+
+  rows-same : Same (5 * w .lifts) rows′ rows
+  rows-same = rw (a .row) (row-before rows (w .lifts) at end (w .end) (w .params) k)
+
+  new-row : rowAt s made′ rows′ params′ (w .lifts) ≡ record { at = at; end = end; name = n; params = namesIn s (take k uses); types = map typeOf (f .of) }
+  unfolding rowAt
+  new-row = rw (
+    a .row,
+    row-at rows (w .lifts) at end (w .end) (w .params) k rows-fit,
+    row-end rows (w .lifts) at end (w .end) (w .params) k rows-fit,
+    row-name rows (w .lifts) at end (w .end) (w .params) k rows-fit,
+    row-first rows (w .lifts) at end (w .end) (w .params) k rows-fit,
+    row-count rows (w .lifts) at end (w .end) (w .params) k rows-fit,
+    name-taken s g (omega (arith, t .places-long, t .few .1)) (grown .taken-is),
+    f .names-in (omega (arith, t .source)) params-fit,
+    f .types-in params-fit,
+  )
+
+  rows-are : rowsOf s made′ rows′ params′ (v .lifts) ≡ rowsOf s made rows params (w .lifts) ++ (record { at = at; end = end; name = n; params = namesIn s (take k uses); types = map typeOf (f .of) } ∷ [])
+  unfolding rowsOf
+  rows-are = rw (a .counted .1, add-one (w .lifts), rows-kept s made rows params made′ rows′ params′ w (nameBytes n) (g .made-holds) rows-same (f .kept) (w .lifts) (omega arith) (t .rows-in), new-row)
+
+  length-byte : getD made′ (w .end) 0 ≡ length n
+  unfolding nameBytes
+  length-byte =
+      let z : w .end + 0 ≡ w .end = omega arith in
+      let e : length n % 256 ≡ length n = omega arith in
+      ap (λ (l : List ℕ). getD l (w .end) 0) (g .made-holds) ∙ ap (λ (i : ℕ). getD (put made (w .end) (length n % 256 ∷ n)) i 0) (sym z)
+      ∙ getD-put-at made (w .end) (length n % 256 ∷ n) 0 (omega arith) (omega (arith, t .room, t .made-long)) ∙ e
+
+  row-in : (i : ℕ) → i < v .lifts → RowIn made′ rows′ v i
+  row-in i h = ⊎-elim new old (eq-or-lt-of-le {n = i} {m = w .lifts} (omega (arith, a .counted .1)))
+    where
+      new : i ≡ w .lifts → RowIn made′ rows′ v i
+      new e = rw e (record {
+        name = rw (a .row, row-name rows (w .lifts) at end (w .end) (w .params) k rows-fit, length-byte) (omega (arith, g .next));
+        params = rw (a .row, row-first rows (w .lifts) at end (w .end) (w .params) k rows-fit, row-count rows (w .lifts) at end (w .end) (w .params) k rows-fit) (omega (arith, a .counted .2));
+      })
+
+      old : i < w .lifts → RowIn made′ rows′ v i
+      old l =
+          let r = t .rows-in i l in
+          let q = r .name in
+          let p = r .params in
+          let b : getD made′ (getD rows (5 * i + 2) 0) 0 ≡ getD made (getD rows (5 * i + 2) 0) 0 = rw (g .made-holds) (byte-before made (getD rows (5 * i + 2) 0) (w .end) (nameBytes n) q) in
+          record {
+            name = rw (rows-same (5 * i + 2) (omega arith), b) (omega (arith, g .next));
+            params = rw (rows-same (5 * i + 3) (omega arith), rows-same (5 * i + 4) (omega arith)) (omega (arith, a .counted .2));
+          }
+
+  tables′ : Tables s made′ places′ hashes′ hints′ rows′ params′ v
+  tables′ = record {
+    source = t .source;
+    made-long = rw (g .made-holds, length-put made (w .end) (nameBytes n)) (t .made-long);
+    places-long = rw (g .places-hold) (simp length-set (t .places-long));
+    hashes-long = rw (g .hashes-hold) (simp length-set (t .hashes-long));
+    hints-long = rw (g .hints-hold) (simp length-set (t .hints-long));
+    rows-long = rw (a .row, row-length rows (w .lifts) at end (w .end) (w .params) k) (t .rows-long);
+    params-long = rw (f .long) (t .params-long);
+    table = rw (a .counted .0) (grown .table);
+    hinted = rw (a .counted .0) (grown .hinted);
+    packed = rw (a .counted .0) (g .packed (t .packed));
+    rows-in = row-in;
+    room = omega (arith, t .room, g .next, a .counted .2, a .counted .3, wi .names-least, wi .types-least);
+    few = (omega (arith, t .few .0, a .counted .1, a .counted .4), omega (arith, t .few .1, a .counted .0, a .counted .4));
+    bytes-most = omega (arith, a .counted .3);
+    defns-most = omega (arith, a .counted .4);
+  }
+
+  pub made-lift : Enters s at end n (namesIn s (take k uses)) env made places rows params number w made′ places′ hashes′ hints′ rows′ params′ number′ (Made (length n + names + 5) v)
+  unfolding Gives enterWith entered callSize headSize sheetOf
+  made-lift = record {
+    gives = λ finished.
+        let ns = namesIn s (take k uses) in
+        let e = entered at end n ns (f .of) (sheetOf s made places rows params finished w) in
+        let q : e .bytes ≡ bytes = omega (arith, f .names-size, f .types-size) in
+        rw (f .all, fits-ok e (omega arith) (omega arith)) (
+          omega (arith, f .names-size),
+          sheet-is (rw (a .counted .0) (sym (grown .taken-is))) (sym rows-are) (q ∙ sym (a .counted .3)) (sym (a .counted .4)),
+          (tables′, a .numbered, a .counted .1),
+        );
+  }

@@ -1,0 +1,4 @@
+pub mod Binders
+pub mod Params
+pub mod Rows
+pub mod Entered

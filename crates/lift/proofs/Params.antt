@@ -1,0 +1,233 @@
+-- Parameters one by one: their binders, and what the table holds.
+-- Assumes nothing.
+use mathlib.Core.Path.{_≡_, refl, sym, ap, _∙_}
+use mathlib.Core.Logic.{⊎-elim}
+use mathlib.Core.Bool.{Bool, true, false, cond}
+use mathlib.Core.List.{List, [], _∷_, _++_, map, map-append}
+use Prim.Native.Nat.{ℕ, zero, suc, _+_, _-_, _*_, _/_, _%_, _≤_, _<_, min}
+use native.Mathlib.Omega.{arith}
+use native.Mathlib.Nat.{eq-zero-or-pos}
+use native.Mathlib.Numerals.{add-one}
+use lib.Dec.{eqb}
+use lib.ListN.{length, take, drop, getD, set, length-set, length-take, length-drop, drop-of-length-le}
+use lib.Seq.{take-suc, drop-cons, take-take, take-nil, getD-set-same, getD-set-other, getD-take}
+use Rattle.definition.specs.Res.{Maybe, absent, just}
+use Rattle.definition.specs.Tree.{Name}
+use Rattle.tables.specs.Rows.{TypeAt, namesFrom, typesFrom}
+use Rattle.collect.specs.Uses.{nameIn, namesIn}
+use Rattle.lift.specs.declared.Built.{Built}
+use Rattle.lift.specs.declared.Built.the-variants.{All, Missing}
+use Rattle.lift.specs.Bound.{Bound, typeOf, boundAt, firstOf, joined, bindersOf, namesSize, typesSize, withParam, Filled, Within, Builds}
+
+-- ---- one name more
+joined-none : (x : Maybe Bound) → joined x absent ≡ absent
+unfolding joined
+joined-none absent = refl
+joined-none (just b) = refl
+
+pub binders-missing : (env : List Bound) (ns : List Name) (n : Name) (rest : List Name) → firstOf env n ≡ absent → bindersOf env (ns ++ (n ∷ rest)) ≡ absent
+unfolding bindersOf joined
+binders-missing env [] n rest e = rw e
+binders-missing env (m ∷ ns) n rest e = rw (binders-missing env ns n rest e) (joined-none (firstOf env m))
+
+binders-more : (env : List Bound) (ns : List Name) (n : Name) (bs : List Bound) (b : Bound) → bindersOf env ns ≡ just bs → firstOf env n ≡ just b → bindersOf env (ns ++ (n ∷ [])) ≡ just (bs ++ (b ∷ []))
+unfolding bindersOf joined
+binders-more env [] n bs b e f = let q : bs ≡ [] = cc in rw (f, q)
+binders-more env (m ∷ ns) n bs b e f = step (firstOf env m) (bindersOf env ns) bs e (λ cs g. binders-more env ns n cs b g f)
+  where
+    step : (x : Maybe Bound) (y : Maybe (List Bound)) (bs : List Bound) → joined x y ≡ just bs → ((cs : List Bound) → y ≡ just cs → bindersOf env (ns ++ (n ∷ [])) ≡ just (cs ++ (b ∷ [])))
+        → joined x (bindersOf env (ns ++ (n ∷ []))) ≡ just (bs ++ (b ∷ []))
+    step absent y bs e go = let z : _≡_ {A = ℕ} 0 1 = cc in absurd (omega arith)
+    step (just a) absent bs e go = let z : _≡_ {A = ℕ} 0 1 = cc in absurd (omega arith)
+    step (just a) (just cs) bs e go = let q : bs ≡ a ∷ cs = cc in rw (go cs refl, q)
+
+names-size-more : (ns : List Name) (n : Name) → namesSize (ns ++ (n ∷ [])) ≡ namesSize ns + 1 + length n
+unfolding namesSize
+names-size-more [] n = omega arith
+names-size-more (m ∷ ns) n = omega (arith, names-size-more ns n)
+
+types-size-more : (bs : List Bound) (b : Bound) → typesSize (bs ++ (b ∷ [])) ≡ typesSize bs + b .size
+unfolding typesSize
+types-size-more [] b = omega arith
+types-size-more (a ∷ bs) b = omega (arith, types-size-more bs b)
+
+uses-more : (s uses : List ℕ) (i : ℕ) → i < length uses → namesIn s (take (i + 1) uses) ≡ namesIn s (take i uses) ++ (nameIn s (getD uses i 0) ∷ [])
+unfolding namesIn
+uses-more s uses i h = rw (add-one i, take-suc uses i 0 h) (map-append (nameIn s) (take i uses) (getD uses i 0 ∷ []))
+
+uses-split : (s uses : List ℕ) (k i : ℕ) → i < k → k ≤ length uses → namesIn s (take k uses) ≡ namesIn s (take i uses) ++ (nameIn s (getD uses i 0) ∷ namesIn s (drop (suc i) (take k uses)))
+unfolding namesIn
+uses-split s uses k i h l =
+    let e : take k uses ≡ take i uses ++ (getD uses i 0 ∷ drop (suc i) (take k uses)) =
+    sym (splits i (take k uses)) ∙ (rw (take-take i k uses (omega arith), drop-cons (take k uses) i 0 (simp length-take (omega arith)), getD-take k uses i 0 h)) in
+    ap (map (nameIn s)) e ∙ map-append (nameIn s) (take i uses) (getD uses i 0 ∷ drop (suc i) (take k uses))
+  where
+    splits : (i : ℕ) (l : List ℕ) → take i l ++ drop i l ≡ l
+    splits zero l = refl
+    splits (suc i) [] = refl
+    splits (suc i) (x ∷ l) = ap (x ∷_) (splits i l)
+
+-- ---- the table, row by row
+abbrev nameOfRow : List ℕ → List ℕ → ℕ → Name
+nameOfRow s params j = take (getD params (4 * j + 1) 0) (drop (getD params (4 * j) 0) s)
+
+abbrev typeOfRow : List ℕ → ℕ → TypeAt
+typeOfRow params j = record { own = eqb (getD params (4 * j + 3) 0) 1; at = getD params (4 * j + 2) 0 }
+
+names-last : (s params : List ℕ) (j n : ℕ) → namesFrom s params j (suc n) ≡ namesFrom s params j n ++ (nameOfRow s params (j + n) ∷ [])
+unfolding namesFrom
+names-last s params j zero = let e : j + 0 ≡ j = omega arith in rw e
+names-last s params j (suc n) = let e : j + suc n ≡ j + 1 + n = omega arith in rw e (ap (nameOfRow s params j ∷_) (names-last s params (j + 1) n))
+
+types-last : (params : List ℕ) (j n : ℕ) → typesFrom params j (suc n) ≡ typesFrom params j n ++ (typeOfRow params (j + n) ∷ [])
+unfolding typesFrom
+types-last params j zero = let e : j + 0 ≡ j = omega arith in rw e
+types-last params j (suc n) = let e : j + suc n ≡ j + 1 + n = omega arith in rw e (ap (typeOfRow params j ∷_) (types-last params (j + 1) n))
+
+-- what stands before a place
+abbrev pub Same : ℕ → List ℕ → List ℕ → Type 0
+Same n a b = (i : ℕ) → i < n → getD a i 0 ≡ getD b i 0
+
+pub names-kept : (s a b : List ℕ) (j n : ℕ) → Same (4 * (j + n)) a b → namesFrom s a j n ≡ namesFrom s b j n
+unfolding namesFrom
+names-kept s a b j zero h = refl
+names-kept s a b j (suc n) h =
+    rw (h (4 * j) (omega arith), h (4 * j + 1) (omega arith), names-kept s a b (j + 1) n (λ i l. h i (omega arith)))
+
+pub types-kept : (a b : List ℕ) (j n : ℕ) → Same (4 * (j + n)) a b → typesFrom a j n ≡ typesFrom b j n
+unfolding typesFrom
+types-kept a b j zero h = refl
+types-kept a b j (suc n) h =
+    rw (h (4 * j + 2) (omega arith), h (4 * j + 3) (omega arith), types-kept a b (j + 1) n (λ i l. h i (omega arith)))
+
+module _ (d : List ℕ) (i p l a o : ℕ) where
+  pub param-length : length (withParam d i p l a o) ≡ length d
+  unfolding withParam
+  param-length = simp length-set
+
+  pub param-before : Same (4 * i) (withParam d i p l a o) d
+  unfolding withParam
+  param-before j h = rw (
+    getD-set-other (set (set (set d (4 * i) p) (4 * i + 1) l) (4 * i + 2) a) (4 * i + 3) j o 0 (λ e. absurd (omega arith)),
+    getD-set-other (set (set d (4 * i) p) (4 * i + 1) l) (4 * i + 2) j a 0 (λ e. absurd (omega arith)),
+    getD-set-other (set d (4 * i) p) (4 * i + 1) j l 0 (λ e. absurd (omega arith)),
+    getD-set-other d (4 * i) j p 0 (λ e. absurd (omega arith)),
+  )
+
+  module _ (h : 4 * (i + 1) ≤ length d) where
+    pub param-place : getD (withParam d i p l a o) (4 * i) 0 ≡ p
+    unfolding withParam
+    param-place = rw (
+      getD-set-other (set (set (set d (4 * i) p) (4 * i + 1) l) (4 * i + 2) a) (4 * i + 3) (4 * i) o 0 (λ e. absurd (omega arith)),
+      getD-set-other (set (set d (4 * i) p) (4 * i + 1) l) (4 * i + 2) (4 * i) a 0 (λ e. absurd (omega arith)),
+      getD-set-other (set d (4 * i) p) (4 * i + 1) (4 * i) l 0 (λ e. absurd (omega arith)),
+      getD-set-same d (4 * i) p 0 (omega arith),
+    )
+
+    pub param-len : getD (withParam d i p l a o) (4 * i + 1) 0 ≡ l
+    unfolding withParam
+    param-len = rw (
+      getD-set-other (set (set (set d (4 * i) p) (4 * i + 1) l) (4 * i + 2) a) (4 * i + 3) (4 * i + 1) o 0 (λ e. absurd (omega arith)),
+      getD-set-other (set (set d (4 * i) p) (4 * i + 1) l) (4 * i + 2) (4 * i + 1) a 0 (λ e. absurd (omega arith)),
+      getD-set-same (set d (4 * i) p) (4 * i + 1) l 0 (simp length-set (omega arith)),
+    )
+
+    pub param-at : getD (withParam d i p l a o) (4 * i + 2) 0 ≡ a
+    unfolding withParam
+    param-at = rw (
+      getD-set-other (set (set (set d (4 * i) p) (4 * i + 1) l) (4 * i + 2) a) (4 * i + 3) (4 * i + 2) o 0 (λ e. absurd (omega arith)),
+      getD-set-same (set (set d (4 * i) p) (4 * i + 1) l) (4 * i + 2) a 0 (simp length-set (omega arith)),
+    )
+
+    pub param-own : getD (withParam d i p l a o) (4 * i + 3) 0 ≡ o
+    unfolding withParam
+    param-own = getD-set-same (set (set (set d (4 * i) p) (4 * i + 1) l) (4 * i + 2) a) (4 * i + 3) o 0 (simp length-set (omega arith))
+
+-- four stores one after the other
+pub param-put : (d : List ℕ) (i p l a o a′ o′ : ℕ) {d₁ d₂ d₃ d₄ : List ℕ} → d₁ ≡ set d (4 * i) (min p 65535) → d₂ ≡ set d₁ (4 * i + 1) (min l 65535) → d₃ ≡ set d₂ (4 * i + 2) (min a 65535) → d₄ ≡ set d₃ (4 * i + 3) (min o 65535)
+    → l ≤ 65535 → a ≤ 65535 → o ≤ 65535 → a ≡ a′ → o ≡ o′ → d₄ ≡ withParam d i (min p 65535) l a′ o′
+unfolding withParam
+param-put d i p l a o a′ o′ w x y z hl ha ho ea eo =
+    let l′ : min l 65535 ≡ l = omega arith in
+    let a″ : min a 65535 ≡ a′ = omega arith in
+    let o″ : min o 65535 ≡ o′ = omega arith in
+    rw (z, y, x, w, l′, a″, o″)
+
+-- a place that is cut to 16 bits shows the same of s
+cut-place : (s : List ℕ) (p n : ℕ) → length s ≤ 65535 → take n (drop (min p 65535) s) ≡ take n (drop p s)
+cut-place s p n h = ⊎-elim
+    (λ (l : p - 65535 ≡ 0). let e : min p 65535 ≡ p = omega arith in rw e)
+    (λ (l : 0 < p - 65535).
+    let e : min p 65535 ≡ 65535 = omega arith in
+    rw (e, drop-of-length-le s {i = 65535} (omega arith), drop-of-length-le s {i = p} (omega arith)))
+    (eq-zero-or-pos (p - 65535))
+
+-- ---- the loop
+pub filled-none : (s uses : List ℕ) (env : List Bound) (params : List ℕ) (first : ℕ) → Filled s uses 0 env params first params 0 0
+unfolding bindersOf namesIn namesSize typesSize namesFrom typesFrom
+filled-none s uses env params first = record {
+  of = [];
+  all = refl;
+  names-size = refl;
+  types-size = refl;
+  names-in = λ l h. refl;
+  types-in = λ h. refl;
+  kept = λ i h. refl;
+  long = refl;
+}
+
+module _ {s uses : List ℕ} {i : ℕ} {env : List Bound} {params₀ : List ℕ} {first : ℕ} {params : List ℕ} {names types : ℕ} (f : Filled s uses i env params₀ first params names types)
+    (inside : i < length uses) where
+  pub filled-missing : (k : ℕ) → i < k → k ≤ length uses → firstOf env (nameIn s (getD uses i 0)) ≡ absent → bindersOf env (namesIn s (take k uses)) ≡ absent
+  filled-missing k h l e = rw (uses-split s uses k i h l) (binders-missing env (namesIn s (take i uses)) (nameIn s (getD uses i 0)) (namesIn s (drop (suc i) (take k uses))) e)
+
+  pub filled-more : (binders : List ℕ) (j : ℕ) {params′ : List ℕ} {len size : ℕ} → firstOf env (nameIn s (getD uses i 0)) ≡ just (boundAt s binders j)
+      → params′ ≡ withParam params (first + i) (min (getD uses i 0 / 256) 65535) (getD uses i 0 % 256) (getD binders (4 * j + 1) 0) (getD binders (4 * j + 2) 0)
+      → len ≡ length (nameIn s (getD uses i 0)) → size ≡ getD binders (4 * j + 3) 0 → Filled s uses (i + 1) env params₀ first params′ (names + 1 + len) (types + size)
+  unfolding boundAt nameIn
+  filled-more binders j {params′} {len} {size} e w q z =
+      let x = getD uses i 0 in
+      let p = min (x / 256) 65535 in
+      let a = getD binders (4 * j + 1) 0 in
+      let o = getD binders (4 * j + 2) 0 in
+      let same : Same (4 * (first + i)) params′ params = rw w (param-before params (first + i) p (x % 256) a o) in
+      let room : 4 * (first + (i + 1)) ≤ length params₀ → 4 * (first + i + 1) ≤ length params = λ h. omega (arith, f .long) in
+      record {
+        of = f .of ++ (boundAt s binders j ∷ []);
+        all = rw (uses-more s uses i inside) (binders-more env (namesIn s (take i uses)) (nameIn s x) (f .of) (boundAt s binders j) (f .all) e);
+        names-size = rw (uses-more s uses i inside, names-size-more (namesIn s (take i uses)) (nameIn s x), ← (f .names-size), q);
+        types-size = rw (types-size-more (f .of) (boundAt s binders j), ← (f .types-size), z);
+        names-in = λ l h. ap (namesFrom s params′ first) (add-one i) ∙ names-last s params′ first i ∙ (rw (
+          names-kept s params′ params first i same,
+          f .names-in l (omega arith),
+          uses-more s uses i inside,
+          w,
+          param-len params (first + i) p (x % 256) a o (room h),
+          param-place params (first + i) p (x % 256) a o (room h),
+          cut-place s (x / 256) (x % 256) l,
+        ));
+        types-in = λ h. ap (typesFrom params′ first) (add-one i) ∙ types-last params′ first i ∙ (rw (
+          types-kept params′ params first i same,
+          f .types-in (omega arith),
+          map-append typeOf (f .of) (boundAt s binders j ∷ []),
+          w,
+          param-at params (first + i) p (x % 256) a o (room h),
+          param-own params (first + i) p (x % 256) a o (room h),
+        ));
+        kept = λ k h. same k (omega arith) ∙ f .kept k h;
+        long = rw w (param-length params (first + i) p (x % 256) a o) ∙ f .long;
+      }
+
+pub use-short : (s : List ℕ) (x : ℕ) {n : Name} → n ≡ nameIn s x → length n ≤ 255
+unfolding nameIn
+use-short s x e = rw e (simp length-take (omega arith))
+
+-- what was built, by the answer
+pub builds-all : {s uses : List ℕ} {k : ℕ} {env : List Bound} {params : List ℕ} {first : ℕ} {params′ : List ℕ} {names types : ℕ} (b : Built) → Builds s uses k env params first params′ b → b ≡ All names types
+    → Filled s uses k env params first params′ names types × Within k names types
+unfolding Builds
+builds-all b h e = rw e at h
+
+pub builds-none : (s uses : List ℕ) (k : ℕ) (env : List Bound) (params : List ℕ) (first : ℕ) (params′ : List ℕ) (b : Built) → Builds s uses k env params first params′ b → b ≡ Missing → bindersOf env (namesIn s (take k uses)) ≡ absent
+unfolding Builds
+builds-none s uses k env params first params′ b h e = rw e at h

@@ -1,0 +1,137 @@
+-- Rows one by one: what a row more leaves, and what it says.
+-- Assumes nothing.
+use mathlib.Core.Path.{_≡_, refl, sym, ap, _∙_}
+use mathlib.Core.List.{List, [], _∷_, _++_}
+use Prim.Native.Nat.{ℕ, zero, suc, _+_, _-_, _*_, _≤_, _<_, min}
+use native.Mathlib.Omega.{arith}
+use native.Mathlib.Nat.{eq-or-lt-of-le}
+use native.Mathlib.Numerals.{add-one}
+use mathlib.Core.Logic.{⊎-elim}
+use lib.ListN.{length, take, drop, getD, set, length-set}
+use lib.Seq.{getD-set-same, getD-set-other}
+use borrow.Author.Tests.{le-ltb}
+use Rattle.definition.specs.Tree.{Name}
+use Rattle.lookup.specs.declared.Place.the-variants.{Made}
+use Rattle.lookup.specs.Name.{nameAt, nameOf, placeOf}
+use Rattle.writer.specs.Buf.{put, nameBytes}
+use Rattle.writer.proofs.Put.{length-put, part-put-before, getD-put-before}
+use Rattle.tables.specs.Rows.{Row, TypeAt, namesFrom, typesFrom, rowAt, rowsOf}
+use Rattle.names.specs.Taken.{both, row, taken, Took}
+use Rattle.lift.specs.declared.Counts.{Counts}
+use Rattle.lift.specs.Sheet.{RowIn, withRow}
+use Rattle.lift.proofs.Params.{Same, names-kept, types-kept}
+
+module _ (d : List ℕ) (i a e n f k : ℕ) where
+  pub row-length : length (withRow d i a e n f k) ≡ length d
+  unfolding withRow
+  row-length = simp length-set
+
+  pub row-before : Same (5 * i) (withRow d i a e n f k) d
+  unfolding withRow
+  row-before j h = simp (
+    getD-set-other (set (set (set (set d (5 * i) a) (5 * i + 1) e) (5 * i + 2) n) (5 * i + 3) f) (5 * i + 4) j k 0 (λ q. absurd (omega arith)),
+    getD-set-other (set (set (set d (5 * i) a) (5 * i + 1) e) (5 * i + 2) n) (5 * i + 3) j f 0 (λ q. absurd (omega arith)),
+    getD-set-other (set (set d (5 * i) a) (5 * i + 1) e) (5 * i + 2) j n 0 (λ q. absurd (omega arith)),
+    getD-set-other (set d (5 * i) a) (5 * i + 1) j e 0 (λ q. absurd (omega arith)),
+    getD-set-other d (5 * i) j a 0 (λ q. absurd (omega arith)),
+  )
+
+  module _ (h : 5 * (i + 1) ≤ length d) where
+    pub row-at : getD (withRow d i a e n f k) (5 * i) 0 ≡ a
+    unfolding withRow
+    row-at = rw (
+      getD-set-other (set (set (set (set d (5 * i) a) (5 * i + 1) e) (5 * i + 2) n) (5 * i + 3) f) (5 * i + 4) (5 * i) k 0 (λ q. absurd (omega arith)),
+      getD-set-other (set (set (set d (5 * i) a) (5 * i + 1) e) (5 * i + 2) n) (5 * i + 3) (5 * i) f 0 (λ q. absurd (omega arith)),
+      getD-set-other (set (set d (5 * i) a) (5 * i + 1) e) (5 * i + 2) (5 * i) n 0 (λ q. absurd (omega arith)),
+      getD-set-other (set d (5 * i) a) (5 * i + 1) (5 * i) e 0 (λ q. absurd (omega arith)),
+      getD-set-same d (5 * i) a 0 (omega arith),
+    )
+
+    pub row-end : getD (withRow d i a e n f k) (5 * i + 1) 0 ≡ e
+    unfolding withRow
+    row-end = rw (
+      getD-set-other (set (set (set (set d (5 * i) a) (5 * i + 1) e) (5 * i + 2) n) (5 * i + 3) f) (5 * i + 4) (5 * i + 1) k 0 (λ q. absurd (omega arith)),
+      getD-set-other (set (set (set d (5 * i) a) (5 * i + 1) e) (5 * i + 2) n) (5 * i + 3) (5 * i + 1) f 0 (λ q. absurd (omega arith)),
+      getD-set-other (set (set d (5 * i) a) (5 * i + 1) e) (5 * i + 2) (5 * i + 1) n 0 (λ q. absurd (omega arith)),
+      getD-set-same (set d (5 * i) a) (5 * i + 1) e 0 (simp length-set (omega arith)),
+    )
+
+    pub row-name : getD (withRow d i a e n f k) (5 * i + 2) 0 ≡ n
+    unfolding withRow
+    row-name = rw (
+      getD-set-other (set (set (set (set d (5 * i) a) (5 * i + 1) e) (5 * i + 2) n) (5 * i + 3) f) (5 * i + 4) (5 * i + 2) k 0 (λ q. absurd (omega arith)),
+      getD-set-other (set (set (set d (5 * i) a) (5 * i + 1) e) (5 * i + 2) n) (5 * i + 3) (5 * i + 2) f 0 (λ q. absurd (omega arith)),
+      getD-set-same (set (set d (5 * i) a) (5 * i + 1) e) (5 * i + 2) n 0 (simp length-set (omega arith)),
+    )
+
+    pub row-first : getD (withRow d i a e n f k) (5 * i + 3) 0 ≡ f
+    unfolding withRow
+    row-first = rw (
+      getD-set-other (set (set (set (set d (5 * i) a) (5 * i + 1) e) (5 * i + 2) n) (5 * i + 3) f) (5 * i + 4) (5 * i + 3) k 0 (λ q. absurd (omega arith)),
+      getD-set-same (set (set (set d (5 * i) a) (5 * i + 1) e) (5 * i + 2) n) (5 * i + 3) f 0 (simp length-set (omega arith)),
+    )
+
+    pub row-count : getD (withRow d i a e n f k) (5 * i + 4) 0 ≡ k
+    unfolding withRow
+    row-count = getD-set-same (set (set (set (set d (5 * i) a) (5 * i + 1) e) (5 * i + 2) n) (5 * i + 3) f) (5 * i + 4) k 0 (simp length-set (omega arith))
+
+-- five stores one after the other
+pub row-put : (d : List ℕ) (i a e n f k : ℕ) {d₁ d₂ d₃ d₄ d₅ : List ℕ} → d₁ ≡ set d (5 * i) (min a 65535) → d₂ ≡ set d₁ (5 * i + 1) (min e 65535) → d₃ ≡ set d₂ (5 * i + 2) (min n 65535)
+    → d₄ ≡ set d₃ (5 * i + 3) (min f 65535) → d₅ ≡ set d₄ (5 * i + 4) (min k 65535) → a ≤ 65535 → e ≤ 65535 → n ≤ 65535 → f ≤ 65535 → k ≤ 65535 → d₅ ≡ withRow d i a e n f k
+unfolding withRow
+row-put d i a e n f k v w x y z ha he hn hf hk =
+    let a′ : min a 65535 ≡ a = omega arith in
+    let e′ : min e 65535 ≡ e = omega arith in
+    let n′ : min n 65535 ≡ n = omega arith in
+    let f′ : min f 65535 ≡ f = omega arith in
+    let k′ : min k 65535 ≡ k = omega arith in
+    rw (z, y, x, w, v, a′, e′, n′, f′, k′)
+
+pub number-put : (t : List ℕ) (at x : ℕ) → x ≤ 65535 → set t at (min x 65535) ≡ set t at x
+number-put t at x h = let e : min x 65535 ≡ x = omega arith in rw e
+
+-- a name that stands before a write
+module _ (s : List ℕ) (q end : ℕ) (p : List ℕ) (h : q + 1 + getD s q 0 ≤ end) where
+  pub byte-before : getD (put s end p) q 0 ≡ getD s q 0
+  byte-before = getD-put-before s end p q (omega arith)
+
+  pub name-before : nameAt (put s end p) q ≡ nameAt s q
+  unfolding nameAt
+  name-before = rw byte-before (part-put-before (q + 1) (getD s q 0) s end p h)
+
+-- a row before the new one says the same
+module _ (s made rows params made′ rows′ params′ : List ℕ) (w : Counts) (x : List ℕ) (em : made′ ≡ put made (w .end) x) (er : Same (5 * w .lifts) rows′ rows) (ep : Same (4 * w .params) params′ params) where
+  row-kept : (i : ℕ) → i < w .lifts → RowIn made rows w i → rowAt s made′ rows′ params′ i ≡ rowAt s made rows params i
+  unfolding rowAt
+  row-kept i h r =
+      let q = r .params in
+      rw (
+        er (5 * i) (omega arith),
+        er (5 * i + 1) (omega arith),
+        er (5 * i + 2) (omega arith),
+        er (5 * i + 3) (omega arith),
+        er (5 * i + 4) (omega arith),
+        em,
+        name-before made (getD rows (5 * i + 2) 0) (w .end) x (r .name),
+        names-kept s params′ params (getD rows (5 * i + 3) 0) (getD rows (5 * i + 4) 0) (λ j l. ep j (omega arith)),
+        types-kept params′ params (getD rows (5 * i + 3) 0) (getD rows (5 * i + 4) 0) (λ j l. ep j (omega arith)),
+      )
+
+  pub rows-kept : (n : ℕ) → n ≤ w .lifts → ((i : ℕ) → i < w .lifts → RowIn made rows w i) → rowsOf s made′ rows′ params′ n ≡ rowsOf s made rows params n
+  unfolding rowsOf
+  rows-kept zero h r = refl
+  rows-kept (suc n) h r = rw (rows-kept n (omega arith) r, row-kept n (omega arith) (r n (omega arith)))
+
+made-place : (at : ℕ) → placeOf (32768 + at) ≡ Made at
+unfolding placeOf
+made-place at = rw (le-ltb (32768 + at) 32768 (omega arith)) (ap Made (omega arith))
+
+-- the name that was taken stands where its row says
+pub name-taken : (book : List ℕ) {n : Name} {made places hashes hints made′ places′ hashes′ hints′ : List ℕ} {end k r : ℕ} → Took n made end places hashes hints k made′ places′ hashes′ hints′ r → k < length places
+    → taken (both book made′) places′ (k + 1) ≡ n ∷ taken (both book made) places k → nameAt made′ end ≡ n
+unfolding taken row nameOf
+name-taken book {n} {made} {places} {hashes} {hints} {made′} {places′} {hashes′} {hints′} {end} {k} t l e =
+    let q : getD places′ k 0 ≡ 32768 + end = rw (t .places-hold) (getD-set-same places k (32768 + end) 0 l) in
+    let g : nameOf (placeOf (getD places′ k 0)) book made′ ∷ taken (both book made′) places′ k ≡ n ∷ taken (both book made) places k = (rw (add-one k) at e) in
+    let f : nameOf (placeOf (getD places′ k 0)) book made′ ≡ n = cc in
+    rw (q, made-place end) at f

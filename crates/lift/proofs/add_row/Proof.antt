@@ -1,0 +1,53 @@
+-- `lift::add_row` meets its contract.
+-- Assumes nothing.
+use mathlib.Core.Path.{refl, _∙_}
+use Prim.Native.Nat.{_+_}
+use native.Mathlib.Omega.{arith}
+use lib.ListN.{length-take}
+use borrow.Author.Needs.{needs}
+use Rattle.lift.proofs.Rows.{number-put}
+use Rattle.lift.proofs.add_row.Statement.{statement}
+use Rattle.lift.proofs.add_row.Tie as tie
+
+put-row-requires : tie.Need-put-row-requires
+put-row-requires c κs = let p = c .before .before .before .before .before .before .before .before .pre in (omega arith, p .2, p .3, omega arith, omega arith, omega arith)
+
+part-is : tie.Need-slice-aggregate-take-name
+part-is c = simp length-take (omega arith)
+
+take-name-requires : tie.Need-take-name-requires
+take-name-requires c κs =
+    let p = c .before .before .before .before .before .before .before .before .before .before .before .before .before .before .before .before .before .before .before .before .pre in
+    (simp length-take (omega arith), simp length-take (omega arith), p .5, omega arith, omega arith, omega arith)
+
+returns : tie.Need-returns
+returns c =
+    let s = c .before .before .before .before .before .before .before .before .before .before .before .before .before .before .before .before .before .before .before .before .before .before .before .before .before .before .before .before .before in
+    let p = s .pre in
+    record {
+      row = c .before .before .before .before .before .before .before .before .before .before .before .before .before .before .before .before .before .before .before .before .put-row .ensures;
+      numbered = c .before .before .before .before .before .before .before .before .before .before .before .before .before .before .before .before .store .ensures ∙ number-put (s .args .number .now) (s .args .at) (s .args .w .lifts + 1) (omega arith);
+      took = c .before .before .before .before .before .before .before .before .take-name .ensures;
+      counted = (refl, refl, refl, refl, refl);
+    }
+
+pub add-row-spec : {M : Type 1} → statement M
+add-row-spec =
+    tie.close
+    (tie.spec
+    put-row-requires
+    (λ c. search needs)
+    (λ c κs. search needs)
+    part-is
+    take-name-requires
+    (λ c. search needs)
+    (λ c. search needs)
+    (λ c. search needs)
+    (λ c. search needs)
+    (λ c. search needs)
+    (λ c. search needs)
+    (λ c. search needs)
+    (λ c. search needs)
+    (λ c. search needs)
+    (λ c. search needs)
+    returns)

@@ -1,0 +1,86 @@
+-- `lift::build_param_defns` meets its contract.
+-- Assumes nothing.
+use mathlib.Core.Path.{_≡_, ap}
+use Prim.Native.Nat.{_-_, _*_, _≤_}
+use native.Mathlib.Omega.{arith}
+use lib.ListN.{length}
+use borrow.Author.Needs.{needs}
+use Rattle.collect.specs.Uses.{nameIn}
+use Rattle.lift.specs.Bound.{boundFrom, Filled, Within, Builds}
+use Rattle.lift.proofs.Params.{filled-none, filled-missing, filled-more, use-short}
+use Rattle.lift.proofs.build_param_defns.Statement.{statement}
+use Rattle.lift.proofs.build_param_defns.Tie as tie
+
+abbrev Inv-loop : tie.InvT-loop
+Inv-loop s uses k binders b params₀ first names₀ types₀ i₀ params names types i = (i ≤ k) × Within i names types × Filled s uses i (boundFrom s binders 0 b) params₀ first params names types
+
+abbrev μ-loop : tie.MeasureT-loop
+μ-loop s uses k binders b params₀ first names₀ types₀ i₀ params names types i = k - i
+
+loop-holds : tie.Need-loop-holds Inv-loop μ-loop
+loop-holds c = (omega arith, record { names-least = omega arith; names-most = omega arith; types-least = omega arith; types-most = omega arith }, filled-none _ _ _ _ _)
+
+returns : tie.Need-returns Inv-loop μ-loop
+unfolding Builds
+returns c =
+    let l = c .before .before .before .before .before .loop in
+    let s = c .before .before .before .before .before .before .before .before .before .before in
+    filled-missing (l .inv .2) (omega (arith, s .pre .1)) (s .args .k) (c .before .before .before .before .loop-test .taken) (s .pre .1)
+    (rw (← (c .before .before .name-of-use .ensures)) (c .before .find-binder .ensures .none (c .if1 .taken)))
+
+fits : tie.Need-add-names-2 Inv-loop μ-loop
+fits c = let short = use-short _ _ (c .before .before .before .before .before .before .before .name-of-use .ensures) in omega arith
+
+more : tie.Need-add-types Inv-loop μ-loop
+more c = omega (arith, c .fetch .ensures .1)
+
+loop-again : tie.Need-loop-again Inv-loop μ-loop
+loop-again c =
+    let l = c .before .before .before .before .before .before .before .before .before .before .loop in
+    let n = c .before .before .before .before .before .before .before .name-of-use in
+    let f = c .before .before .before .before .before .before .find-binder in
+    let s = c .before .before .before .before .before .before .before .before .before .before .before .before .before .before .before in
+    let q = ap length (n .ensures) in
+    let short = use-short _ _ (n .ensures) in
+    let t = c .fetch .ensures in
+    let sized = s .pre .4 (f .result) (omega (arith, f .ensures .within, c .before .before .before .before .before .if1 .left)) in (
+      omega arith,
+      record { names-least = omega arith; names-most = omega arith; types-least = omega arith; types-most = omega arith },
+      filled-more (l .inv .2) (omega (arith, s .pre .1)) (s .args .binders .now) (f .result)
+          (rw (← (n .ensures)) (f .ensures .some (omega (arith, f .ensures .within, c .before .before .before .before .before .if1 .left))))
+          (c .before .before .before .put-param .ensures) q (c .fetch .ensures .0),
+    )
+
+returns-2 : tie.Need-returns-2 Inv-loop μ-loop
+unfolding Builds
+returns-2 c =
+    let l = c .before .loop in
+    let e : l .i ≡ c .before .before .before .before .before .before .args .k = omega arith in
+    (rw e at (l .inv .2), rw e at (l .inv .1))
+
+pub build-param-defns-spec : {M : Type 1} → statement M
+build-param-defns-spec =
+    tie.close
+    (tie.spec
+    Inv-loop
+    μ-loop
+    loop-holds
+    (λ c. omega arith)
+    (λ c. omega (arith, c .before .before .before .before .before .before .before .pre .1))
+    (λ c κs. search needs)
+    (λ c κs. search needs)
+    (λ c. search needs)
+    returns
+    (λ c. omega arith)
+    (λ c κs. (omega arith, omega (arith, c .before .before .find-binder .ensures .within)))
+    (λ c. omega (arith, c .before .before .before .before .before .find-binder .ensures .within))
+    (λ c. omega (arith, c .before .before .before .before .before .find-binder .ensures .within))
+    (λ c κs. search needs)
+    (λ c. omega arith)
+    fits
+    more
+    (λ c. omega arith)
+    (λ c. omega arith)
+    loop-again
+    (λ c. search needs)
+    returns-2)

@@ -1,0 +1,83 @@
+-- `lift::enter_lift` meets its contract.
+-- Assumes nothing.
+use mathlib.Core.Path.{_≡_, refl, sym, ap, _∙_}
+use Prim.Native.Nat.{_+_, _*_, _≤_}
+use native.Mathlib.Omega.{arith}
+use lib.ListN.{length, take, length-take}
+use borrow.Author.Needs.{needs}
+use Rattle.lift.proofs.Params.{builds-all, builds-none}
+use Rattle.lift.proofs.Entered.{refused-binder, refused-bytes, refused-defns, made-lift, cut-length}
+use Rattle.lift.proofs.enter_lift.Statement.{statement}
+use Rattle.lift.proofs.enter_lift.Tie as tie
+
+build-requires : tie.Need-build-param-defns-requires
+build-requires c κs = let p = c .before .before .before .before .before .before .before .before .before .before .before .before .pre in (p .7, p .5, p .6, omega (arith, p .0 .room, p .0 .bytes-most), p .8)
+
+add-call : tie.Need-add-call
+add-call c = let b = builds-all _ (c .before .before .before .before .before .build-param-defns .ensures) (c .before .built .given .1) .1 in omega (arith, c .before .before .before .before .before .before .before .before .before .before .before .before .before .before .before .before .before .before .pre .6)
+
+add-call-2 : tie.Need-add-call-2
+add-call-2 c = let b = builds-all _ (c .before .before .before .before .before .build-param-defns .ensures) (c .before .built .given .1) .1 in omega (arith, c .before .before .before .before .before .before .before .before .before .before .before .before .before .before .before .before .before .before .pre .6)
+
+returns : tie.Need-returns
+returns c =
+    let s = c .before .before .before .before .before .before .before .before .before .before .before .before .before .before .before .before .before .before .before .before in
+    let b = builds-all _ (c .before .before .before .before .before .before .before .build-param-defns .ensures) (c .before .before .before .built .given .1) in
+    let e = cut-length (s .args .path .now) (s .args .n) (s .pre .3) in
+    refused-bytes (b .0 .of) (b .0 .all) (omega (arith, b .0 .names-size, b .0 .types-size))
+
+returns-2 : tie.Need-returns-2
+returns-2 c =
+    let b = builds-all _ (c .before .before .before .before .before .before .before .before .build-param-defns .ensures) (c .before .before .before .before .built .given .1) in
+    refused-defns (b .0 .of) (b .0 .all) (c .if2 .taken)
+
+add-row-requires : tie.Need-add-row-requires
+add-row-requires c κs =
+    let s = c .before .before .before .before .before .before .before .before .before .before .before .before .before .before .before .before .before .before .before .before .before .before .before .before .before .before .before in
+    let p = s .pre in
+    let t = p .0 in
+    let b = builds-all _ (c .before .before .before .before .before .before .before .before .before .before .before .before .before .before .build-param-defns .ensures) (c .before .before .before .before .before .before .before .before .before .before .built .given .1) .1 in
+    (p .3, p .4, p .1, p .2, omega (arith, t .room), omega (arith, t .room, t .bytes-most), omega (arith, t .room, t .made-long), omega (arith, t .few .0), omega arith, omega (arith, t .few .1), t .places-long, t .hashes-long, t .hints-long)
+
+returns-3 : tie.Need-returns-3
+returns-3 c = refused-binder (builds-none _ _ _ _ _ _ _ _ (c .before .before .before .before .build-param-defns .ensures) (c .enum-told .given .1))
+
+returns-4 : tie.Need-returns-4
+returns-4 c =
+    let s = c .before .before .before .before .before .before .before .before .before .before .before .before .before .before .before .before .before .before .before .before .before .before .before .before .before .before .before .before .before .before .before .before .before .before .before .before .before .before .before .before in
+    let p = s .pre in
+    let b = builds-all _ (c .before .before .before .before .before .before .before .before .before .before .before .before .before .before .before .before .before .before .before .before .before .before .before .before .before .before .before .build-param-defns .ensures) (c .before .before .before .before .before .before .before .before .before .before .before .before .before .before .before .before .before .before .before .before .before .before .before .built .given .1) in
+    let e = cut-length (s .args .path .now) (s .args .n) (p .3) in
+    let m = c .before .before .before .before .before .before .before .before .before .before .before .before .before .before .before .before .before .before .before .before .before .before .before .built .given .0 in
+    rw e at (made-lift (p .0) (b .0) (b .1) (omega (arith, p .4)) (s .args .w .bytes + 6 + (s .args .n + 3 + m .0 + m .1 .0) + (s .args .n + m .0 + 5)) (omega arith) (c .before .before .before .before .before .before .before .before .before .before .before .before .before .before .before .before .before .before .before .before .if1 .left) (omega (arith, c .before .before .before .before .before .before .before .before .before .before .before .before .before .before .before .before .before .before .before .if2 .left)) (c .before .before .before .before .before .before .before .before .before .before .before .before .add-row .ensures))
+
+pub enter-lift-spec : {M : Type 1} → statement M
+enter-lift-spec =
+    tie.close
+    (tie.spec
+    build-requires
+    (λ c. search needs)
+    (λ c. search needs)
+    add-call
+    add-call-2
+    (λ c. search needs)
+    (λ c. search needs)
+    (λ c. let b = builds-all _ (c .before .before .before .before .before .before .build-param-defns .ensures) (c .before .before .built .given .1) .1 in let p = c .before .before .before .before .before .before .before .before .before .before .before .before .before .before .before .before .before .before .before .pre in omega (arith, p .6, p .4, p .0 .bytes-most))
+    (λ c. let b = builds-all _ (c .before .before .before .before .before .before .build-param-defns .ensures) (c .before .before .built .given .1) .1 in let p = c .before .before .before .before .before .before .before .before .before .before .before .before .before .before .before .before .before .before .before .pre in omega (arith, p .6, p .4, p .0 .bytes-most))
+    (λ c. let b = builds-all _ (c .before .before .before .before .before .before .build-param-defns .ensures) (c .before .before .built .given .1) .1 in let p = c .before .before .before .before .before .before .before .before .before .before .before .before .before .before .before .before .before .before .before .pre in omega (arith, p .6, p .4, p .0 .bytes-most))
+    (λ c. let b = builds-all _ (c .before .before .before .before .before .before .build-param-defns .ensures) (c .before .before .built .given .1) .1 in let p = c .before .before .before .before .before .before .before .before .before .before .before .before .before .before .before .before .before .before .before .pre in omega (arith, p .6, p .4, p .0 .bytes-most))
+    (λ c. search needs)
+    returns
+    (λ c. search needs)
+    returns-2
+    add-row-requires
+    (λ c. search needs)
+    returns-3
+    (λ c. search needs)
+    (λ c. search needs)
+    (λ c. search needs)
+    (λ c. search needs)
+    (λ c. search needs)
+    (λ c. search needs)
+    (λ c. search needs)
+    returns-4)

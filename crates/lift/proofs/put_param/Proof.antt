@@ -1,0 +1,41 @@
+-- `lift::put_param` meets its contract.
+-- Assumes nothing.
+use native.Mathlib.Omega.{arith}
+use borrow.Author.Needs.{needs}
+use Rattle.lift.proofs.Params.{param-put}
+use Rattle.lift.proofs.put_param.Statement.{statement}
+use Rattle.lift.proofs.put_param.Tie as tie
+
+returns : tie.Need-returns
+returns c =
+    let s = c .before .before .before .before .before .before .before .before .before .before .before .before .before .before .before .before .before .before .before .before in
+    let f = c .before .before .before .before .before .before .before .before .before .before .before .before .before .before .before .before .before .fetch in
+    let g = c .before .before .before .before .before .before .before .before .before .before .before .before .before .before .before .before .fetch2 in
+    param-put (s .args .params .now) (s .args .i) _ _ _ _ _ _ (c .before .before .before .before .before .before .before .before .before .before .before .before .before .before .store .ensures) (c .before .before .before .before .before .before .before .before .before .before .store2 .ensures) (c .before .before .before .before .before .before .store3 .ensures) (c .before .before .store4 .ensures)
+    (omega arith) (f .ensures .1) (g .ensures .1) (f .ensures .0) (g .ensures .0)
+
+pub put-param-spec : {M : Type 1} → statement M
+put-param-spec =
+    tie.close
+    (tie.spec
+    (λ c. search needs)
+    (λ c. search needs)
+    (λ c. search needs)
+    (λ c. search needs)
+    (λ c κs. search needs)
+    (λ c. search needs)
+    (λ c. search needs)
+    (λ c κs. search needs)
+    (λ c. search needs)
+    (λ c κs. search needs)
+    (λ c. search needs)
+    (λ c. search needs)
+    (λ c κs. search needs)
+    (λ c. search needs)
+    (λ c. search needs)
+    (λ c κs. search needs)
+    (λ c. search needs)
+    (λ c. search needs)
+    (λ c κs. search needs)
+    (λ c. search needs)
+    returns)

@@ -1,0 +1,98 @@
+-- Binders by place. `binders` has four numbers for each: the place of the name's length byte in the expanded book, the place of the type there,
+-- 1 where that is a parameter's own type and 0 where it is the combinator of a Dependent field, and the size of the type as it stands after lifting.
+-- Document 01: "the definition's own parameters, then the Dependent fields passed on the way, outermost first, types as they stand after lifting".
+use mathlib.Core.Bool.{Bool, true, false, cond}
+use mathlib.Core.List.{List, [], _∷_, _++_, map}
+use mathlib.Core.Path.{_≡_}
+use Prim.Native.Nat.{ℕ, zero, suc, _+_, _*_, _≤_, _<_}
+use lib.Dec.{eqb}
+use lib.ListN.{length, take, drop, getD, set}
+use Rattle.definition.specs.Res.{Maybe, absent, just}
+use Rattle.definition.specs.Tree.{Name}
+use Rattle.definition.specs.Names.{eqName}
+use Rattle.lookup.specs.Name.{nameAt}
+use Rattle.tables.specs.Rows.{TypeAt, namesFrom, typesFrom}
+use Rattle.collect.specs.Uses.{nameIn, namesIn}
+use Rattle.lift.specs.declared.Built.{Built}
+use Rattle.lift.specs.declared.Built.the-variants.{All, Missing}
+
+pub record Bound : Type 0 where
+  pub name : Name
+  pub type : TypeAt
+  pub size : ℕ
+
+abbrev pub typeOf : Bound → TypeAt
+typeOf b = b .type
+
+unfoldable pub boundAt : List ℕ → List ℕ → ℕ → Bound
+boundAt s table j = record {
+  name = nameAt s (getD table (4 * j) 0);
+  type = record { own = eqb (getD table (4 * j + 2) 0) 1; at = getD table (4 * j + 1) 0 };
+  size = getD table (4 * j + 3) 0;
+}
+
+-- n of them from number j on
+unfoldable pub boundFrom : List ℕ → List ℕ → ℕ → ℕ → List Bound
+boundFrom s table j zero = []
+boundFrom s table j (suc n) = boundAt s table j ∷ boundFrom s table (j + 1) n
+
+-- "A parameter's type is that of the first binder of that name"
+unfoldable pub firstOf : List Bound → Name → Maybe Bound
+firstOf [] n = absent
+firstOf (b ∷ bs) n = let r = firstOf bs n in cond (eqName (b .name) n) (just b) r
+
+unfoldable pub joined : Maybe Bound → Maybe (List Bound) → Maybe (List Bound)
+joined absent r = absent
+joined (just b) absent = absent
+joined (just b) (just bs) = just (b ∷ bs)
+
+-- the first binder of each name, or none where a name has none
+unfoldable pub bindersOf : List Bound → List Name → Maybe (List Bound)
+bindersOf env [] = just []
+bindersOf env (n ∷ ns) = joined (firstOf env n) (bindersOf env ns)
+
+-- what names and types take in a call and in a head: a name has a length byte
+unfoldable pub namesSize : List Name → ℕ
+namesSize [] = 0
+namesSize (n ∷ ns) = 1 + length n + namesSize ns
+
+unfoldable pub typesSize : List Bound → ℕ
+typesSize [] = 0
+typesSize (b ∷ bs) = b .size + typesSize bs
+
+-- the table with the parameter number i
+unfoldable pub withParam : List ℕ → ℕ → ℕ → ℕ → ℕ → ℕ → List ℕ
+withParam d i place len at own = set (set (set (set d (4 * i) place) (4 * i + 1) len) (4 * i + 2) at) (4 * i + 3) own
+
+-- r is the number of the first binder of a name, or b
+pub record First (s table : List ℕ) (name : Name) (b r : ℕ) : Type 0 where
+  pub within : r ≤ b
+  pub some : r < b → firstOf (boundFrom s table 0 b) name ≡ just (boundAt s table r)
+  pub none : r ≡ b → firstOf (boundFrom s table 0 b) name ≡ absent
+
+-- each name has its binder: `of`; the parameters stand in the table from number `first` on, as far as it reaches, and what stood before is there
+pub record Filled (s uses : List ℕ) (k : ℕ) (env : List Bound) (params : List ℕ) (first : ℕ) (params′ : List ℕ) (names types : ℕ) : Type 0 where
+  pub of : List Bound
+  pub all : bindersOf env (namesIn s (take k uses)) ≡ just of
+  pub names-size : names ≡ namesSize (namesIn s (take k uses))
+  pub types-size : types ≡ typesSize of
+  pub names-in : length s ≤ 65535 → 4 * (first + k) ≤ length params → namesFrom s params′ first k ≡ namesIn s (take k uses)
+  pub types-in : 4 * (first + k) ≤ length params → typesFrom params′ first k ≡ map typeOf of
+  pub kept : (i : ℕ) → i < 4 * first → getD params′ i 0 ≡ getD params i 0
+  pub long : length params′ ≡ length params
+
+-- no type has fewer than three bytes
+abbrev pub Sized : List ℕ → ℕ → Type 0
+Sized binders b = (j : ℕ) → j < b → 3 ≤ getD binders (4 * j + 3) 0
+
+-- what k names and types take, at the least and at the most
+pub record Within (k names types : ℕ) : Type 0 where
+  pub names-least : k ≤ names
+  pub names-most : names ≤ 256 * k
+  pub types-least : 3 * k ≤ types
+  pub types-most : types ≤ 65535 * k
+
+-- "8: free dependent without binder"
+unfoldable pub Builds : List ℕ → List ℕ → ℕ → List Bound → List ℕ → ℕ → List ℕ → Built → Type 0
+Builds s uses k env params first params′ Missing = bindersOf env (namesIn s (take k uses)) ≡ absent
+Builds s uses k env params first params′ (All names types) = Filled s uses k env params first params′ names types × Within k names types

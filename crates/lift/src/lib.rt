@@ -1,0 +1,244 @@
+// One lift of the naming pass: its parameters and their binders, its row, its name.
+use collect::name_of_use;
+use lookup::name_at;
+use lookup::same_name;
+use names::fresh::take_name;
+ghost use mathlib.Core.Path.{_≡_};
+ghost use Prim.Native.Nat.{_≤_, _<_, _+_, _*_, _/_, _%_, min};
+ghost use lib.ListN.{length, take, getD, set};
+ghost use Rattle.collect.specs.Uses.{namesIn};
+ghost use Rattle.lift.specs.Bound.{boundFrom, Sized, First, withParam, Builds};
+ghost use Rattle.lift.specs.Sheet.{Tables, withRow};
+ghost use Rattle.lift.specs.Enters.{Adds, Enters};
+
+// The sizes of the parameters' names and of their types, or that one has no binder.
+pub enum Built {
+    All(usize, usize),
+    Missing,
+}
+
+// How much the tables hold: names taken, the place after the last generated name, lifts, their parameters; and the book as code 10 measures it.
+pub struct Counts {
+    pub taken: usize,
+    pub end: usize,
+    pub lifts: usize,
+    pub params: usize,
+    pub bytes: usize,
+    pub defns: usize,
+}
+
+// A lift: the size of its call and the counts with it, or document 01's number of a refusal.
+pub enum Lifted {
+    Made(usize, Counts),
+    Refused(u8),
+}
+
+// An entry of a table; past the end it is 0.
+fn entry(t: &[u16], i: usize) -> u16
+    ensures { λ r. ⌜ r ≡ getD (now (t .entry)) i 0 ⌝ }
+{
+    if i < t.len() {
+        return t[i];
+    }
+    0
+}
+
+pub fn fetch(t: &[u16], i: usize) -> usize
+    ensures { λ r. ⌜ (r ≡ getD (now (t .entry)) i 0) × (r ≤ 65535) ⌝ }
+{
+    let x = entry(t, i);
+    x as usize
+}
+
+// A number into a table, as far as the table reaches. 65,535 stands for all that are larger: no place is.
+pub fn store(t: &mut [u16], i: usize, x: usize)
+    ensures { λ _. ⌜ now (t .exit) ≡ set (now (t .entry)) i (min x 65535) ⌝ }
+{
+    if t.len() <= i {
+        return;
+    }
+    if 65535 < x {
+        t[i] = 65535;
+        return;
+    }
+    t[i] = x as u16;
+}
+
+// The number of the first binder of a name among the first b, or b.
+pub fn find_binder(s: &[u8], name: &[u8], binders: &[u16], b: usize) -> usize
+    requires { ⌜ b ≤ 65536 ⌝ }
+    ensures { λ r. ⌜ First (now (s .entry)) (now (binders .entry)) (now (name .entry)) b r ⌝ }
+{
+    let mut j = 0;
+    while j < b {
+        let at = fetch(binders, 4 * j);
+        let label = name_at(s, at);
+        if same_name(label, name) {
+            return j;
+        }
+        j += 1;
+    }
+    b
+}
+
+// The parameter number i, from the use that names it and the binder number j that types it.
+fn put_param(x: u32, binders: &[u16], j: usize, params: &mut [u16], i: usize)
+    requires { ⌜ (i ≤ 1048576) × (j ≤ 65536) ⌝ }
+    ensures { λ _. ⌜ now (params .exit) ≡ withParam (now (params .entry)) i (min (x / 256) 65535) (x % 256) (getD (now (binders .entry)) (4 * j + 1) 0) (getD (now (binders .entry)) (4 * j + 2) 0) ⌝ }
+{
+    let place = (x / 256) as usize;
+    let len = (x % 256) as usize;
+    let at = fetch(binders, 4 * j + 1);
+    let own = fetch(binders, 4 * j + 2);
+    store(params, 4 * i, place);
+    store(params, 4 * i + 1, len);
+    store(params, 4 * i + 2, at);
+    store(params, 4 * i + 3, own);
+}
+
+// The parameters of a lift, one for each of the first k uses, from number `first` on.
+pub fn build_param_defns(
+    s: &[u8],
+    uses: &[u32],
+    k: usize,
+    binders: &[u16],
+    b: usize,
+    params: &mut [u16],
+    first: usize,
+) -> Built
+    requires { ⌜ (b ≤ 65536) × (k ≤ length (now uses)) × (k ≤ 65536) × (first ≤ 65536) × Sized (now binders) b ⌝ }
+    ensures { λ r. ⌜ Builds (now (s .entry)) (now (uses .entry)) k (boundFrom (now (s .entry)) (now (binders .entry)) 0 b) (now (params .entry)) first (now (params .exit)) r ⌝ }
+{
+    let mut names = 0;
+    let mut types = 0;
+    let mut i = 0;
+    while i < k {
+        let x = uses[i];
+        let name = name_of_use(s, x);
+        let j = find_binder(s, name, binders, b);
+        if j == b {
+            return Built::Missing;
+        }
+        put_param(x, binders, j, params, first + i);
+        let size = fetch(binders, 4 * j + 3);
+        names = names + 1 + name.len();
+        types = types + size;
+        i += 1;
+    }
+    Built::All(names, types)
+}
+
+// The row of lift number i.
+fn put_row(
+    rows: &mut [u16],
+    i: usize,
+    at: usize,
+    end: usize,
+    name: usize,
+    first: usize,
+    count: usize,
+)
+    requires { ⌜ (i ≤ 65536) × (at ≤ 65535) × (end ≤ 65535) × (name ≤ 65535) × (first ≤ 65535) × (count ≤ 65535) ⌝ }
+    ensures { λ _. ⌜ now (rows .exit) ≡ withRow (now (rows .entry)) i at end name first count ⌝ }
+{
+    store(rows, 5 * i, at);
+    store(rows, 5 * i + 1, end);
+    store(rows, 5 * i + 2, name);
+    store(rows, 5 * i + 3, first);
+    store(rows, 5 * i + 4, count);
+}
+
+// The row of a lift, its number at its place, and its name, which stands in path's first n bytes.
+fn add_row(
+    path: &[u8],
+    n: usize,
+    at: usize,
+    end: usize,
+    k: usize,
+    made: &mut [u8],
+    places: &mut [u16],
+    hashes: &mut [u16],
+    hints: &mut [u16],
+    rows: &mut [u16],
+    number: &mut [u16],
+    w: Counts,
+    bytes: usize,
+) -> Counts
+    requires { ⌜ (n ≤ length (now path)) × (n ≤ 255) × (at ≤ 65535) × (end ≤ 65535) × (w .params + k ≤ 65535) × (w .end < 32768) × (w .end + 1 + n ≤ length (now made)) × (w .lifts < 512) × (w .defns < 512) × (w .taken < 512) × (512 ≤ length (now places)) × (512 ≤ length (now hashes)) × (512 ≤ length (now hints)) ⌝ }
+    ensures { λ r. ⌜ Adds (take n (now (path .entry))) at end k (now (made .entry)) (now (places .entry)) (now (hashes .entry)) (now (hints .entry)) (now (rows .entry)) (now (number .entry)) w bytes (now (made .exit)) (now (places .exit)) (now (hashes .exit)) (now (hints .exit)) (now (rows .exit)) (now (number .exit)) r ⌝ }
+{
+    let lifts = w.lifts;
+    let place = w.end;
+    let taken = w.taken;
+    let first = w.params;
+    let defns = w.defns;
+    put_row(rows, lifts, at, end, place, first, k);
+    store(number, at, lifts + 1);
+    let next = take_name(&path[..n], made, place, places, hashes, hints, taken);
+    Counts {
+        taken: taken + 1,
+        end: next,
+        lifts: lifts + 1,
+        params: first + k,
+        bytes,
+        defns: defns + 1,
+    }
+}
+
+// A lift whose name stands in path's first n bytes and whose parameters are the first k uses: codes 8 and 10, then its row, its number at its
+// place, and its name.
+pub fn enter_lift(
+    s: &[u8],
+    at: usize,
+    end: usize,
+    path: &[u8],
+    n: usize,
+    uses: &[u32],
+    k: usize,
+    binders: &[u16],
+    b: usize,
+    made: &mut [u8],
+    places: &mut [u16],
+    hashes: &mut [u16],
+    hints: &mut [u16],
+    rows: &mut [u16],
+    params: &mut [u16],
+    number: &mut [u16],
+    w: Counts,
+) -> Lifted
+    requires { ⌜ Tables (now s) (now made) (now places) (now hashes) (now hints) (now rows) (now params) w × (at ≤ 65535) × (end ≤ 65535) × (n ≤ length (now path)) × (n ≤ 255) × (k ≤ length (now uses)) × (k ≤ 65536) × (b ≤ 65536) × Sized (now binders) b ⌝ }
+    ensures { λ r. ⌜ Enters (now (s .entry)) at end (take n (now (path .entry))) (namesIn (now (s .entry)) (take k (now (uses .entry)))) (boundFrom (now (s .entry)) (now (binders .entry)) 0 b) (now (made .entry)) (now (places .entry)) (now (rows .entry)) (now (params .entry)) (now (number .entry)) w (now (made .exit)) (now (places .exit)) (now (hashes .exit)) (now (hints .exit)) (now (rows .exit)) (now (params .exit)) (now (number .exit)) r ⌝ }
+{
+    let first = w.params;
+    let built = build_param_defns(s, uses, k, binders, b, params, first);
+    match built {
+        Built::Missing => Lifted::Refused(8),
+        Built::All(names, types) => {
+            let call = n + names + 5;
+            let bytes = w.bytes + 6 + (n + 3 + names + types) + call;
+            if 16384 < bytes {
+                return Lifted::Refused(10);
+            }
+            let defns = w.defns;
+            if 512 <= defns {
+                return Lifted::Refused(10);
+            }
+            let grown = add_row(
+                path,
+                n,
+                at,
+                end,
+                k,
+                made,
+                places,
+                hashes,
+                hints,
+                rows,
+                number,
+                w,
+                bytes,
+            );
+            Lifted::Made(call, grown)
+        }
+    }
+}

@@ -1,0 +1,144 @@
+-- Where inners and combinators end, and where their children begin.
+-- Assumes nothing.
+use mathlib.Core.Path.{_≡_, refl, sym, ap, _∙_}
+use mathlib.Core.Bool.{Bool, true, false}
+use mathlib.Core.List.{List, [], _∷_, _++_}
+use Prim.Native.Nat.{ℕ, zero, suc, _+_, _-_, _≤_, _<_, max}
+use native.Mathlib.Omega.{arith}
+use native.Mathlib.Numerals.{sub-one}
+use lib.Dec.{eqb}
+use lib.ListN.{length}
+use Rattle.definition.specs.Tree.{Leaf, constraint-int, constraint-enum, bits, enum, nothing, never, Shell, wrap, vec, option, array, CaseKind, enums, ints, arrays, Selector, none, by, Combinator, plain, chained, Inner, leaf, struct, choice, shell, bytes, invocation, macro-invocation, Fields, Cases}
+use Rattle.definition.specs.Tree as Tree
+use Rattle.definition.specs.Write.{wU16, wName, wText, wSelector, wLen, wList, wOpen, wShut, leafTag, caseByte, countF, countC, countA, wInner, wCombinator, wFields, wCases, wInners}
+use Rattle.definition.specs.Size.{size, levels, levelsI}
+use Rattle.laws.proofs.Sizes.{adds, sizeI}
+use Rattle.laws.proofs.Splits.{s-comb, s-selector}
+use Rattle.seek.specs.At.{byteAt, pastAt, numberAt}
+use Rattle.seek.specs.Here.{Here}
+use Rattle.seek.proofs.Here.{here-length, place, byte-here, next-here, number-here, number-past, name-here}
+use Rattle.calls.specs.Walk.{walk, selectorPast, skipAt}
+use Rattle.calls.specs.Walked.{Skipped}
+use Rattle.calls.proofs.Link.{skipped}
+use Rattle.collect.specs.Uses.{pick}
+use Rattle.naming.specs.Nodes.{Rest, fields, cases, one, tail, restOf, skip}
+use Rattle.naming.specs.Frames.{innerEnd, combinatorEnd, start, casesBegin, beginAt, RestIs, Begins}
+
+-- ---- the loop over chains
+module _ (s : List ℕ) (at : ℕ) where
+  pub end-more : (n : ℕ) → 0 < n → eqb (byteAt s (innerEnd s at)) 1 ≡ true → combinatorEnd n s at ≡ combinatorEnd (n - 1) s (pastAt s (innerEnd s at) 1)
+  unfolding combinatorEnd
+  end-more zero h e = absurd (omega arith)
+  end-more (suc n) h e = rw (e, sub-one)
+
+  pub end-last : (n : ℕ) → 0 < n → eqb (byteAt s (innerEnd s at)) 1 ≡ false → combinatorEnd n s at ≡ pastAt s (innerEnd s at) 1
+  unfolding combinatorEnd
+  end-last zero h e = absurd (omega arith)
+  end-last (suc n) h e = rw e
+
+  pub end-none : (n : ℕ) → n ≤ 0 → combinatorEnd n s at ≡ at
+  unfolding combinatorEnd
+  end-none zero h = refl
+  end-none (suc n) h = absurd (omega arith)
+
+-- ---- where a tree stands
+module _ {s : List ℕ} (small : length s ≤ 65535) {p : ℕ} where
+  pub inner-rest : (i : Inner) (z : List ℕ) → levelsI i ≤ 64 → Here s p (wInner i z) → Here s (innerEnd s p) z
+  unfolding innerEnd
+  inner-rest i z d h = skipped s small i 64 d (walk p 0 64 true) (0 ∷ []) z h .rest
+
+  pub inner-end : (i : Inner) (z : List ℕ) → levelsI i ≤ 64 → Here s p (wInner i z) → innerEnd s p ≡ p + sizeI i
+  unfolding innerEnd sizeI
+  inner-end i z d h = skipped s small i 64 d (walk p 0 64 true) (0 ∷ []) z h .place
+
+module _ {s : List ℕ} (small : length s ≤ 65535) where
+  pub combinator-rest : {p : ℕ} (c : Combinator) (k : ℕ) (z : List ℕ) → levels c ≤ k → k ≤ 64 → Here s p (wCombinator c z) → Here s (combinatorEnd k s p) z
+  unfolding wCombinator levels
+  combinator-rest {p} (plain i) k z d m h =
+      let e = inner-rest small i (0 ∷ z) (omega arith) h in
+      rw (end-last s p k (omega arith) (rw (byte-here e))) (next-here e)
+  combinator-rest {p} (chained i c) k z d m h =
+      let e = inner-rest small i (1 ∷ wCombinator c z) (omega arith) h in
+      rw (end-more s p k (omega arith) (rw (byte-here e))) (combinator-rest c (k - 1) z (omega arith) (omega arith) (next-here e))
+
+  pub combinator-end : {p : ℕ} (c : Combinator) (k : ℕ) (z : List ℕ) → levels c ≤ k → k ≤ 64 → Here s p (wCombinator c z) → combinatorEnd k s p ≡ p + size c
+  unfolding size
+  combinator-end c k z d m h = omega (arith, here-length h, here-length (combinator-rest c k z d m h), adds (wCombinator c) (s-comb c) z)
+
+-- ---- where children begin
+begin-leaf : (k : Leaf) (x z : List ℕ) {s : List ℕ} {p : ℕ} → Here s p (leafTag k ∷ wText x z) → beginAt s p ≡ start p 0 0
+unfolding beginAt leafTag
+begin-leaf constraint-int x z h = rw (byte-here h)
+begin-leaf constraint-enum x z h = rw (byte-here h)
+begin-leaf bits x z h = rw (byte-here h)
+begin-leaf enum x z h = rw (byte-here h)
+begin-leaf Tree.tail x z h = rw (byte-here h)
+begin-leaf nothing x z h = rw (byte-here h)
+begin-leaf never x z h = rw (byte-here h)
+
+begin-shell : (x : Shell) (c : Combinator) (z : List ℕ) {s : List ℕ} {p : ℕ} → Here s p (wOpen x (wCombinator c z)) → beginAt s p ≡ start p 5 1
+unfolding beginAt wOpen
+begin-shell (wrap a b) c z h = rw (byte-here h)
+begin-shell vec c z h = rw (byte-here h)
+begin-shell option c z h = rw (byte-here h)
+begin-shell (array l) c z h = rw (byte-here h)
+
+module _ {s : List ℕ} {p : ℕ} (z : List ℕ) where
+  begin-bytes : Here s p (10 ∷ z) → beginAt s p ≡ start p 0 0
+  unfolding beginAt
+  begin-bytes h = rw (byte-here h)
+
+  begin-call : Here s p (15 ∷ z) → beginAt s p ≡ start p 0 0
+  unfolding beginAt
+  begin-call h = rw (byte-here h)
+
+  begin-macro : Here s p (16 ∷ z) → beginAt s p ≡ start p 0 0
+  unfolding beginAt
+  begin-macro h = rw (byte-here h)
+
+begin-struct : (n : ℕ) {s : List ℕ} {p : ℕ} (z : List ℕ) → Here s p (4 ∷ wU16 n z) → beginAt s p ≡ start (pastAt s (pastAt s p 1) 2) 1 n
+unfolding beginAt
+begin-struct n z h = rw (byte-here h, number-here n z (next-here h))
+
+begin-cases : (k : CaseKind) {s : List ℕ} {a : ℕ} (f : Cases) (z : List ℕ) → Here s a (caseByte k ∷ wU16 (countC f) (wCases f k z))
+    → pick (eqb (byteAt s a) 1) (start (pastAt s (pastAt s a 1) 2) 2 (numberAt s (pastAt s a 1)))
+    (pick (eqb (byteAt s a) 2) (start (pastAt s (pastAt s a 1) 2) 3 (numberAt s (pastAt s a 1))) (start (pastAt s (pastAt s a 1) 2) 4 (numberAt s (pastAt s a 1))))
+    ≡ start (pastAt s (pastAt s a 1) 2) (1 + caseByte k) (countC f)
+unfolding caseByte
+begin-cases enums f z h = rw (byte-here h, number-here (countC f) (wCases f enums z) (next-here h))
+begin-cases ints f z h = rw (byte-here h, number-here (countC f) (wCases f ints z) (next-here h))
+begin-cases arrays f z h = rw (byte-here h, number-here (countC f) (wCases f arrays z) (next-here h))
+
+-- the selector as calls has it
+selector-is : (x : Selector) {s : List ℕ} {p : ℕ} {z : List ℕ} → Here s p (wSelector x z) → Here s (selectorPast s p) z
+unfolding wSelector selectorPast
+selector-is none h = rw (byte-here h) (next-here h)
+selector-is (by n) h = rw (byte-here h) (name-here n (next-here h))
+
+begin-choice : (x : Selector) (k : CaseKind) (f : Cases) {s : List ℕ} {p : ℕ} (z : List ℕ) → Here s p (7 ∷ wSelector x (caseByte k ∷ wU16 (countC f) (wCases f k z)))
+    → beginAt s p ≡ start (pastAt s (pastAt s (selectorPast s (pastAt s p 1)) 1) 2) (1 + caseByte k) (countC f)
+unfolding beginAt casesBegin
+begin-choice x k f z h = rw (byte-here h) (begin-cases k f z (selector-is x (next-here h)))
+
+-- what stands before the children
+before-fields : (n : ℕ) (z : List ℕ) → length (4 ∷ wU16 n z) ≡ 3 + length z
+unfolding wU16
+before-fields n z = omega arith
+
+before-cases : (x : Selector) (b n : ℕ) (z : List ℕ) → length (7 ∷ wSelector x (b ∷ wU16 n z)) ≡ length (wSelector x []) + 4 + length z
+unfolding wU16
+before-cases x b n z = omega (arith, adds (wSelector x) (s-selector x) (b ∷ wU16 n z))
+
+pub begins : (i : Inner) (z : List ℕ) {s : List ℕ} {p : ℕ} → Here s p (wInner i z) → Begins s z p i (beginAt s p)
+unfolding RestIs restOf skip wCombinator
+begins (leaf k x) z {s} {p} h = rw (begin-leaf k x z h) (record { here = omega arith; rest = refl })
+begins (struct f) z {s} {p} h =
+    let b = number-past (countF f) (next-here h) in
+    rw (begin-struct (countF f) (wFields f z) h) (record { here = omega (arith, here-length h, here-length b, before-fields (countF f) (wFields f z)); rest = (b, refl, refl) })
+begins (choice x k f) z {s} {p} h =
+    let d = number-past (countC f) (next-here (selector-is x (next-here h))) in
+    rw (begin-choice x k f z h) (record { here = omega (arith, here-length h, here-length d, before-cases x (caseByte k) (countC f) (wCases f k z)); rest = (d, refl, refl, refl) })
+begins (shell x c) z {s} {p} h = rw (begin-shell x c (wShut x z) h) (record { here = omega arith; rest = (h, refl, refl) })
+begins (bytes l) z {s} {p} h = rw (begin-bytes (wLen l z) h) (record { here = omega arith; rest = refl })
+begins (invocation n a) z {s} {p} h = rw (begin-call (wName n (wList wName a z)) h) (record { here = omega arith; rest = refl })
+begins (macro-invocation n a) z {s} {p} h = rw (begin-macro (wName n (wU16 (countA a) (wInners a z))) h) (record { here = omega arith; rest = refl })

@@ -1,0 +1,15 @@
+-- `naming::inner_end` meets its contract.
+-- Assumes nothing.
+use mathlib.Core.Path.{ap}
+use Rattle.calls.specs.declared.Walk.{Walk}
+use Rattle.naming.specs.Frames.{innerEnd}
+use borrow.Author.Needs.{needs}
+use Rattle.naming.proofs.inner_end.Statement.{statement}
+use Rattle.naming.proofs.inner_end.Tie as tie
+
+returns : tie.Need-returns
+unfolding innerEnd
+returns c = ap (λ (w : Walk). w .at) (c .before .skip-inner .ensures .0)
+
+pub inner-end-spec : {M : Type 1} → statement M
+inner-end-spec = tie.close (tie.spec (λ c. search needs) (λ c κs. search needs) returns)

@@ -1,0 +1,16 @@
+-- `naming::open_node` meets its contract.
+-- Assumes nothing.
+use mathlib.Core.Path.{refl}
+use Rattle.naming.specs.Frames.{frameAt}
+use borrow.Author.Needs.{needs}
+use Rattle.naming.proofs.open_node.Statement.{statement}
+use Rattle.naming.proofs.open_node.Tie as tie
+
+returns : tie.Need-returns
+unfolding frameAt
+returns c = rw (← (c .before .before .before .children-of .ensures), ← (c .before .before .inner-end .ensures), ← (c .before .byte .ensures), ← (c .minus .ensures))
+
+pub open-node-spec : {M : Type 1} → statement M
+open-node-spec =
+    tie.close
+    (tie.spec (λ c κs. search needs) (λ c κs. search needs) (λ c κs. search needs) (λ c κs. search needs) returns)

@@ -1,0 +1,5 @@
+pub mod Walk
+pub mod Nodes
+pub mod Frames
+pub mod Next
+pub mod Lifts

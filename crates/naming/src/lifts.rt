@@ -1,0 +1,90 @@
+// A lift: its name, its parameters and their binders, its row.
+use crate::Named;
+use lift::Counts;
+use lift::Lifted;
+use lift::enter_lift;
+use names::fresh::fresh_generated_name;
+use params::Params;
+use params::lift_params;
+ghost use mathlib.Core.Path.{_≡_};
+ghost use Prim.Native.Nat.{_≤_};
+ghost use lib.ListN.{length};
+ghost use Rattle.lift.specs.Bound.{boundFrom, Sized};
+ghost use Rattle.lift.specs.Sheet.{Tables};
+ghost use Rattle.naming.specs.Lifts.{Some, Scratch, namedOf, Lifts};
+
+// What a lift answers, with the length of its name.
+fn named_of(n: usize, entered: Lifted) -> Named
+    ensures { λ r. ⌜ r ≡ namedOf n entered ⌝ }
+{
+    match entered {
+        Lifted::Made(call, v) => Named::Lift(n, call, v),
+        Lifted::Refused(c) => Named::Refused(c),
+    }
+}
+
+// The combinator from `at` up to `end` is lifted; path holds its base in its first `len` bytes, and then its name. Codes 9, 7, 8, 10 in this order.
+pub fn lift_anonymous_combinator(
+    s: &[u8],
+    at: usize,
+    end: usize,
+    path: &mut [u8],
+    len: usize,
+    binders: &[u16],
+    b: usize,
+    bound: &mut [u32],
+    uses: &mut [u32],
+    spare: &mut [u32],
+    made: &mut [u8],
+    places: &mut [u16],
+    hashes: &mut [u16],
+    hints: &mut [u16],
+    rows: &mut [u16],
+    params: &mut [u16],
+    number: &mut [u16],
+    w: Counts,
+) -> Named
+    requires { ⌜ Tables (now s) (now made) (now places) (now hashes) (now hints) (now rows) (now params) w × Some (now s) at end × Scratch (now s) (now bound) (now uses) (now spare) × (length (now path) ≡ 255) × (b ≤ 65536) × Sized (now binders) b ⌝ }
+    ensures { λ r. ⌜ Lifts (now (s .entry)) at end (now (path .entry)) len (boundFrom (now (s .entry)) (now (binders .entry)) 0 b) (now (made .entry)) (now (places .entry)) (now (rows .entry)) (now (params .entry)) (now (number .entry)) w (now (path .exit)) (now (made .exit)) (now (places .exit)) (now (hashes .exit)) (now (hints .exit)) (now (rows .exit)) (now (params .exit)) (now (number .exit)) r ⌝ }
+{
+    let taken = w.taken;
+    let n = fresh_generated_name(
+        path,
+        len,
+        s,
+        &made[..],
+        &places[..],
+        &hashes[..],
+        hints,
+        taken,
+    );
+    if path.len() < n {
+        return Named::Refused(9);
+    }
+    let found = lift_params(s, at, bound, uses, spare);
+    match found {
+        Params::Leftover => Named::Refused(7),
+        Params::Sorted(k) => {
+            let entered = enter_lift(
+                s,
+                at,
+                end,
+                &path[..],
+                n,
+                &uses[..],
+                k,
+                binders,
+                b,
+                made,
+                places,
+                hashes,
+                hints,
+                rows,
+                params,
+                number,
+                w,
+            );
+            named_of(n, entered)
+        }
+    }
+}
