@@ -17,7 +17,8 @@ use Rattle.laws.proofs.Splits.{s-comb, s-selector}
 use Rattle.seek.specs.At.{byteAt, pastAt, numberAt}
 use Rattle.seek.specs.Here.{Here}
 use Rattle.seek.proofs.Here.{here-length, place, byte-here, next-here, number-here, number-past, name-here}
-use Rattle.calls.specs.Walk.{walk, selectorPast, skipAt}
+use Rattle.calls.specs.Walk.{walk, skipAt}
+use Rattle.seek.specs.At.{selectorPast}
 use Rattle.calls.specs.Walked.{Skipped}
 use Rattle.calls.proofs.Link.{skipped}
 use Rattle.collect.specs.Uses.{pick}

@@ -13,7 +13,8 @@ use Rattle.definition.specs.Size.{size, levels, levelsI, levelsF, levelsC}
 use Rattle.laws.proofs.Sizes.{sizeI, sizeF, sizeC}
 use Rattle.seek.specs.At.{byteAt, pastAt, numberAt}
 use Rattle.seek.specs.Here.{Here}
-use Rattle.calls.specs.Walk.{walk, selectorPast, skipAt}
+use Rattle.calls.specs.Walk.{walk, skipAt}
+use Rattle.seek.specs.At.{selectorPast}
 use Rattle.collect.specs.Uses.{pick}
 use Rattle.names.specs.Name.{Held}
 use Rattle.lift.specs.Bound.{boundFrom, withParam}

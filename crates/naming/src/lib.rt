@@ -13,7 +13,7 @@ ghost use mathlib.Core.Path.{_≡_};
 ghost use Prim.Native.Nat.{_-_, _≤_, min};
 ghost use Rattle.lift.specs.Bound.{withParam};
 ghost use Rattle.naming.specs.Walk.{plus};
-ghost use Rattle.calls.specs.Walk.{selectorPast};
+ghost use Rattle.seek.specs.At.{selectorPast};
 ghost use Rattle.naming.specs.Frames.{innerEnd, combinatorEnd, casesBegin, beginAt, frameAt, bindBy, boundAfter, delivered, passed};
 ghost use Rattle.naming.specs.Next.{nextField, nextOne, nextOf};
 

@@ -1,7 +1,7 @@
 -- `naming::selector_end` meets its contract.
 -- Assumes nothing.
 use borrow.Author.Tests.{eq-eqb, ne-eqb}
-use Rattle.calls.specs.Walk.{selectorPast}
+use Rattle.seek.specs.At.{selectorPast}
 use borrow.Author.Needs.{needs}
 use Rattle.naming.proofs.selector_end.Statement.{statement}
 use Rattle.naming.proofs.selector_end.Tie as tie
