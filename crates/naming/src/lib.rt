@@ -301,7 +301,7 @@ fn plus(a: usize, b: usize) -> usize
 }
 
 // The binder number j: its name's place, its type's, whether that is a parameter's own, and the type's size after lifting.
-fn put_binder(binders: &mut [u16], j: usize, name: usize, at: usize, own: usize, size: usize)
+pub fn put_binder(binders: &mut [u16], j: usize, name: usize, at: usize, own: usize, size: usize)
     requires { ⌜ (j ≤ 65536) × (own ≤ 1) ⌝ }
     ensures { λ _. ⌜ now (binders .exit) ≡ withParam (now (binders .entry)) j (min name 65535) (min at 65535) own (min size 65535) ⌝ }
 {

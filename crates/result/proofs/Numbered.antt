@@ -9,26 +9,9 @@ use lib.Dec.{eqb}
 use lib.ListN.{length, getD}
 use Rattle.definition.specs.Res.{Maybe, absent, just}
 use Rattle.lifting.specs.Records.{Record, orElse, find}
-use Rattle.tables.specs.Rows.{Row, rowOf, rowsOf}
+use Rattle.tables.specs.Rows.{Row, rowOf, rowsOf, later, lastFrom}
 use Rattle.result.specs.Model.{Tables, row}
-use Rattle.result.specs.Held.{Agrees, later, lastFrom}
-
--- one row more
-pub last-snoc : (rs : List Row) (r : Row) (i p : ℕ) → lastFrom (rs ++ (r ∷ [])) i p ≡ cond (eqb (r .at) p) (i + length rs + 1) (lastFrom rs i p)
-unfolding lastFrom later
-last-snoc [] r i p = let e : i + 0 + 1 ≡ i + 1 = omega arith in rw e
-last-snoc (x ∷ rs) r i p = rw (last-snoc rs r (i + 1) p) (of (eqb (r .at) p))
-  where
-    n : i + 1 + length rs + 1 ≡ suc (i + suc (length rs))
-    n = omega arith
-
-    m : i + suc (length rs) + 1 ≡ suc (i + suc (length rs))
-    m = omega arith
-
-    of : (b : Bool) → later (cond b (i + 1 + length rs + 1) (lastFrom rs (i + 1) p)) (cond (eqb (x .at) p) (i + 1) 0)
-        ≡ cond b (i + suc (length rs) + 1) (later (lastFrom rs (i + 1) p) (cond (eqb (x .at) p) (i + 1) 0))
-    of true = rw (n, m)
-    of false = refl
+use Rattle.result.specs.Held.{Agrees}
 
 module _ (t : Tables) where
   -- the rows from number i on

@@ -2,7 +2,7 @@
 use mathlib.Core.Path.{_≡_}
 use mathlib.Core.Bool.{cond}
 use mathlib.Core.List.{List, [], _∷_, _++_}
-use Prim.Native.Nat.{ℕ, zero, suc, _+_, _≤_, _<_}
+use Prim.Native.Nat.{ℕ, suc, _≤_, _<_}
 use lib.Dec.{eqb}
 use lib.ListN.{length, getD}
 use Rattle.definition.specs.Res.{Maybe, absent, just, ok}
@@ -37,18 +37,6 @@ pub record Held (t : Tables) (order : List ℕ) (n : ℕ) (ds : List Definition)
   pub numbered : (p : ℕ) → p < length (t .book) → Agrees t (find (w .records) p) (getD (t .number) p 0)
   pub count : n ≡ length (w .finished)
   pub ordered : (i : ℕ) → i < n → suc (getD order i 0) ≡ getD (t .number) (getD (w .finished) i 0) 0
-
--- the same by rows alone -------------------------------------------------------------------------
-
--- one more than the number of the last row that begins at a place, or 0: so that a table by place takes a new row as it comes
-unfoldable pub later : ℕ → ℕ → ℕ
-later zero k = k
-later (suc m) k = suc m
-
-unfoldable pub lastFrom : List Row → ℕ → ℕ → ℕ
-unfolding later
-lastFrom [] i p = 0
-lastFrom (r ∷ rs) i p = later (lastFrom rs (i + 1) p) (cond (eqb (r .at) p) (i + 1) 0)
 
 -- d′ is d with document 01's result in its first bytes, and k is the result's length: for every list of definitions whose book and records
 -- the tables hold, where the result is that of codes 7 to 10, a book (the laws say so), and d holds it

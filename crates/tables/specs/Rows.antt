@@ -56,11 +56,14 @@ unfoldable pub rowsOf : List ℕ → List ℕ → List ℕ → List ℕ → ℕ 
 rowsOf s names rows params zero = []
 rowsOf s names rows params (suc n) = rowsOf s names rows params n ++ (rowAt s names rows params n ∷ [])
 
--- `number`: for each place of the expanded book one more than the number of the lift that begins there, or 0 where none does.
+-- `number`: for each place of the expanded book one more than the number of the last lift that begins there, or 0 where none does: so the
+-- table takes a new row as it comes. No two lifts begin at one place.
 -- `order`: the numbers of the lifts in the order of their definitions ("its definition is appended after theirs")
-unfoldable pub numberedFrom : List Row → ℕ → ℕ → ℕ
-numberedFrom [] i p = 0
-numberedFrom (r ∷ rs) i p = let m = numberedFrom rs (i + 1) p in cond (eqb (r .at) p) (i + 1) m
+unfoldable pub later : ℕ → ℕ → ℕ
+later zero k = k
+later (suc m) k = suc m
 
-abbrev pub numberOf : List Row → ℕ → ℕ
-numberOf rs p = numberedFrom rs 0 p
+unfoldable pub lastFrom : List Row → ℕ → ℕ → ℕ
+unfolding later
+lastFrom [] i p = 0
+lastFrom (r ∷ rs) i p = later (lastFrom rs (i + 1) p) (cond (eqb (r .at) p) (i + 1) 0)

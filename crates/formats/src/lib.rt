@@ -1,0 +1,1 @@
+// The naming pass over the expanded book: its definitions in order.
