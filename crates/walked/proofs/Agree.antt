@@ -3,33 +3,34 @@ use mathlib.Core.Path.{_≡_, refl, sym, ap, _∙_}
 use mathlib.Core.Logic.{inl, inr}
 use mathlib.Core.Bool.{Bool, true, false, not, _&&_}
 use mathlib.Core.List.{List, [], _∷_, _++_, map, map-append, append-nil}
-use Prim.Native.Nat.{ℕ, suc, _+_, _≤_, _<_}
+use Prim.Native.Nat.{ℕ, suc, _+_, _≤_}
 use native.Mathlib.Omega.{arith}
 use lib.Dec.{leb}
 use lib.ListN.{length, getD, length-append, length-map}
 use borrow.Author.Tests.{leb-true}
 use Rattle.definition.specs.Code.{Code, result-long}
-use Rattle.definition.specs.Res.{Maybe, absent, just, Res, bad, ok, _>>=_, require}
+use Rattle.definition.specs.Res.{Maybe, absent, Res, ok, _>>=_, require}
 use Rattle.definition.specs.Tree.{Name, CaseKind, Combinator, plain, chained, Inner, leaf, struct, choice, shell, bytes, invocation, macro-invocation, Fields, no-field, field, const, Cases, no-case, case, Definition, format, constant, byte-order, macro}
 use Rattle.definition.specs.Names.{sorted, segment, child, caseSegment, shellSegment, fresh}
-use Rattle.definition.specs.Write.{wName, wText, wSelector, wLabel, wOpen, wShut, sizeOf}
+use Rattle.definition.specs.Write.{wName, wText, wSelector, wLabel, sizeOf}
 use Rattle.definition.specs.Size.{size}
 use Rattle.definition.specs.Collect.{anonymous, free, leftover}
+use Rattle.laws.proofs.Tests.{both-true}
 use Rattle.laws.proofs.Sizes.{sizeI, sizeF, sizeC, head, size-format}
 use Rattle.lifting.specs.Records.{Ref, Record, find, call}
 use Rattle.lifting.specs.After.{chainAt, fieldsAt, casesAt, shellAt, fieldAt, constEnd, caseAt, replaced, out, outI, outF, outC, Lift, itself, lifts, liftsI, liftsF, liftsC, liftsD, liftsAll, firstAt}
-use Rattle.lifting.specs.Trace.{Trace, Binder, Tracing, refs, enter, finish as finishTrace, fits as fitsTrace, bindRef, treeHead, lifting, traceBy, trace, traceI, traceF, traceC, ownBinders, paramsAt, traceAll, begin, traceBook}
+use Rattle.lifting.specs.Trace.{Trace, Binder, Tracing, enter, finish as finishTrace, fits as fitsTrace, bindRef, treeHead, lifting, traceBy, trace, traceI, traceF, traceC, ownBinders, paramsAt, traceAll, begin, traceBook}
 use Rattle.lifting.proofs.Both.{Both, refusals, values, then, first-then}
 use Rattle.lifting.proofs.Found.{Later, later-one, later-on, find-here, find-other, stands-left, stands-right}
 use Rattle.lifting.proofs.Ranges.{apart, in-range, in-rangeI, in-rangeF, in-rangeC, in-rangeK}
 use Rattle.lifting.proofs.Agree.{New, new-left}
 use Rattle.lifting.proofs.Book.{in-rangeAll}
 use Rattle.tables.specs.Rows.{rowOf, lastFrom}
-use Rattle.lift.specs.Bound.{Bound, bindersOf}
+use Rattle.lift.specs.Bound.{Bound}
 use Rattle.lift.specs.Sheet.{Sheet, callSize, headSize, entered, fits, enterWith}
 use Rattle.naming.specs.Walk.{plus, Extent, Start, Step, starts, finish, called, visit, binds, walk, walkI, walkF, walkC}
 use Rattle.walked.specs.Book.{ownBound, walkAll, blank, walkBook}
-use Rattle.walked.specs.Hands.{Hands, WalksAsTraced}
+use Rattle.walked.specs.Hands.{WalksAsTraced}
 use Rattle.walked.proofs.Alike.{lastAt, last-here, last-other, last-kept, Alike, Kept, Did, Makes, nothing-made, one, two, new-right, one-more, rather}
 use Rattle.walked.proofs.Sizes.{cut, extent, cut-once, cut-plain, cut-chained, cut-struct, cut-choice, cut-shell, cut-no-field, cut-field, cut-const, cut-no-case, cut-case, cut-called, near-test, near-exact}
 use Rattle.walked.proofs.Bounds.{Means, means-on, bind-means, own-means, Typed, Each, missing, there, each-both, call-size, head-near}
@@ -43,11 +44,6 @@ module _ {S A B T C : Type 0} {Q : B → S → C → T → Type 0} where
 
 abbrev started : Name → ℕ → Start
 started n k = record { name = n; call = k }
-
--- "and": both hold
-and-left : (a b : Bool) → a && b ≡ true → a ≡ true
-and-left true b e = refl
-and-left false b e = e
 
 module _ (c : Combinator) (p : ℕ) (inside : Step) (trail : Tracing)
     (ih : (n : Name) (env : List Bound) (bs : List Binder) (s : Sheet) (t : Trace) → Alike s t → Means env bs (t .records) → New (lifts c p) (t .records)
@@ -151,7 +147,7 @@ module _ (c : Combinator) (p : ℕ) (inside : Step) (trail : Tracing)
           ok tt (finishTrace p t))
     unfolding enter
     passed-both e =
-        let h = leb-true (grown .bytes) 16384 (and-left (leb (grown .bytes) 16384) (leb (grown .defns) 512) e) in
+        let h = leb-true (grown .bytes) 16384 (both-true (leb (grown .bytes) 16384) (leb (grown .defns) 512) e .0) in
         then (ih n env binders grown (enter treeHead made t) (entered-alike made refl s t m new bs (p + size c) refl q (sum h)) (means-on w (later-made made refl s t m new)) (new-inside made refl s t m new)) _ _ λ z u x v g.
         values (finishes made refl s t m new z u v (callSize n (sorted (free c))) g (call-size made) (omega (arith, left, call-size made)))
 

@@ -1,6 +1,5 @@
 -- The two states of the walk with numbers and of the trace, and what one step of both does.
-use mathlib.Core.Path.{_≡_, refl, sym, ap, _∙_}
-use mathlib.Core.Logic.{_⊎_, inl, inr}
+use mathlib.Core.Path.{_≡_, refl, sym, _∙_}
 use mathlib.Core.Bool.{Bool, true, false, cond}
 use mathlib.Core.List.{List, [], _∷_, _++_, map, map-append}
 use Prim.Native.Nat.{ℕ, suc, _+_, _<_}
@@ -8,8 +7,8 @@ use native.Mathlib.Omega.{arith}
 use lib.Dec.{eqb, ltb}
 use lib.ListN.{length, getD, length-append, length-map, List·getD-append}
 use lib.Seq.{getD-append-seam}
-use borrow.Author.Tests.{ltb-true, ltb-false, eqb-true, eqb-false, eq-eqb, ne-eqb}
-use Rattle.definition.specs.Res.{Maybe, absent, just, Res, bad, ok}
+use borrow.Author.Tests.{ltb-true, ltb-false, eq-eqb, ne-eqb}
+use Rattle.definition.specs.Res.{Maybe, absent, just, Res}
 use Rattle.lifting.specs.Records.{Record, orElse, find}
 use Rattle.lifting.specs.After.{Lift, Stands}
 use Rattle.lifting.specs.Trace.{Trace}

@@ -1,10 +1,9 @@
 -- Binders with sizes for binders with trees; codes 8 and 10.
-use mathlib.Core.Path.{_≡_, refl, sym, ap, _∙_}
-use mathlib.Core.Bool.{Bool, true, false, cond, _&&_}
-use mathlib.Core.List.{List, [], _∷_, _++_, map, map-append}
-use Prim.Native.Nat.{ℕ, _+_, _≤_}
+use mathlib.Core.Path.{_≡_, refl, ap}
+use mathlib.Core.Bool.{Bool, true, false, cond}
+use mathlib.Core.List.{List, [], _∷_, map, map-append}
+use Prim.Native.Nat.{ℕ, _+_}
 use native.Mathlib.Omega.{arith}
-use lib.Dec.{leb}
 use lib.ListN.{length, length-append}
 use Rattle.definition.specs.Code.{no-binder}
 use Rattle.definition.specs.Res.{Maybe, absent, just, Res, bad, ok, _>>=_}
@@ -16,7 +15,7 @@ use Rattle.definition.specs.Macros.{innerOf}
 use Rattle.definition.specs.Collect.{anonymous}
 use Rattle.laws.proofs.Splits.{s-inner}
 use Rattle.laws.proofs.Sizes.{adds, sizeI, head}
-use Rattle.lifting.specs.Records.{Ref, own, passed, Record, find, call}
+use Rattle.lifting.specs.Records.{Ref, passed, Record, find, call}
 use Rattle.lifting.specs.After.{Lift, replaced, out, typeOf, paramsOf}
 use Rattle.lifting.specs.Calls.{namesRoom, callRoom}
 use Rattle.lifting.specs.Trace.{Trace, Binder, first, refOf, refs, bindRef, ownBinders, treeHead}
@@ -45,9 +44,11 @@ pub bind-means : (k : FieldKind) (l : Name) (c : Combinator) (p : ℕ) {env : Li
     → Did (λ rs. extent (replaced (anonymous c) (out c p rs) (find rs p))) ls t z u v → Means (binds k l p (z .inner) env) (bindRef k l c p binders) (v .records)
 unfolding binds bindRef typeOf extent
 bind-means ordinary l c p w g = means-on w (g .later)
-bind-means dependent l c p {binders = binders} {z = z} w g = record { meant = λ rs h.
-    let e : z .inner ≡ cut (sizeI (innerOf (replaced (anonymous c) (out c p rs) (find rs p)))) = ap (λ z. z .inner) (g .says rs h) in
-    rw (map-append (boundOf rs) binders (record { name = l; ref = passed c p } ∷ []), w .meant rs (later-on (g .later) h), e) }
+bind-means dependent l c p {binders = binders} {z = z} w g = record {
+  meant = λ rs h.
+      let e : z .inner ≡ cut (sizeI (innerOf (replaced (anonymous c) (out c p rs) (find rs p)))) = ap (λ z. z .inner) (g .says rs h) in
+      rw (map-append (boundOf rs) binders (record { name = l; ref = passed c p } ∷ []), w .meant rs (later-on (g .later) h), e);
+}
 
 -- the definition's own parameters
 pub own-means : (ps : List Param) (p : ℕ) (rs : List Record) → Means (ownBound ps p) (ownBinders ps p) rs
