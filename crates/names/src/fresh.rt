@@ -20,7 +20,7 @@ struct Free {
     len: usize,
 }
 
-fn name_hash(name: &[u8]) -> u16
+pub fn name_hash(name: &[u8]) -> u16
     ensures { λ r. ⌜ r ≡ hashOf (now (name .entry)) ⌝ }
 {
     let mut h: usize = 0;
