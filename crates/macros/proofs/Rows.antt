@@ -17,8 +17,8 @@ use Rattle.seek.specs.At.{byteAt, pastAt, numberAt}
 use Rattle.seek.specs.Here.{Here}
 use Rattle.lookup.specs.Name.{nameAt}
 use Rattle.lookup.proofs.Names.{stands}
-use Rattle.names.specs.Taken.{hashOf}
-use Rattle.names.proofs.Rows.{hash-ne}
+use Rattle.fresh.specs.Taken.{hashOf}
+use Rattle.fresh.proofs.Rows.{hash-ne}
 use Rattle.macros.specs.declared.table.Found.{Found}
 use Rattle.macros.specs.declared.table.Found.the-variants.{At, Unknown}
 use Rattle.contents.specs.Listed.{Listed}

@@ -12,7 +12,7 @@ use Rattle.definition.specs.Size.{levelsBook}
 use Rattle.definition.specs.Macros.{Macro, macros, instance, innerOf, expandMacro}
 use Rattle.laws.specs.Book.{IsBook}
 use Rattle.seek.specs.Here.{Here}
-use Rattle.names.specs.Taken.{hashOf}
+use Rattle.fresh.specs.Taken.{hashOf}
 use Rattle.contents.specs.Listed.{Listed}
 use Rattle.substitution.specs.Call.{Defined}
 use Rattle.macros.specs.declared.table.Found.{Found}

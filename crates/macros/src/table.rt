@@ -1,7 +1,7 @@
 // The macros of a book in a table: a row for each, with its place and the hash of its name, the last definition in the last row.
+use fresh::name_hash;
 use lookup::name_at;
 use lookup::same_name;
-use names::fresh::name_hash;
 use seek::byte;
 use seek::number;
 use seek::past;

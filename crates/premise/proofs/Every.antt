@@ -20,8 +20,8 @@ use Rattle.seek.proofs.Here.{byte-here, next-here}
 use Rattle.lookup.specs.Name.{nameAt}
 use Rattle.lookup.proofs.Names.{stands}
 use Rattle.writer.proofs.Put.{within}
-use Rattle.names.specs.Taken.{both, Found}
-use Rattle.names.proofs.Rows.{found-not, found-is}
+use Rattle.fresh.specs.Taken.{both, Found}
+use Rattle.fresh.proofs.Rows.{found-not, found-is}
 use Rattle.calls.specs.Splice.{everyPlace}
 use Rattle.premise.specs.Known.{rowNames, knownAt}
 

@@ -4,7 +4,7 @@ use borrow.Author.Needs.{needs}
 use mathlib.Core.Path.{_≡_}
 use Prim.Native.Nat.{_≤_}
 use native.Mathlib.Omega.{arith}
-use Rattle.names.specs.Taken.{hashOf}
+use Rattle.fresh.specs.Taken.{hashOf}
 use Rattle.macros.specs.declared.table.Found.{Found}
 use Rattle.macros.specs.Table.{FindsMacro}
 use Rattle.macros.proofs.Rows.{found-none, found-here, found-on}
@@ -12,7 +12,7 @@ use Rattle.macros.proofs.table.find_macro.Statement.{statement}
 use Rattle.macros.proofs.table.find_macro.Tie as tie
 use Rattle.macros.proofs.table.find_macro.Reads as reads
 use Rattle.macros.proofs.table.find_macro.Lts as lts
-use Rattle.names.proofs.fresh.name_hash.Reads as name-hash-reads
+use Rattle.fresh.proofs.name_hash.Reads as name-hash-reads
 use Rattle.macros.proofs.table.same_row.Reads as same-row-reads
 
 abbrev Inv-loop : tie.InvT-loop

@@ -7,7 +7,7 @@ use Rattle.macros.proofs.table.take_macro.Tie as tie
 use Rattle.macros.proofs.table.take_macro.Reads as reads
 use Rattle.macros.proofs.table.take_macro.Lts as lts
 use Rattle.lookup.proofs.name_at.Reads as name-at-reads
-use Rattle.names.proofs.fresh.name_hash.Reads as name-hash-reads
+use Rattle.fresh.proofs.name_hash.Reads as name-hash-reads
 
 returns : tie.Need-returns
 returns c = taken-not (c .if1 .taken)
