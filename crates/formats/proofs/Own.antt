@@ -9,7 +9,7 @@ use native.Mathlib.Omega.{arith}
 use lib.ListN.{length, getD}
 use lib.Seq.{append-snoc}
 use Rattle.definition.specs.Tree.{Shell, Combinator, plain, chained, Inner, leaf, struct, choice, shell, bytes, invocation, macro-invocation, Param}
-use Rattle.definition.specs.Write.{wU16, wName, wText, wAll, wList, wLen, wInner, wCombinator, wParam}
+use Rattle.definition.specs.Write.{wU16, wName, wText, wAll, wList, wLen, countA, wInner, wInners, wCombinator, wParam}
 use Rattle.definition.specs.Size.{size, levelsI, levelsP}
 use Rattle.laws.proofs.Splits.{s-name}
 use Rattle.laws.proofs.Sizes.{adds, sizeI, size-plain, size-chained, size-struct, size-choice, size-shell}
@@ -29,19 +29,19 @@ use Rattle.formats.specs.Own.{Params, Binds, Own}
 
 -- ---- no type has fewer than three bytes
 mutual
+  unfolding sizeI wCombinator wText wU16 wName wLen wList
   least : (c : Combinator) → 4 ≤ size c
   least (plain i) = omega (arith, size-plain i, least-inner i)
   least (chained i c) = omega (arith, size-chained i c, least-inner i)
 
   pub least-inner : (i : Inner) → 3 ≤ sizeI i
-  unfolding sizeI wCombinator wText wU16 wName wLen wList
   least-inner (leaf k x) = omega arith
   least-inner (struct f) = omega (arith, size-struct f)
   least-inner (choice s k f) = omega (arith, size-choice s k f)
   least-inner (shell x c) = omega (arith, size-shell x c, least c)
   least-inner (bytes l) = omega arith
   least-inner (invocation n a) = omega (arith, adds (wName n) (s-name n) (wList wName a []))
-  least-inner (macro-invocation n a) = omega arith
+  least-inner (macro-invocation n a) = omega (arith, adds (wName n) (s-name n) (wU16 (countA a) (wInners a [])))
 
 -- ---- one parameter
 module _ {s : List ℕ} (short : length s ≤ 16384) {here : ℕ} (x : Param) (z : List ℕ) (h : Here s here (wParam x z)) (d : levelsI (x .type) ≤ 64) where
@@ -150,3 +150,9 @@ unfolding wList wU16
 params-shown {s} {at} {here} {count} eh ec ps after h =
     let k = number-past (length ps) h in
     (ec ∙ number-here (length ps) (wAll wParam ps after) h, rw eh k, eh ∙ omega (arith, here-length h, here-length k))
+
+pub own-all : {s : List ℕ} {at here count : ℕ} → here ≡ pastAt s at 2 → count ≡ numberAt s at → {binders : List ℕ} {r : ℕ}
+    → ((ps : List Param) (after : List ℕ) → Here s here (wAll wParam ps after) → levelsP ps ≤ 64 → count ≡ length ps → Binds s here ps after binders (length ps) r) → Own s at binders r
+own-all {s} {at} {here} {count} eh ec {binders} {r} f = record {
+  says = λ ps after h d. let k = params-shown eh ec ps after h in rw (k .2) at (f ps after (k .1) d (k .0));
+}

@@ -59,3 +59,21 @@ fn take_at_start(s: &[u8], places: &mut [u16], hashes: &mut [u16], hints: &mut [
     n
 }
 
+// The parameters whose count stands at a place become binders; the place behind them.
+fn own_params(s: &[u8], at: usize, binders: &mut [u16]) -> usize
+    requires { ⌜ Params (now s) at × (length (now s) ≤ 16384) × (16384 ≤ length (now binders)) ⌝ }
+    ensures { λ r. ⌜ Own (now (s .entry)) at (now (binders .exit)) r ⌝ }
+{
+    let count = number(s, at) as usize;
+    let mut here = past(s, at, 2);
+    let mut b = 0;
+    while b < count {
+        let kind = name_past(s, here);
+        let end = inner_end(s, kind);
+        put_binder(binders, b, here, kind, 1, end - kind);
+        here = end;
+        b += 1;
+    }
+    here
+}
+
