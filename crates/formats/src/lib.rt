@@ -77,3 +77,56 @@ fn own_params(s: &[u8], at: usize, binders: &mut [u16]) -> usize
     here
 }
 
+// The format at a place: its name, its own parameters, its body.
+fn expand_format(
+    s: &[u8],
+    at: usize,
+    path: &mut [u8],
+    binders: &mut [u16],
+    bound: &mut [u32],
+    uses: &mut [u32],
+    spare: &mut [u32],
+    made: &mut [u8],
+    places: &mut [u16],
+    hashes: &mut [u16],
+    hints: &mut [u16],
+    rows: &mut [u16],
+    params: &mut [u16],
+    numbers: &mut [u16],
+    order: &mut [u16],
+    w: Counts,
+    n: usize,
+) -> Body
+    requires { ⌜ Good (now s) (now made) (now places) (now hashes) (now hints) (now rows) (now params) (now numbers) (now order) w n × Space (now s) (now path) (now binders) (now bound) (now uses) (now spare) × Format (now s) at ⌝ }
+    requires { ⌜ Magic ⌝ }
+    ensures { λ r. ⌜ Formatted (now (s .entry)) at (now (made .entry)) (now (places .entry)) (now (rows .entry)) (now (params .entry)) (now (order .entry)) w n (now (made .exit)) (now (places .exit)) (now (hashes .exit)) (now (hints .exit)) (now (rows .exit)) (now (params .exit)) (now (numbers .exit)) (now (order .exit)) r ⌝ }
+{
+    let len = put_bytes(name_at(s, at), path, 0);
+    let list = name_past(s, at);
+    let b = number(s, list) as usize;
+    let body = own_params(s, list, binders);
+    let end = combinator_end(s, body, 64);
+    expand_combinator(
+        s,
+        body,
+        end,
+        path,
+        len,
+        binders,
+        b,
+        bound,
+        uses,
+        spare,
+        made,
+        places,
+        hashes,
+        hints,
+        rows,
+        params,
+        numbers,
+        order,
+        w,
+        n,
+    )
+}
+
