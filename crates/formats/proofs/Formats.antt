@@ -94,3 +94,35 @@ module _ {s : List ℕ} {at : ℕ} (short : length s ≤ 16384) {list : ℕ} (el
           let e : boundFrom s binders 0 b ≡ ownBound ps (paramsAt at m) = rw (count m ps c z h dp dc, ← (list-at m ps c z h)) (g .bound) in
           rw (← e, ← (body-at m ps c z h (g .rest))) (walks .walks c m (whole m ps c z h dp dc) (held (rw (named m ps c z h) at put)));
     }
+
+-- ---- a definition by its kind
+ends-after : (m : Res Sheet Extent) (r : Body) (sheet : Counts → ℕ → Sheet) (good : Counts → ℕ → Type 0) → Ends m r sheet good → Ends (m >>= (λ x. ok (tt {0}) (x .1))) r sheet good
+unfolding Ends
+ends-after (bad k t) (Refused c) sheet good h = h
+ends-after (ok z t) (Named v n) sheet good h = h
+ends-after (bad k t) (Named v n) sheet good h = h
+ends-after (ok z t) (Refused c) sheet good h = h
+
+module _ {s : List ℕ} {kind at : ℕ} {made places rows params order : List ℕ} {w : Counts} {n : ℕ} where
+  pub defined-format : kind ≡ 1 → {made′ places′ hashes′ hints′ rows′ params′ number′ order′ : List ℕ} {r : Body} → Formatted s at made places rows params order w n made′ places′ hashes′ hints′ rows′ params′ number′ order′ r
+      → Defined s kind at made places rows params order w n made′ places′ hashes′ hints′ rows′ params′ number′ order′ r
+  unfolding walkAll kindByte kindOf levelsBook
+  defined-format k {made′} {places′} {hashes′} {hints′} {rows′} {params′} {number′} {order′} {r} f = record { says = λ d z h e l. of d z h e l }
+    where
+      of : (d : Definition) (z : List ℕ) → Here s at (wDefinition d z) → kind ≡ kindByte (kindOf d) → levelsBook (d ∷ []) ≤ 64
+          → EndsIn (walkAll (d ∷ []) at (sheetOf s made places rows params (take n order) w)) s made′ places′ hashes′ hints′ rows′ params′ number′ order′ r
+      of (format m ps c) z h e l = ends-after _ r _ _ (f .says m ps c z h (omega arith) (omega arith))
+      of (constant m x) z h e l = absurd (omega arith)
+      of (byte-order x) z h e l = absurd (omega arith)
+      of (macro m ps c) z h e l = absurd (omega arith)
+
+  pub defined-none : (kind ≡ 1 → ⊥) → {hashes hints number : List ℕ} → Good s made places hashes hints rows params number order w n
+      → Defined s kind at made places rows params order w n made places hashes hints rows params number order (Named w n)
+  unfolding walkAll kindByte kindOf Ends
+  defined-none k {hashes} {hints} {number} g = record { says = λ d z h e l. of d e }
+    where
+      of : (d : Definition) → kind ≡ kindByte (kindOf d) → EndsIn (walkAll (d ∷ []) at (sheetOf s made places rows params (take n order) w)) s made places hashes hints rows params number order (Named w n)
+      of (format m ps c) e = absurd (k e)
+      of (constant m x) e = (refl, g)
+      of (byte-order x) e = (refl, g)
+      of (macro m ps c) e = (refl, g)

@@ -1,3 +1,4 @@
 mod Rows
 mod Own
 mod Formats
+mod Order

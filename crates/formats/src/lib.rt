@@ -130,3 +130,103 @@ fn expand_format(
     )
 }
 
+// The definition at a place: only a format has a body to walk.
+fn expand_definition(
+    s: &[u8],
+    kind: u8,
+    at: usize,
+    path: &mut [u8],
+    binders: &mut [u16],
+    bound: &mut [u32],
+    uses: &mut [u32],
+    spare: &mut [u32],
+    made: &mut [u8],
+    places: &mut [u16],
+    hashes: &mut [u16],
+    hints: &mut [u16],
+    rows: &mut [u16],
+    params: &mut [u16],
+    numbers: &mut [u16],
+    order: &mut [u16],
+    w: Counts,
+    n: usize,
+) -> Body
+    requires { ⌜ Good (now s) (now made) (now places) (now hashes) (now hints) (now rows) (now params) (now numbers) (now order) w n × Space (now s) (now path) (now binders) (now bound) (now uses) (now spare) × (kind ≡ 1 → Format (now s) at) ⌝ }
+    requires { ⌜ Magic ⌝ }
+    ensures { λ r. ⌜ Defined (now (s .entry)) kind at (now (made .entry)) (now (places .entry)) (now (rows .entry)) (now (params .entry)) (now (order .entry)) w n (now (made .exit)) (now (places .exit)) (now (hashes .exit)) (now (hints .exit)) (now (rows .exit)) (now (params .exit)) (now (numbers .exit)) (now (order .exit)) r ⌝ }
+{
+    if kind == 1 {
+        return expand_format(
+            s,
+            at,
+            path,
+            binders,
+            bound,
+            uses,
+            spare,
+            made,
+            places,
+            hashes,
+            hints,
+            rows,
+            params,
+            numbers,
+            order,
+            w,
+            n,
+        );
+    }
+    Body::Named(w, n)
+}
+
+// "Definitions in order", as the contents list them.
+fn expand_in_order(
+    s: &[u8],
+    path: &mut [u8],
+    binders: &mut [u16],
+    bound: &mut [u32],
+    uses: &mut [u32],
+    spare: &mut [u32],
+    made: &mut [u8],
+    places: &mut [u16],
+    hashes: &mut [u16],
+    hints: &mut [u16],
+    rows: &mut [u16],
+    params: &mut [u16],
+    numbers: &mut [u16],
+    order: &mut [u16],
+    start: Counts,
+) -> Body
+    requires { ⌜ Good (now s) (now made) (now places) (now hashes) (now hints) (now rows) (now params) (now numbers) (now order) start 0 × Space (now s) (now path) (now binders) (now bound) (now uses) (now spare) × Book (now s) ⌝ }
+    requires { ⌜ Magic ⌝ }
+    ensures { λ r. ⌜ InOrder (now (s .entry)) (now (made .entry)) (now (places .entry)) (now (rows .entry)) (now (params .entry)) (now (order .entry)) start (now (made .exit)) (now (places .exit)) (now (hashes .exit)) (now (hints .exit)) (now (rows .exit)) (now (params .exit)) (now (numbers .exit)) (now (order .exit)) r ⌝ }
+{
+    let mut left = number(s, 0) as usize;
+    let mut entry = past(s, 0, 2);
+    let mut at = past(s, 2, 6 * left);
+    let mut w = start;
+    let mut n = 0;
+    while 0 < left {
+        let kind = byte(s, entry);
+        let sized = past(s, entry, 4);
+        let size = number(s, sized) as usize;
+        let here = at;
+        at = past(s, at, size);
+        entry = past(s, entry, 6);
+        left -= 1;
+        match expand_definition(
+            s, kind, here, path, binders, bound, uses, spare, made, places, hashes, hints, rows,
+            params, numbers, order, w, n,
+        ) {
+            Body::Refused(c) => {
+                return Body::Refused(c);
+            }
+            Body::Named(v, m) => {
+                w = v;
+                n = m;
+            }
+        }
+    }
+    Body::Named(w, n)
+}
+
