@@ -1,204 +1,154 @@
+-- `formats::expand_in_order` meets its contract.
+-- Assumes nothing.
+use mathlib.Core.Path.{_≡_, refl, ap, _∙_}
+use native.Mathlib.Omega.{arith}
 use borrow.Author.Needs.{needs}
+use Rattle.formats.proofs.Order.{Going, Lengths, going, going-format, going-step, going-refused, going-all, kept}
 use Rattle.formats.proofs.expand_in_order.Statement.{statement}
 use Rattle.formats.proofs.expand_in_order.Tie as tie
-use Rattle.formats.proofs.expand_in_order.Reads as reads
-use Rattle.formats.proofs.expand_in_order.Lts as lts
-use Rattle.formats.proofs.expand_definition.Reads as expand-definition-reads
-use Rattle.seek.proofs.byte.Reads as byte-reads
-use Rattle.seek.proofs.number.Reads as number-reads
-use Rattle.seek.proofs.past.Reads as past-reads
 
 abbrev Inv-loop : tie.InvT-loop
 Inv-loop s path₀ binders₀ bound₀ uses₀ spare₀ made₀ places₀ hashes₀ hints₀ rows₀ params₀ numbers₀ order₀ left₀ entry₀ at₀ w₀ n₀ path binders bound uses spare made places hashes hints rows params numbers order left entry at w n =
-    ?
+    Going s made₀ places₀ rows₀ params₀ order₀ w₀ made places hashes hints rows params numbers order w n entry at left
+    × Lengths path₀ binders₀ bound₀ uses₀ spare₀ made₀ places₀ hashes₀ hints₀ rows₀ params₀ numbers₀ order₀ path binders bound uses spare made places hashes hints rows params numbers order
 
 abbrev μ-loop : tie.MeasureT-loop
 μ-loop s path₀ binders₀ bound₀ uses₀ spare₀ made₀ places₀ hashes₀ hints₀ rows₀ params₀ numbers₀ order₀ left₀ entry₀ at₀ w₀ n₀ path binders bound uses spare made places hashes hints rows params numbers order left entry at w n =
-    ?
+    left
 
--- src/lib.rt:204:20
-number-requires : tie.Need-number-requires Inv-loop μ-loop
-number-requires c κs = search needs
-
--- src/lib.rt:204:20
-cast-left : tie.Need-cast-left Inv-loop μ-loop
-cast-left c = search needs
-
--- src/lib.rt:205:9
-past-requires : tie.Need-past-requires Inv-loop μ-loop
-past-requires c κs = search needs
-
--- src/lib.rt:206:29
-mul-past : tie.Need-mul-past Inv-loop μ-loop
-mul-past c = search needs
-
--- src/lib.rt:206:9
-past-requires-2 : tie.Need-past-requires-2 Inv-loop μ-loop
-past-requires-2 c κs = search needs
-
--- src/lib.rt:209:5
 loop-holds : tie.Need-loop-holds Inv-loop μ-loop
-loop-holds c = search needs
+loop-holds c = (
+  going (c .before .before .before .before .before .before .before .before .before .before .before .before .before .before .before .before .before .pre .0 .0) (c .before .before .number .ensures) (c .before .past .ensures) (c .past2 .ensures),
+  record {
+    path-is = refl;
+    binders-is = refl;
+    bound-is = refl;
+    uses-is = refl;
+    spare-is = refl;
+    made-is = refl;
+    places-is = refl;
+    hashes-is = refl;
+    hints-is = refl;
+    rows-is = refl;
+    params-is = refl;
+    number-is = refl;
+    order-is = refl;
+  },
+)
 
--- src/lib.rt:210:13
-byte-requires : tie.Need-byte-requires Inv-loop μ-loop
-byte-requires c κs = search needs
-
--- src/lib.rt:211:13
-past-requires-3 : tie.Need-past-requires-3 Inv-loop μ-loop
-past-requires-3 c κs = search needs
-
--- src/lib.rt:212:20
-number-requires-2 : tie.Need-number-requires-2 Inv-loop μ-loop
-number-requires-2 c κs = search needs
-
--- src/lib.rt:212:20
-cast-size : tie.Need-cast-size Inv-loop μ-loop
-cast-size c = search needs
-
--- src/lib.rt:214:9
-past-requires-4 : tie.Need-past-requires-4 Inv-loop μ-loop
-past-requires-4 c κs = search needs
-
--- src/lib.rt:215:9
-past-requires-5 : tie.Need-past-requires-5 Inv-loop μ-loop
-past-requires-5 c κs = search needs
-
--- src/lib.rt:216:9
-sub-left : tie.Need-sub-left Inv-loop μ-loop
-sub-left c = search needs
-
--- src/lib.rt:217:15
 expand-definition-requires : tie.Need-expand-definition-requires Inv-loop μ-loop
-expand-definition-requires c κs = search needs
+expand-definition-requires c κs =
+    let p = c .before .before .before .before .before .before .before .before .before .before .before .before .before .before .before .before .before .before .before .before .before .before .before .before .before .before .before .before .before .before .before .before .before .before .before .before .before .pre .0 in
+    let i = c .before .before .before .before .before .before .before .before .before .before .before .before .before .before .before .before .before .before .before .loop .inv in
+    ((i .0 .good, kept (p .1) (i .1), going-format (i .0) (c .before .before .before .before .before .before .before .before .before .before .before .before .before .before .before .before .before .before .loop-test .taken) (c .before .before .before .before .before .before .before .before .before .before .before .before .before .before .before .before .before .byte .ensures) (p .2)), c .before .before .before .before .before .before .before .before .before .before .before .before .before .before .before .before .before .before .before .before .before .before .before .before .before .before .before .before .before .before .before .before .before .before .before .before .before .pre .1)
 
--- src/lib.rt:221:27
-enum-known-c : tie.Need-enum-known-c Inv-loop μ-loop
-enum-known-c c = search needs
+same-path : tie.Need-same-length Inv-loop μ-loop
+same-path c = c .before .before .before .before .before .before .before .before .before .before .before .before .before .before .before .before .before .before .before .before .before .before .before .before .before .before .before .before .path .given ∙ c .before .before .before .before .before .before .before .before .before .before .before .before .before .before .before .before .before .before .before .before .before .before .before .before .before .before .before .before .before .before .before .before .before .before .before .before .before .before .before .before .before .before .before .before .before .before .before .before .before .loop .inv .1 .path-is
 
--- src/lib.rt:222:17
-same-length : tie.Need-same-length Inv-loop μ-loop
-same-length c = search needs
+same-binders : tie.Need-same-length-2 Inv-loop μ-loop
+same-binders c = c .before .before .before .before .before .before .before .before .before .before .before .before .before .before .before .before .before .before .before .before .before .before .before .before .before .before .binders .given ∙ c .before .before .before .before .before .before .before .before .before .before .before .before .before .before .before .before .before .before .before .before .before .before .before .before .before .before .before .before .before .before .before .before .before .before .before .before .before .before .before .before .before .before .before .before .before .before .before .before .before .loop .inv .1 .binders-is
 
--- src/lib.rt:222:17
-same-length-2 : tie.Need-same-length-2 Inv-loop μ-loop
-same-length-2 c = search needs
+same-bound : tie.Need-same-length-3 Inv-loop μ-loop
+same-bound c = c .before .before .before .before .before .before .before .before .before .before .before .before .before .before .before .before .before .before .before .before .before .before .before .before .bound .given ∙ c .before .before .before .before .before .before .before .before .before .before .before .before .before .before .before .before .before .before .before .before .before .before .before .before .before .before .before .before .before .before .before .before .before .before .before .before .before .before .before .before .before .before .before .before .before .before .before .before .before .loop .inv .1 .bound-is
 
--- src/lib.rt:222:17
-same-length-3 : tie.Need-same-length-3 Inv-loop μ-loop
-same-length-3 c = search needs
+same-uses : tie.Need-same-length-4 Inv-loop μ-loop
+same-uses c = c .before .before .before .before .before .before .before .before .before .before .before .before .before .before .before .before .before .before .before .before .before .before .uses .given ∙ c .before .before .before .before .before .before .before .before .before .before .before .before .before .before .before .before .before .before .before .before .before .before .before .before .before .before .before .before .before .before .before .before .before .before .before .before .before .before .before .before .before .before .before .before .before .before .before .before .before .loop .inv .1 .uses-is
 
--- src/lib.rt:222:17
-same-length-4 : tie.Need-same-length-4 Inv-loop μ-loop
-same-length-4 c = search needs
+same-spare : tie.Need-same-length-5 Inv-loop μ-loop
+same-spare c = c .before .before .before .before .before .before .before .before .before .before .before .before .before .before .before .before .before .before .before .before .spare .given ∙ c .before .before .before .before .before .before .before .before .before .before .before .before .before .before .before .before .before .before .before .before .before .before .before .before .before .before .before .before .before .before .before .before .before .before .before .before .before .before .before .before .before .before .before .before .before .before .before .before .before .loop .inv .1 .spare-is
 
--- src/lib.rt:222:17
-same-length-5 : tie.Need-same-length-5 Inv-loop μ-loop
-same-length-5 c = search needs
+same-made : tie.Need-same-length-6 Inv-loop μ-loop
+same-made c = c .before .before .before .before .before .before .before .before .before .before .before .before .before .before .before .before .before .before .made .given ∙ c .before .before .before .before .before .before .before .before .before .before .before .before .before .before .before .before .before .before .before .before .before .before .before .before .before .before .before .before .before .before .before .before .before .before .before .before .before .before .before .before .before .before .before .before .before .before .before .before .before .loop .inv .1 .made-is
 
--- src/lib.rt:222:17
-same-length-6 : tie.Need-same-length-6 Inv-loop μ-loop
-same-length-6 c = search needs
+same-places : tie.Need-same-length-7 Inv-loop μ-loop
+same-places c = c .before .before .before .before .before .before .before .before .before .before .before .before .before .before .before .before .places .given ∙ c .before .before .before .before .before .before .before .before .before .before .before .before .before .before .before .before .before .before .before .before .before .before .before .before .before .before .before .before .before .before .before .before .before .before .before .before .before .before .before .before .before .before .before .before .before .before .before .before .before .loop .inv .1 .places-is
 
--- src/lib.rt:222:17
-same-length-7 : tie.Need-same-length-7 Inv-loop μ-loop
-same-length-7 c = search needs
+same-hashes : tie.Need-same-length-8 Inv-loop μ-loop
+same-hashes c = c .before .before .before .before .before .before .before .before .before .before .before .before .before .before .hashes .given ∙ c .before .before .before .before .before .before .before .before .before .before .before .before .before .before .before .before .before .before .before .before .before .before .before .before .before .before .before .before .before .before .before .before .before .before .before .before .before .before .before .before .before .before .before .before .before .before .before .before .before .loop .inv .1 .hashes-is
 
--- src/lib.rt:222:17
-same-length-8 : tie.Need-same-length-8 Inv-loop μ-loop
-same-length-8 c = search needs
+same-hints : tie.Need-same-length-9 Inv-loop μ-loop
+same-hints c = c .before .before .before .before .before .before .before .before .before .before .before .before .hints .given ∙ c .before .before .before .before .before .before .before .before .before .before .before .before .before .before .before .before .before .before .before .before .before .before .before .before .before .before .before .before .before .before .before .before .before .before .before .before .before .before .before .before .before .before .before .before .before .before .before .before .before .loop .inv .1 .hints-is
 
--- src/lib.rt:222:17
-same-length-9 : tie.Need-same-length-9 Inv-loop μ-loop
-same-length-9 c = search needs
+same-rows : tie.Need-same-length-10 Inv-loop μ-loop
+same-rows c = c .before .before .before .before .before .before .before .before .before .before .rows .given ∙ c .before .before .before .before .before .before .before .before .before .before .before .before .before .before .before .before .before .before .before .before .before .before .before .before .before .before .before .before .before .before .before .before .before .before .before .before .before .before .before .before .before .before .before .before .before .before .before .before .before .loop .inv .1 .rows-is
 
--- src/lib.rt:222:17
-same-length-10 : tie.Need-same-length-10 Inv-loop μ-loop
-same-length-10 c = search needs
+same-params : tie.Need-same-length-11 Inv-loop μ-loop
+same-params c = c .before .before .before .before .before .before .before .before .params .given ∙ c .before .before .before .before .before .before .before .before .before .before .before .before .before .before .before .before .before .before .before .before .before .before .before .before .before .before .before .before .before .before .before .before .before .before .before .before .before .before .before .before .before .before .before .before .before .before .before .before .before .loop .inv .1 .params-is
 
--- src/lib.rt:222:17
-same-length-11 : tie.Need-same-length-11 Inv-loop μ-loop
-same-length-11 c = search needs
+same-numbers : tie.Need-same-length-12 Inv-loop μ-loop
+same-numbers c = c .before .before .before .before .before .before .numbers .given ∙ c .before .before .before .before .before .before .before .before .before .before .before .before .before .before .before .before .before .before .before .before .before .before .before .before .before .before .before .before .before .before .before .before .before .before .before .before .before .before .before .before .before .before .before .before .before .before .before .before .before .loop .inv .1 .number-is
 
--- src/lib.rt:222:17
-same-length-12 : tie.Need-same-length-12 Inv-loop μ-loop
-same-length-12 c = search needs
+same-order : tie.Need-same-length-13 Inv-loop μ-loop
+same-order c = c .before .before .before .before .order .given ∙ c .before .before .before .before .before .before .before .before .before .before .before .before .before .before .before .before .before .before .before .before .before .before .before .before .before .before .before .before .before .before .before .before .before .before .before .before .before .before .before .before .before .before .before .before .before .before .before .before .before .loop .inv .1 .order-is
 
--- src/lib.rt:222:17
-same-length-13 : tie.Need-same-length-13 Inv-loop μ-loop
-same-length-13 c = search needs
-
--- src/lib.rt:222:17
 returns : tie.Need-returns Inv-loop μ-loop
-returns c = search needs
+returns c = going-refused (c .before .before .before .before .before .before .before .before .before .before .before .before .before .before .before .before .before .before .before .before .before .before .before .before .before .before .before .before .before .before .before .before .before .before .before .before .before .before .before .before .before .before .before .before .before .before .before .before .before .loop .inv .0) (c .before .before .before .before .before .before .before .before .before .before .before .before .before .before .before .before .before .before .before .before .before .before .before .before .before .before .before .before .before .before .before .before .before .before .before .before .before .before .before .before .before .before .before .before .before .before .before .before .loop-test .taken) (c .before .before .before .before .before .before .before .before .before .before .before .before .before .before .before .before .before .before .before .before .before .before .before .before .before .before .before .before .before .before .before .before .before .before .before .before .before .before .before .before .before .before .before .before .before .before .before .byte .ensures) (rw (c .before .c .given .1) at (c .before .before .before .before .before .before .before .before .before .before .before .before .before .before .before .before .before .before .before .before .before .before .before .before .before .before .before .before .before .expand-definition .ensures))
 
--- src/lib.rt:224:25
-enum-known-v : tie.Need-enum-known-v Inv-loop μ-loop
-enum-known-v c = search needs
-
--- src/lib.rt:209:5
 loop-less : tie.Need-loop-less Inv-loop μ-loop
-loop-less c = search needs
+loop-less c = omega (arith, c .before .before .before .before .before .before .before .before .before .before .before .before .before .before .before .before .before .before .before .before .before .before .before .before .before .before .before .before .before .before .before .before .before .before .before .before .before .before .before .before .before .before .before .before .before .before .before .before .loop-test .taken)
 
--- src/lib.rt:209:5
 loop-again : tie.Need-loop-again Inv-loop μ-loop
-loop-again c = search needs
+loop-again c =
+    let i = c .before .before .before .before .before .before .before .before .before .before .before .before .before .before .before .before .before .before .before .before .before .before .before .before .before .before .before .before .before .before .before .before .before .before .before .before .before .before .before .before .before .before .before .before .before .before .before .before .before .loop .inv in (
+      going-step (i .0) (c .before .before .before .before .before .before .before .before .before .before .before .before .before .before .before .before .before .before .before .before .before .before .before .before .before .before .before .before .before .before .before .before .before .before .before .before .before .before .before .before .before .before .before .before .before .before .before .before .loop-test .taken) (c .before .before .before .before .before .before .before .before .before .before .before .before .before .before .before .before .before .before .before .before .before .before .before .before .before .before .before .before .before .before .before .before .before .before .before .before .before .before .before .before .before .before .before .before .before .before .before .byte .ensures) (rw (c .before .v .given .1) at (c .before .before .before .before .before .before .before .before .before .before .before .before .before .before .before .before .before .before .before .before .before .before .before .before .before .before .before .before .before .expand-definition .ensures)) (c .before .before .before .before .before .before .before .before .before .before .before .before .before .before .before .before .before .before .before .before .before .before .before .before .before .before .before .before .before .before .before .before .before .before .before .before .before .before .before .before .before .before .before .before .before .before .before .before .before .before .before .before .before .before .before .before .before .before .before .before .before .before .before .before .before .before .before .pre .0 .2) (c .before .before .before .before .before .before .before .before .before .before .before .before .before .before .before .before .before .before .before .before .before .before .before .before .before .before .before .before .before .before .before .before .before .before .before .before .before .before .before .before .before .before .before .before .before .number2 .ensures ∙ rw (c .before .before .before .before .before .before .before .before .before .before .before .before .before .before .before .before .before .before .before .before .before .before .before .before .before .before .before .before .before .before .before .before .before .before .before .before .before .before .before .before .before .before .before .before .before .before .past3 .ensures)) (c .before .before .before .before .before .before .before .before .before .before .before .before .before .before .before .before .before .before .before .before .before .before .before .before .before .before .before .before .before .before .before .before .before .before .before .before .before .before .before .before .before .before .before .before .past4 .ensures) (c .before .before .before .before .before .before .before .before .before .before .before .before .before .before .before .before .before .before .before .before .before .before .before .before .before .before .before .before .before .before .before .before .before .before .before .before .before .before .before .before .before .before .before .past5 .ensures),
+      record {
+        path-is = c .before .before .before .before .before .before .before .before .before .before .before .before .before .before .before .before .before .before .before .before .before .before .before .before .before .before .before .before .path .given ∙ i .1 .path-is;
+        binders-is = c .before .before .before .before .before .before .before .before .before .before .before .before .before .before .before .before .before .before .before .before .before .before .before .before .before .before .binders .given ∙ i .1 .binders-is;
+        bound-is = c .before .before .before .before .before .before .before .before .before .before .before .before .before .before .before .before .before .before .before .before .before .before .before .before .bound .given ∙ i .1 .bound-is;
+        uses-is = c .before .before .before .before .before .before .before .before .before .before .before .before .before .before .before .before .before .before .before .before .before .before .uses .given ∙ i .1 .uses-is;
+        spare-is = c .before .before .before .before .before .before .before .before .before .before .before .before .before .before .before .before .before .before .before .before .spare .given ∙ i .1 .spare-is;
+        made-is = c .before .before .before .before .before .before .before .before .before .before .before .before .before .before .before .before .before .before .made .given ∙ i .1 .made-is;
+        places-is = c .before .before .before .before .before .before .before .before .before .before .before .before .before .before .before .before .places .given ∙ i .1 .places-is;
+        hashes-is = c .before .before .before .before .before .before .before .before .before .before .before .before .before .before .hashes .given ∙ i .1 .hashes-is;
+        hints-is = c .before .before .before .before .before .before .before .before .before .before .before .before .hints .given ∙ i .1 .hints-is;
+        rows-is = c .before .before .before .before .before .before .before .before .before .before .rows .given ∙ i .1 .rows-is;
+        params-is = c .before .before .before .before .before .before .before .before .params .given ∙ i .1 .params-is;
+        number-is = c .before .before .before .before .before .before .numbers .given ∙ i .1 .number-is;
+        order-is = c .before .before .before .before .order .given ∙ i .1 .order-is;
+      },
+    )
 
--- src/lib.rt:183:1
-same-length-14 : tie.Need-same-length-14 Inv-loop μ-loop
-same-length-14 c = search needs
+end-path : tie.Need-same-length-14 Inv-loop μ-loop
+end-path c = c .before .loop .inv .1 .path-is
 
--- src/lib.rt:183:1
-same-length-15 : tie.Need-same-length-15 Inv-loop μ-loop
-same-length-15 c = search needs
+end-binders : tie.Need-same-length-15 Inv-loop μ-loop
+end-binders c = c .before .loop .inv .1 .binders-is
 
--- src/lib.rt:183:1
-same-length-16 : tie.Need-same-length-16 Inv-loop μ-loop
-same-length-16 c = search needs
+end-bound : tie.Need-same-length-16 Inv-loop μ-loop
+end-bound c = c .before .loop .inv .1 .bound-is
 
--- src/lib.rt:183:1
-same-length-17 : tie.Need-same-length-17 Inv-loop μ-loop
-same-length-17 c = search needs
+end-uses : tie.Need-same-length-17 Inv-loop μ-loop
+end-uses c = c .before .loop .inv .1 .uses-is
 
--- src/lib.rt:183:1
-same-length-18 : tie.Need-same-length-18 Inv-loop μ-loop
-same-length-18 c = search needs
+end-spare : tie.Need-same-length-18 Inv-loop μ-loop
+end-spare c = c .before .loop .inv .1 .spare-is
 
--- src/lib.rt:183:1
-same-length-19 : tie.Need-same-length-19 Inv-loop μ-loop
-same-length-19 c = search needs
+end-made : tie.Need-same-length-19 Inv-loop μ-loop
+end-made c = c .before .loop .inv .1 .made-is
 
--- src/lib.rt:183:1
-same-length-20 : tie.Need-same-length-20 Inv-loop μ-loop
-same-length-20 c = search needs
+end-places : tie.Need-same-length-20 Inv-loop μ-loop
+end-places c = c .before .loop .inv .1 .places-is
 
--- src/lib.rt:183:1
-same-length-21 : tie.Need-same-length-21 Inv-loop μ-loop
-same-length-21 c = search needs
+end-hashes : tie.Need-same-length-21 Inv-loop μ-loop
+end-hashes c = c .before .loop .inv .1 .hashes-is
 
--- src/lib.rt:183:1
-same-length-22 : tie.Need-same-length-22 Inv-loop μ-loop
-same-length-22 c = search needs
+end-hints : tie.Need-same-length-22 Inv-loop μ-loop
+end-hints c = c .before .loop .inv .1 .hints-is
 
--- src/lib.rt:183:1
-same-length-23 : tie.Need-same-length-23 Inv-loop μ-loop
-same-length-23 c = search needs
+end-rows : tie.Need-same-length-23 Inv-loop μ-loop
+end-rows c = c .before .loop .inv .1 .rows-is
 
--- src/lib.rt:183:1
-same-length-24 : tie.Need-same-length-24 Inv-loop μ-loop
-same-length-24 c = search needs
+end-params : tie.Need-same-length-24 Inv-loop μ-loop
+end-params c = c .before .loop .inv .1 .params-is
 
--- src/lib.rt:183:1
-same-length-25 : tie.Need-same-length-25 Inv-loop μ-loop
-same-length-25 c = search needs
+end-numbers : tie.Need-same-length-25 Inv-loop μ-loop
+end-numbers c = c .before .loop .inv .1 .number-is
 
--- src/lib.rt:183:1
-same-length-26 : tie.Need-same-length-26 Inv-loop μ-loop
-same-length-26 c = search needs
+end-order : tie.Need-same-length-26 Inv-loop μ-loop
+end-order c = c .before .loop .inv .1 .order-is
 
--- src/lib.rt:183:1
 returns-2 : tie.Need-returns-2 Inv-loop μ-loop
-returns-2 c = search needs
+returns-2 c = going-all (c .before .loop .inv .0) (omega (arith, c .loop-test .left))
 
 pub expand-in-order-spec : {M : Type 1} → statement M
 expand-in-order-spec =
@@ -206,49 +156,49 @@ expand-in-order-spec =
     (tie.spec
     Inv-loop
     μ-loop
-    number-requires
-    cast-left
-    past-requires
-    mul-past
-    past-requires-2
+    (λ c κs. search needs)
+    (λ c. search needs)
+    (λ c κs. search needs)
+    (λ c. search needs)
+    (λ c κs. search needs)
     loop-holds
-    byte-requires
-    past-requires-3
-    number-requires-2
-    cast-size
-    past-requires-4
-    past-requires-5
-    sub-left
+    (λ c κs. search needs)
+    (λ c κs. search needs)
+    (λ c κs. search needs)
+    (λ c. search needs)
+    (λ c κs. search needs)
+    (λ c κs. search needs)
+    (λ c. search needs)
     expand-definition-requires
-    enum-known-c
-    same-length
-    same-length-2
-    same-length-3
-    same-length-4
-    same-length-5
-    same-length-6
-    same-length-7
-    same-length-8
-    same-length-9
-    same-length-10
-    same-length-11
-    same-length-12
-    same-length-13
+    (λ c. search needs)
+    same-path
+    same-binders
+    same-bound
+    same-uses
+    same-spare
+    same-made
+    same-places
+    same-hashes
+    same-hints
+    same-rows
+    same-params
+    same-numbers
+    same-order
     returns
-    enum-known-v
+    (λ c. search needs)
     loop-less
     loop-again
-    same-length-14
-    same-length-15
-    same-length-16
-    same-length-17
-    same-length-18
-    same-length-19
-    same-length-20
-    same-length-21
-    same-length-22
-    same-length-23
-    same-length-24
-    same-length-25
-    same-length-26
+    end-path
+    end-binders
+    end-bound
+    end-uses
+    end-spare
+    end-made
+    end-places
+    end-hashes
+    end-hints
+    end-rows
+    end-params
+    end-numbers
+    end-order
     returns-2)
