@@ -2,3 +2,4 @@ mod Rows
 mod Own
 mod Formats
 mod Order
+mod Start

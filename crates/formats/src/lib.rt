@@ -230,3 +230,39 @@ fn expand_in_order(
     Body::Named(w, n)
 }
 
+// The naming pass: the tables then hold the lifts in walk order, the number of each at its place, and their order; or document 01's number of a refusal.
+pub fn expand_definitions(
+    s: &[u8],
+    made: &mut [u8],
+    rows: &mut [u16],
+    params: &mut [u16],
+    number: &mut [u16],
+    order: &mut [u16],
+) -> Body
+    requires { ⌜ Starts (now s) (now made) (now rows) (now params) (now number) (now order) ⌝ }
+    requires { ⌜ Magic ⌝ }
+    ensures { λ r. ⌜ Expands (now (s .entry)) (now (made .exit)) (now (rows .exit)) (now (params .exit)) (now (number .exit)) (now (order .exit)) r ⌝ }
+{
+    let mut path = [0u8; 255];
+    let mut binders = [0u16; 16384];
+    let mut bound = [0u32; 16384];
+    let mut uses = [0u32; 16384];
+    let mut spare = [0u32; 16384];
+    let mut places = [0u16; 512];
+    let mut hashes = [0u16; 512];
+    let mut hints = [0u16; 512];
+    let taken = take_at_start(s, &mut places, &mut hashes, &mut hints);
+    let defns = seek::number(s, 0) as usize;
+    let w = Counts {
+        taken,
+        end: 0,
+        lifts: 0,
+        params: 0,
+        bytes: s.len(),
+        defns,
+    };
+    expand_in_order(
+        s, &mut path, &mut binders, &mut bound, &mut uses, &mut spare, made, &mut places,
+        &mut hashes, &mut hints, rows, params, number, order, w,
+    )
+}
