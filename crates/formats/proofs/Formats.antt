@@ -1,15 +1,15 @@
 -- One definition: a format's name, its own parameters and its body.
 -- Assumes nothing.
-use mathlib.Core.Path.{_≡_, refl, sym, ap, _∙_}
+use mathlib.Core.Path.{_≡_, refl, sym, _∙_}
 use mathlib.Core.List.{List, [], _∷_}
-use Prim.Native.Nat.{ℕ, zero, suc, _+_, _*_, _≤_, _<_, min}
+use Prim.Native.Nat.{ℕ, _+_, _≤_}
 use native.Mathlib.Omega.{arith}
 use lib.ListN.{length, take}
 use lib.Seq.{take-nil}
 use Rattle.definition.specs.Res.{Res, bad, ok, _>>=_}
 use Rattle.definition.specs.Tree.{Name, Combinator, Param, Definition, format, constant, byte-order, macro}
-use Rattle.definition.specs.Write.{wName, wList, wParam, wCombinator, wDefinition, kindOf, kindByte, wAll, wU16}
-use Rattle.definition.specs.Size.{size, levels, levelsP, levelsBook}
+use Rattle.definition.specs.Write.{wName, wList, wParam, wCombinator, wDefinition, kindOf, kindByte, wAll}
+use Rattle.definition.specs.Size.{levels, levelsP, levelsBook}
 use Rattle.laws.proofs.Splits.{s-name, s-list, s-param}
 use Rattle.laws.proofs.Sizes.{adds, head}
 use Rattle.seek.specs.At.{namePast, numberAt}
@@ -24,16 +24,16 @@ use Rattle.lift.specs.declared.Counts.{Counts}
 use Rattle.lift.specs.Bound.{boundFrom}
 use Rattle.lift.specs.Sheet.{Sheet, sheetOf}
 use Rattle.lifting.specs.Trace.{paramsAt}
-use Rattle.naming.specs.Walk.{Extent, walk}
+use Rattle.naming.specs.Walk.{Extent}
 use Rattle.naming.specs.Frames.{combinatorEnd}
-use Rattle.naming.specs.Lifts.{Whole, Some, Scratch}
+use Rattle.naming.specs.Lifts.{Whole, Scratch}
 use Rattle.naming.proofs.Ends.{combinator-end}
 use Rattle.walked.specs.Book.{ownBound, walkAll}
 use Rattle.body.specs.declared.Body.{Body}
 use Rattle.body.specs.declared.Body.the-variants.{Named, Refused}
 use Rattle.body.specs.Walks.{Good, Ready, Ends, Walks}
 use Rattle.formats.specs.Own.{Params, Binds, Own}
-use Rattle.formats.specs.Formats.{Space, Format, EndsIn, Formatted, Defined}
+use Rattle.formats.specs.Formats.{Format, EndsIn, Formatted, Defined}
 
 -- a name that was put into an empty path
 pub held : {d : List ℕ} {name : Name} {d′ : List ℕ} {r : ℕ} → Wrote d 0 name d′ r → Held d′ r name

@@ -2,7 +2,7 @@
 -- Assumes nothing.
 use mathlib.Core.Path.{_≡_, refl, sym, ap, _∙_}
 use mathlib.Core.List.{List, [], _∷_}
-use Prim.Native.Nat.{ℕ, _+_, _-_, _*_, _≤_, _<_, max}
+use Prim.Native.Nat.{ℕ, _+_, _-_, _*_, _≤_, _<_}
 use native.Mathlib.Omega.{arith}
 use lib.ListN.{length, take}
 use Rattle.definition.specs.Res.{Res, bad, ok, _>>=_}
@@ -21,7 +21,6 @@ use Rattle.lift.specs.declared.Counts.{Counts}
 use Rattle.lift.specs.Sheet.{Sheet, sheetOf}
 use Rattle.naming.specs.Walk.{Extent, walk}
 use Rattle.walked.specs.Book.{ownBound, walkAll}
-use Rattle.body.specs.declared.Body.{Body}
 use Rattle.body.specs.declared.Body.the-variants.{Named, Refused}
 use Rattle.body.specs.Walks.{Good, Ends}
 use Rattle.formats.specs.Rows.{Book}

@@ -1,14 +1,14 @@
 -- A definition's own parameters, one after the other.
 -- Assumes nothing.
-use mathlib.Core.Path.{_≡_, refl, sym, ap, _∙_}
+use mathlib.Core.Path.{_≡_, refl, sym, _∙_}
 use mathlib.Core.Logic.{⊎-elim}
 use mathlib.Core.Bool.{true}
 use mathlib.Core.List.{List, [], _∷_, _++_, append-nil}
 use Prim.Native.Nat.{ℕ, suc, _+_, _-_, _*_, _≤_, _<_, min}
 use native.Mathlib.Omega.{arith}
-use lib.ListN.{length, getD}
+use lib.ListN.{length}
 use lib.Seq.{append-snoc}
-use Rattle.definition.specs.Tree.{Shell, Combinator, plain, chained, Inner, leaf, struct, choice, shell, bytes, invocation, macro-invocation, Param}
+use Rattle.definition.specs.Tree.{Combinator, plain, chained, Inner, leaf, struct, choice, shell, bytes, invocation, macro-invocation, Param}
 use Rattle.definition.specs.Write.{wU16, wName, wText, wAll, wList, wLen, countA, wInner, wInners, wCombinator, wParam}
 use Rattle.definition.specs.Size.{size, levelsI, levelsP}
 use Rattle.laws.proofs.Splits.{s-name}
@@ -19,17 +19,18 @@ use Rattle.seek.proofs.Here.{here-length, number-here, number-past, name-here}
 use Rattle.lookup.specs.Name.{nameAt}
 use Rattle.writer.proofs.Put.{within}
 use Rattle.lookup.proofs.Names.{stands}
-use Rattle.lift.specs.Bound.{Bound, boundFrom, withParam, Sized}
-use Rattle.lift.proofs.Params.{param-before, param-own, param-length}
+use Rattle.lift.specs.Bound.{boundFrom, withParam, Sized}
+use Rattle.lift.proofs.Params.{param-before, param-own}
 use Rattle.naming.specs.Frames.{innerEnd}
 use Rattle.naming.proofs.Ends.{inner-rest, inner-end}
 use Rattle.naming.proofs.Bound.{bound-more}
 use Rattle.walked.specs.Book.{ownBound}
-use Rattle.formats.specs.Own.{Params, Binds, Own}
+use Rattle.formats.specs.Own.{Binds, Own}
 
 -- ---- no type has fewer than three bytes
 mutual
   unfolding sizeI wCombinator wText wU16 wName wLen wList
+
   least : (c : Combinator) → 4 ≤ size c
   least (plain i) = omega (arith, size-plain i, least-inner i)
   least (chained i c) = omega (arith, size-chained i c, least-inner i)

@@ -1,7 +1,7 @@
 -- The rows of a book's names, from the last definition to the first.
 -- Assumes nothing.
-use mathlib.Core.Path.{_≡_, refl, sym, ap, _∙_}
-use mathlib.Core.List.{List, [], _∷_, _++_, map}
+use mathlib.Core.Path.{_≡_, refl, ap, _∙_}
+use mathlib.Core.List.{List, [], _∷_, map}
 use Prim.Native.Nat.{ℕ, zero, suc, _+_, _-_, _*_, _/_, _%_, _≤_, _<_}
 use native.Mathlib.Omega.{arith}
 use native.Mathlib.Numerals.{add-one}
@@ -15,10 +15,10 @@ use Rattle.laws.specs.Book.{IsBook}
 use Rattle.laws.proofs.Sizes.{size-book}
 use Rattle.seek.specs.At.{byteAt, pastAt, numberAt}
 use Rattle.seek.specs.Here.{Here}
-use Rattle.seek.proofs.Here.{past-here, number-here, here-length}
+use Rattle.seek.proofs.Here.{past-here, number-here}
 use Rattle.lookup.specs.Name.{nameAt}
 use Rattle.lookup.proofs.Names.{stands}
-use Rattle.names.specs.Taken.{both, taken, Table, Hints, Grown, Listed as Row}
+use Rattle.names.specs.Taken.{taken, Listed as Row}
 use Rattle.contents.specs.Listed.{Listed}
 use Rattle.contents.proofs.Listed.{past-is, listed-kind, listed-body, listed-next, book-listed}
 use Rattle.formats.specs.Rows.{Book, Entry, Rows, Takes, AtStart}

@@ -1,8 +1,8 @@
 -- The tables before the first definition.
 -- Assumes nothing.
-use mathlib.Core.Path.{_≡_, refl, sym, ap, _∙_}
-use mathlib.Core.List.{List, []}
-use Prim.Native.Nat.{ℕ, _+_, _*_, _≤_, _<_}
+use mathlib.Core.Path.{_≡_, ap, _∙_}
+use mathlib.Core.List.{List}
+use Prim.Native.Nat.{ℕ, _≤_, _<_}
 use native.Mathlib.Omega.{arith}
 use lib.ListN.{length, take, getD}
 use Rattle.definition.specs.Tree.{Definition}
@@ -17,7 +17,7 @@ use Rattle.lift.specs.Sheet.{sheetOf}
 use Rattle.walked.specs.Book.{blank, walkBook}
 use Rattle.body.specs.declared.Body.{Body}
 use Rattle.body.specs.Walks.{Good}
-use Rattle.formats.specs.Rows.{Book, Rows, AtStart}
+use Rattle.formats.specs.Rows.{Book, AtStart}
 use Rattle.formats.specs.Formats.{Space, InOrder}
 use Rattle.formats.specs.Expands.{Starts, Expands}
 use Rattle.formats.proofs.Rows.{book-short}

@@ -68,9 +68,9 @@ fn own_params(s: &[u8], at: usize, binders: &mut [u16]) -> usize
     let mut here = past(s, at, 2);
     let mut b = 0;
     while b < count {
-        let kind = name_past(s, here);
-        let end = inner_end(s, kind);
-        put_binder(binders, b, here, kind, 1, end - kind);
+        let inner = name_past(s, here);
+        let end = inner_end(s, inner);
+        put_binder(binders, b, here, inner, 1, end - inner);
         here = end;
         b += 1;
     }
@@ -215,8 +215,24 @@ fn expand_in_order(
         entry = past(s, entry, 6);
         left -= 1;
         match expand_definition(
-            s, kind, here, path, binders, bound, uses, spare, made, places, hashes, hints, rows,
-            params, numbers, order, w, n,
+            s,
+            kind,
+            here,
+            path,
+            binders,
+            bound,
+            uses,
+            spare,
+            made,
+            places,
+            hashes,
+            hints,
+            rows,
+            params,
+            numbers,
+            order,
+            w,
+            n,
         ) {
             Body::Refused(c) => {
                 return Body::Refused(c);
@@ -262,7 +278,20 @@ pub fn expand_definitions(
         defns,
     };
     expand_in_order(
-        s, &mut path, &mut binders, &mut bound, &mut uses, &mut spare, made, &mut places,
-        &mut hashes, &mut hints, rows, params, number, order, w,
+        s,
+        &mut path,
+        &mut binders,
+        &mut bound,
+        &mut uses,
+        &mut spare,
+        made,
+        &mut places,
+        &mut hashes,
+        &mut hints,
+        rows,
+        params,
+        number,
+        order,
+        w,
     )
 }

@@ -1,6 +1,5 @@
 -- `formats::expand_definition` meets its contract.
 -- Assumes nothing.
-use borrow.Author.Needs.{needs}
 use Rattle.formats.proofs.Formats.{defined-format, defined-none}
 use Rattle.formats.proofs.expand_definition.Statement.{statement}
 use Rattle.formats.proofs.expand_definition.Tie as tie

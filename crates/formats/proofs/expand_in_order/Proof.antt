@@ -1,6 +1,6 @@
 -- `formats::expand_in_order` meets its contract.
 -- Assumes nothing.
-use mathlib.Core.Path.{_≡_, refl, ap, _∙_}
+use mathlib.Core.Path.{refl, _∙_}
 use native.Mathlib.Omega.{arith}
 use borrow.Author.Needs.{needs}
 use Rattle.formats.proofs.Order.{Going, Lengths, going, going-format, going-step, going-refused, going-all, kept}
