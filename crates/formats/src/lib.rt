@@ -3,7 +3,7 @@ use body::Body;
 use body::expand_combinator;
 use lift::Counts;
 use lookup::name_at;
-use names::fresh::take_source_name;
+use fresh::take_source_name;
 use naming::combinator_end;
 use naming::inner_end;
 use naming::put_binder;
