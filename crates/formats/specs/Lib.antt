@@ -1,1 +1,2 @@
 pub mod Expands
+pub mod Magic
