@@ -1,2 +1,4 @@
 pub mod Opens
 pub mod Tells
+pub mod Elaborates
+pub mod Awaited
