@@ -6,7 +6,7 @@ ghost use Rattle.definition.specs.Utf8.{behind, characters, wellFormed};
 ghost use Rattle.definition.specs.Read.{byte as byteOf, u16 as u16Of, text as textOf, nameBy, noDot};
 ghost use Rattle.cursor.specs.Ends.{Takes, Cuts, ofByte, ofNumber};
 ghost use Rattle.cursor.specs.Item.{among as amongOf, tested};
-ghost use Rattle.cursor.specs.Ranges.{ranges};
+ghost use Rattle.cursor.specs.Ranges.{range, ranges, rangesBy};
 
 // A place in the book.
 pub struct Cursor {
@@ -48,78 +48,44 @@ pub struct Awaits {
     pub high: u8,
 }
 
+fn wants(left: u8, low: u8, high: u8) -> Awaits
+    ensures { λ r. ⌜ ranges r ≡ rangesBy left (range low high) ⌝ }
+{
+    Awaits { left, low, high }
+}
+
 // What the first byte of a character wants behind it; of a byte that starts no character, what no byte meets.
 pub fn lead(b: u8) -> Awaits
     ensures { λ r. ⌜ behind b ≡ ranges r ⌝ }
 {
     if b < 0x80 {
-        return Awaits {
-            left: 0,
-            low: 0x80,
-            high: 0xBF,
-        };
+        return wants(0, 0x80, 0xBF);
     }
     if b < 0xC2 {
-        return Awaits {
-            left: 1,
-            low: 1,
-            high: 0,
-        };
+        return wants(1, 1, 0);
     }
     if b < 0xE0 {
-        return Awaits {
-            left: 1,
-            low: 0x80,
-            high: 0xBF,
-        };
+        return wants(1, 0x80, 0xBF);
     }
     if b == 0xE0 {
-        return Awaits {
-            left: 2,
-            low: 0xA0,
-            high: 0xBF,
-        };
+        return wants(2, 0xA0, 0xBF);
     }
     if b == 0xED {
-        return Awaits {
-            left: 2,
-            low: 0x80,
-            high: 0x9F,
-        };
+        return wants(2, 0x80, 0x9F);
     }
     if b < 0xF0 {
-        return Awaits {
-            left: 2,
-            low: 0x80,
-            high: 0xBF,
-        };
+        return wants(2, 0x80, 0xBF);
     }
     if b == 0xF0 {
-        return Awaits {
-            left: 3,
-            low: 0x90,
-            high: 0xBF,
-        };
+        return wants(3, 0x90, 0xBF);
     }
     if b < 0xF4 {
-        return Awaits {
-            left: 3,
-            low: 0x80,
-            high: 0xBF,
-        };
+        return wants(3, 0x80, 0xBF);
     }
     if b == 0xF4 {
-        return Awaits {
-            left: 3,
-            low: 0x80,
-            high: 0x8F,
-        };
+        return wants(3, 0x80, 0x8F);
     }
-    Awaits {
-        left: 1,
-        low: 1,
-        high: 0,
-    }
+    wants(1, 1, 0)
 }
 
 // One byte further: the first of a character, or one that the character wants.

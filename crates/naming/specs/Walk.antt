@@ -1,5 +1,5 @@
 -- The walk of the naming pass on trees: it fills a sheet, and tells what each combinator takes after lifting. Document 01, "Lifting rules", codes 7 to 10.
--- It is crate lifting's `trace` with numbers where that has trees: proofs/Agree.antt.
+-- It is crate lifting's `trace` with numbers where that has trees: crate walked shows it.
 use mathlib.Core.Bool.{Bool, true, false, not}
 use mathlib.Core.List.{List, [], _∷_, _++_}
 use Prim.Native.Nat.{ℕ, suc, _+_, _-_, min}

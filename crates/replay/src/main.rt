@@ -1,5 +1,6 @@
 // Replays the recorded answers of the Rust, data/ (its page there says how they were made and laid out), and counts for each
 // code the answers that are the recorded ones and those that are not.
+use elab::Tested;
 use libc::STDOUT_FILENO;
 use lookup::same_name;
 use macros::Expanded;
@@ -11,12 +12,18 @@ ghost use mathlib.Core.Path.{_≡_};
 ghost use Prim.Native.Nat.{_≤_};
 ghost use lib.ListN.{length};
 
-// How many answers were right and wrong, by code: of reading, and of macro expansion.
-pub struct Tally {
+// How many answers were right and wrong, by code.
+pub struct Counts {
     pub right: [u64; 16],
     pub wrong: [u64; 16],
-    pub expanded: [u64; 16],
-    pub otherwise: [u64; 16],
+}
+
+// Of reading, of macro expansion, of the premise test and of `elaborate`.
+pub struct Tally {
+    pub reading: Counts,
+    pub expansion: Counts,
+    pub premise: Counts,
+    pub answer: Counts,
 }
 
 // Where recorded bytes stand: in the book (1), in the result (2), or here.
@@ -26,14 +33,17 @@ pub struct Bytes {
     pub to: usize,
 }
 
-// A record: where its book stands, the code of `elaborate` and the result, the code of the premise test and the expanded book, and the next
-// record.
+// A record: where its book stands, the answer of `elaborate` and the result, the answer of the premise test and the expanded book, and the
+// next record.
 pub struct Case {
     pub from: usize,
     pub to: usize,
     pub code: u8,
+    pub definitions: u16,
+    pub lifted: u16,
     pub result: Bytes,
     pub premise: u8,
+    pub holds: u8,
     pub expanded: Bytes,
     pub next: usize,
 }
@@ -71,10 +81,16 @@ fn case_at(s: &[u8], at: usize) -> Case {
     let from = past(s, at, 2);
     let to = past(s, from, n);
     let code = byte(s, to);
+    let definitions_at = past(s, to, 1);
+    let lifted_at = past(s, to, 3);
+    let definitions = number(s, definitions_at);
+    let lifted = number(s, lifted_at);
     let result_at = past(s, to, 5);
     let result = recorded(s, result_at);
     let premise_at = result.to;
     let premise = byte(s, premise_at);
+    let holds_at = past(s, premise_at, 1);
+    let holds = byte(s, holds_at);
     let expanded_at = past(s, premise_at, 2);
     let expanded = recorded(s, expanded_at);
     let next = expanded.to;
@@ -82,8 +98,11 @@ fn case_at(s: &[u8], at: usize) -> Case {
         from,
         to,
         code,
+        definitions,
+        lifted,
         result,
         premise,
+        holds,
         expanded,
         next,
     }
@@ -141,7 +160,33 @@ fn reads_as(book: &[u8], code: u8) -> bool {
     found == 0
 }
 
-fn count_reading(t: Tally, code: u8, good: bool) -> Tally {
+// Whether all of these bytes are this one.
+fn all_are(s: &[u8], b: u8) -> bool {
+    let mut i = 0;
+    while i < s.len() {
+        if s[i] != b {
+            return false;
+        }
+        i += 1;
+    }
+    true
+}
+
+// Whether the premise test gives this book the recorded answer, and leaves a work area of zeros.
+fn tests_as(book: &[u8], code: u8, holds: u8) -> bool {
+    let mut work = [170u8; 65536];
+    let alike = match elab::premise(book, &mut work) {
+        Tested::Holds => { if code == 0 { holds == 1 } else { false } }
+        Tested::Fails => { if code == 0 { holds == 0 } else { false } }
+        Tested::Refused { code: found } => found == code,
+    };
+    if all_are(&work, 0) {
+        return alike;
+    }
+    false
+}
+
+fn counted(t: Counts, code: u8, good: bool) -> Counts {
     let mut u = t;
     if 16 <= code {
         return u;
@@ -155,35 +200,30 @@ fn count_reading(t: Tally, code: u8, good: bool) -> Tally {
     u
 }
 
-fn count_expansion(t: Tally, code: u8, good: bool) -> Tally {
-    let mut u = t;
-    if 16 <= code {
-        return u;
+// Whether the book is expanded: 0 or 6.
+fn is_expanded(code: u8) -> bool {
+    if code == 0 {
+        return true;
     }
-    let i = code as usize;
-    if good {
-        u.expanded[i] = std::num::wrapping_add_u64(u.expanded[i], 1);
-    } else {
-        u.otherwise[i] = std::num::wrapping_add_u64(u.otherwise[i], 1);
-    }
-    u
+    code == 6
 }
 
 // One record, read, and expanded where it reads without fault.
 fn judge(s: &[u8], c: Case, t: Tally) -> Tally {
+    let mut u = t;
     let code = c.code;
     let premise = c.premise;
     let book = part(s, c.from, c.to);
-    let good = reads_as(book, code);
-    let u = count_reading(t, code, good);
-    if premise != 0 {
-        if premise != 6 {
-            return u;
-        }
+    let reads = reads_as(book, code);
+    u.reading = counted(t.reading, code, reads);
+    let tests = tests_as(book, premise, c.holds);
+    u.premise = counted(t.premise, premise, tests);
+    if is_expanded(premise) {
+        let e = expanded_of(c);
+        let expands = expands_as(book, premise, part(s, e.from, e.to));
+        u.expansion = counted(t.expansion, premise, expands);
     }
-    let e = expanded_of(c);
-    let alike = expands_as(book, premise, part(s, e.from, e.to));
-    count_expansion(u, premise, alike)
+    u
 }
 
 // All records of one file.
@@ -220,36 +260,51 @@ fn file(path: &[u8], t: Tally) -> Tally {
     replay(&s[..n], t)
 }
 
-fn print(what: &[u8], code: u8, right: u64, wrong: u64) {
+fn print(what: &[u8], code: u8, t: Counts) {
+    if 16 <= code {
+        return;
+    }
+    let i = code as usize;
     io::write_all(STDOUT_FILENO, what);
     io::write_all(STDOUT_FILENO, b", code ");
     io::print_decimal(STDOUT_FILENO, code as u64);
     io::write_all(STDOUT_FILENO, b": ");
-    io::print_decimal(STDOUT_FILENO, right);
+    io::print_decimal(STDOUT_FILENO, t.right[i]);
     io::write_all(STDOUT_FILENO, b" as recorded, ");
-    io::print_decimal(STDOUT_FILENO, wrong);
+    io::print_decimal(STDOUT_FILENO, t.wrong[i]);
     io::write_all(STDOUT_FILENO, b" different\n");
 }
 
+// A line for code 0 and each code from 2 up to the last: 1 speaks of the work area, and no record has it.
+fn print_all(what: &[u8], last: u8, t: Counts) {
+    print(what, 0, t);
+    let mut code: u8 = 2;
+    while code <= last {
+        print(what, code, t);
+        if 16 <= code {
+            return;
+        }
+        code += 1;
+    }
+}
+
 fn main() {
-    let mut t = Tally {
+    let none = Counts {
         right: [0; 16],
         wrong: [0; 16],
-        expanded: [0; 16],
-        otherwise: [0; 16],
+    };
+    let mut t = Tally {
+        reading: none,
+        expansion: none,
+        premise: none,
+        answer: none,
     };
     t = file(b"cases-0.bin", t);
     t = file(b"cases-1.bin", t);
     t = file(b"cases-2.bin", t);
     t = file(b"cases-3.bin", t);
-    // 1 speaks of the work area: no record has it
-    print(b"reading", 0, t.right[0], t.wrong[0]);
-    let mut code: u8 = 2;
-    while code < 11 {
-        let i = code as usize;
-        print(b"reading", code, t.right[i], t.wrong[i]);
-        code += 1;
-    }
-    print(b"expansion", 0, t.expanded[0], t.otherwise[0]);
-    print(b"expansion", 6, t.expanded[6], t.otherwise[6]);
+    print_all(b"reading", 10, t.reading);
+    print(b"expansion", 0, t.expansion);
+    print(b"expansion", 6, t.expansion);
+    print_all(b"premise test", 6, t.premise);
 }

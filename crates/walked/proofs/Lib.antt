@@ -1,0 +1,4 @@
+pub mod Alike
+pub mod Sizes
+pub mod Bounds
+pub mod Agree
