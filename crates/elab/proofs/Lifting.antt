@@ -1,4 +1,5 @@
 -- Codes 7 to 11 and the result, from what the naming pass leaves in the tables.
+-- Assumes nothing.
 use mathlib.Core.Path.{_≡_, refl, sym, ap, _∙_}
 use mathlib.Core.Logic.{inl, inr}
 use mathlib.Core.List.{List, [], _∷_, _++_, map, append-nil}
@@ -28,7 +29,8 @@ use Rattle.tables.specs.Rows.{Row, rowOf, rowsOf, lastFrom}
 use Rattle.lift.specs.declared.Counts.{Counts}
 use Rattle.lift.specs.Sheet.{Sheet, sheetOf}
 use Rattle.walked.specs.Book.{walkBook}
-use Rattle.walked.specs.Hands.{Hands, WalksAsTraced}
+use Rattle.walked.specs.Hands.{Hands}
+use Rattle.walked.proofs.Agree.{walks-as-traced}
 use Rattle.body.specs.declared.Body.{Body}
 use Rattle.body.specs.declared.Body.the-variants.{Named, Refused as Stopped}
 use Rattle.body.specs.Walks.{Good, Ends}
@@ -113,17 +115,17 @@ module _ {m : Out Result} {out : List ℕ} where
   unfolding reported answered filled
   reports-refusal f = record { answers = rw (f .is, f .numbered); fills = rw (f .is) }
 
-module _ (walks : WalksAsTraced) {s made rows params number order : List ℕ} where
+module _ {s made rows params number order : List ℕ} where
   pub lifts-refused : {out : List ℕ} {c : ℕ} → Expands s made rows params number order (Stopped c) → Lifts s out out (Refused c)
   unfolding lifted
-  lifts-refused x = record { lifts = λ ds w b q. reports-refusal (refusal _ _ (walks ds) (comes ds) (x .expands ds w b)) }
+  lifts-refused x = record { lifts = λ ds w b q. reports-refusal (refusal _ _ (walks-as-traced ds) (comes ds) (x .expands ds w b)) }
 
   module _ {v : Counts} {n : ℕ} (x : Expands s made rows params number order (Named v n)) where
     abbrev Given : List Definition → Type 0
     Given ds = Handed (wBook ds ++ []) ds (traceBook treeHead ds) (outcome (liftBook ds)) (sheetOf s made (x .places) rows params (take n order) v) (Good s made (x .places) (x .hashes) (x .hints) rows params number order v n)
 
     given-by : (ds : List Definition) → s ≡ wBook ds → IsBook ds → Given ds
-    given-by ds w b = handed _ _ v n (walks ds) (comes ds) (x .expands ds w b)
+    given-by ds w b = handed _ _ v n (walks-as-traced ds) (comes ds) (x .expands ds w b)
 
     module _ (ds : List Definition) (w : s ≡ wBook ds) (h : Given ds) where
       few : n ≤ 512

@@ -1,4 +1,3 @@
 pub mod Opens
 pub mod Tells
 pub mod Elaborates
-pub mod Awaited
