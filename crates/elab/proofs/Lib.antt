@@ -1,3 +1,5 @@
 mod Growth
 mod Opening
 mod Telling
+mod Lifting
+mod Answering

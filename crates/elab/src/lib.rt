@@ -12,6 +12,8 @@ ghost use Rattle.definition.specs.Premise.{premise};
 ghost use Rattle.elab.specs.Opens.{Opens};
 ghost use Rattle.elab.specs.Tells.{told};
 
+pub mod elaboration;
+
 // The expanded book, which fills the work area's first bytes, or a code.
 pub enum Opened {
     Book { len: usize },
