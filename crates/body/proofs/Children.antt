@@ -139,19 +139,21 @@ module _ {s : List ℕ} {at : ℕ} {path : List ℕ} {len : ℕ} {binders : List
   child-walked {g} an e = record {
     kept = refl;
     comes = λ c base k n wait order m st deep kd held op env few good.
-        let wh = whole-of {last = last} c small st (omega arith) ends in
-        (rw e (record {
-          node = nodeOf c at base (n .env) walked;
-          frame = frame-opens (omega arith) c (st .after) k at last len b 0 0 base (n .env) walked (st .is) deep kd held env refl few;
-          same = λ ws. steps-walked op ws _ (sym (anonymous-here c 64 (omega arith) (st .after) (st .is)) ∙ an);
-          place = refl;
-          last = wh .ends;
-          longer = omega arith;
-          bound = refl;
-          sound = frame-sound small c (st .after) last len b 0 0 (omega arith) (st .is) (omega arith) (λ h. absurd (omega arith));
-          counted = omega arith;
-          light = frame-light small c (st .after) last len b 0 0 (omega arith) (st .is);
-        }), good);
+        let wh = whole-of {last = last} c small st (omega arith) ends in (
+          rw e (record {
+            node = nodeOf c at base (n .env) walked;
+            frame = frame-opens (omega arith) c (st .after) k at last len b 0 0 base (n .env) walked (st .is) deep kd held env refl few;
+            same = λ ws. steps-walked op ws _ (sym (anonymous-here c 64 (omega arith) (st .after) (st .is)) ∙ an);
+            place = refl;
+            last = wh .ends;
+            longer = omega arith;
+            bound = refl;
+            sound = frame-sound small c (st .after) last len b 0 0 (omega arith) (st .is) (omega arith) (λ h. absurd (omega arith));
+            counted = omega arith;
+            light = frame-light small c (st .after) last len b 0 0 (omega arith) (st .is);
+          }),
+          good,
+        );
   }
 
   module _ {path′ made′ places′ hashes′ hints′ rows′ params′ number′ : List ℕ} {r : Named} (an : anonymousAt 64 s at ≡ true)
@@ -181,23 +183,25 @@ module _ {s : List ℕ} {at : ℕ} {path : List ℕ} {len : ℕ} {binders : List
           let tb = y .right .0 in
           let len-rows = rows-length s made rows params (w .lifts) in
           let calls : (5 ≤ call) × (call ≤ 16384) = (omega (arith, y .size, q .least), omega (arith, y .size, q .most, tb .bytes-most)) in
-          let own-few : own ≤ 512 = omega (arith, y .right .2, tb .few .0, tb .defns-most) in
-          (rw eg (record {
-            node = nodeOf c at (y .start .name) (nd .env) (lifted (length (t .rows)) (y .start .call));
-            frame = frame-opens (omega arith) c (st .after) k at last n b own call (y .start .name) (nd .env) (lifted (length (t .rows)) (y .start .call)) (st .is) deep kd (y .held) env (omega (arith, eo, len-rows), y .size) few;
-            same = λ ws. steps-lifted op ws t (y .start) (y .after) (sym (anonymous-here c 64 (omega arith) (st .after) (st .is)) ∙ an) (y .is) ∙ ap (λ (z : Sheet). run (nodeOf c at (y .start .name) (nd .env) (lifted (length (t .rows)) (y .start .call))) (wait ∷ ws) z) (y .says);
-            place = refl;
-            last = wh .ends;
-            longer = omega (arith, held .place, y .held .place, q .longer);
-            bound = refl;
-            sound = frame-sound small c (st .after) last n b own call (omega arith) (st .is) own-few (λ h. calls);
-            counted = omega (arith, y .right .2);
-            light = frame-light small c (st .after) last n b own call (omega arith) (st .is);
-          }), record {
-            tables = tb;
-            number-long = rw (y .right .1) (simp length-set (good .number-long));
-            numbered = λ p h. rw (y .right .1) (numbered-on (rowsOf s made rows params (w .lifts)) (rowsOf s made′ rows′ params′ (v .lifts)) (q .row) number at (w .lifts) p after-rows (q .at) len-rows (omega (arith, good .number-long)) (good .numbered p h));
-            order-long = good .order-long;
-            finished = omega (arith, good .finished, y .right .2);
-          });
+          let own-few : own ≤ 512 = omega (arith, y .right .2, tb .few .0, tb .defns-most) in (
+            rw eg (record {
+              node = nodeOf c at (y .start .name) (nd .env) (lifted (length (t .rows)) (y .start .call));
+              frame = frame-opens (omega arith) c (st .after) k at last n b own call (y .start .name) (nd .env) (lifted (length (t .rows)) (y .start .call)) (st .is) deep kd (y .held) env (omega (arith, eo, len-rows), y .size) few;
+              same = λ ws. steps-lifted op ws t (y .start) (y .after) (sym (anonymous-here c 64 (omega arith) (st .after) (st .is)) ∙ an) (y .is) ∙ ap (λ (z : Sheet). run (nodeOf c at (y .start .name) (nd .env) (lifted (length (t .rows)) (y .start .call))) (wait ∷ ws) z) (y .says);
+              place = refl;
+              last = wh .ends;
+              longer = omega (arith, held .place, y .held .place, q .longer);
+              bound = refl;
+              sound = frame-sound small c (st .after) last n b own call (omega arith) (st .is) own-few (λ h. calls);
+              counted = omega (arith, y .right .2);
+              light = frame-light small c (st .after) last n b own call (omega arith) (st .is);
+            }),
+            record {
+              tables = tb;
+              number-long = rw (y .right .1) (simp length-set (good .number-long));
+              numbered = λ p h. rw (y .right .1) (numbered-on (rowsOf s made rows params (w .lifts)) (rowsOf s made′ rows′ params′ (v .lifts)) (q .row) number at (w .lifts) p after-rows (q .at) len-rows (omega (arith, good .number-long)) (good .numbered p h));
+              order-long = good .order-long;
+              finished = omega (arith, good .finished, y .right .2);
+            },
+          );
     }

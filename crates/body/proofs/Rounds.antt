@@ -185,8 +185,7 @@ module _ {s : List ℕ} {at end : ℕ} {path₀ : List ℕ} {len : ℕ} {binders
       pub open-safe : Tables s made places hashes hints rows params w × SomeChild s place × Scratch s bound uses spare × (length path′ ≡ 255) × (f .bound ≤ 65536) × Sized binders (f .bound)
       open-safe =
           let g = R .goes (R .root) in
-          let o = reached (R .root) .opening in
-          (
+          let o = reached (R .root) .opening in (
             g .good .tables,
             record { what = o .child; stands = o .stands; deep = omega (arith, o .deep) },
             g .scratch,

@@ -72,7 +72,25 @@ pub fn expand_combinator(
             }
             Step::Child(place, l) => {
                 let known = f.bound;
-                let child = open_child(s, place, path, l, &binders[..], known, bound, uses, spare, made, places, hashes, hints, rows, params, number, counts);
+                let child = open_child(
+                    s,
+                    place,
+                    path,
+                    l,
+                    &binders[..],
+                    known,
+                    bound,
+                    uses,
+                    spare,
+                    made,
+                    places,
+                    hashes,
+                    hints,
+                    rows,
+                    params,
+                    number,
+                    counts,
+                );
                 match child {
                     Child::Refused(c) => {
                         return Body::Refused(c);

@@ -17,7 +17,7 @@ use Rattle.seek.specs.Here.{Here}
 use Rattle.seek.proofs.Here.{here-length, number-here, name-here}
 use Rattle.lookup.specs.Name.{nameAt}
 use Rattle.lookup.proofs.Names.{stands}
-use Rattle.writer.specs.Buf.{Wrote}
+use Rattle.writer.specs.Buf.{after, Wrote}
 use Rattle.names.specs.Name.{Held}
 use Rattle.names.proofs.Held.{grown}
 use Rattle.lift.specs.declared.Counts.{Counts}
@@ -126,3 +126,8 @@ module _ {s : List ℕ} {kind at : ℕ} {made places rows params order : List �
       of (constant m x) e = (refl, g)
       of (byte-order x) e = (refl, g)
       of (macro m ps c) e = (refl, g)
+
+-- a name in the path has 255 bytes at most, or its length says that it has more
+pub short-name : {d p : List ℕ} {at r : ℕ} → r ≡ after d at p → length d ≡ 255 → r ≤ 256
+unfolding after
+short-name e l = omega (arith, e, l)

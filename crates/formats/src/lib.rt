@@ -1,9 +1,9 @@
 // The naming pass over the expanded book: its definitions in order.
 use body::Body;
 use body::expand_combinator;
+use fresh::take_source_name;
 use lift::Counts;
 use lookup::name_at;
-use fresh::take_source_name;
 use naming::combinator_end;
 use naming::inner_end;
 use naming::put_binder;
@@ -15,7 +15,6 @@ use writer::put_bytes;
 ghost use mathlib.Core.Path.{_≡_};
 ghost use Prim.Native.Nat.{_≤_, _<_};
 ghost use lib.ListN.{length};
-ghost use Rattle.body.specs.Magic.{Magic};
 ghost use Rattle.body.specs.Walks.{Good};
 ghost use Rattle.formats.specs.Rows.{Book, Entry, Takes, AtStart};
 ghost use Rattle.formats.specs.Own.{Params, Own};
@@ -98,7 +97,6 @@ fn expand_format(
     n: usize,
 ) -> Body
     requires { ⌜ Good (now s) (now made) (now places) (now hashes) (now hints) (now rows) (now params) (now numbers) (now order) w n × Space (now s) (now path) (now binders) (now bound) (now uses) (now spare) × Format (now s) at ⌝ }
-    requires { ⌜ Magic ⌝ }
     ensures { λ r. ⌜ Formatted (now (s .entry)) at (now (made .entry)) (now (places .entry)) (now (rows .entry)) (now (params .entry)) (now (order .entry)) w n (now (made .exit)) (now (places .exit)) (now (hashes .exit)) (now (hints .exit)) (now (rows .exit)) (now (params .exit)) (now (numbers .exit)) (now (order .exit)) r ⌝ }
 {
     let len = put_bytes(name_at(s, at), path, 0);
@@ -152,7 +150,6 @@ fn expand_definition(
     n: usize,
 ) -> Body
     requires { ⌜ Good (now s) (now made) (now places) (now hashes) (now hints) (now rows) (now params) (now numbers) (now order) w n × Space (now s) (now path) (now binders) (now bound) (now uses) (now spare) × (kind ≡ 1 → Format (now s) at) ⌝ }
-    requires { ⌜ Magic ⌝ }
     ensures { λ r. ⌜ Defined (now (s .entry)) kind at (now (made .entry)) (now (places .entry)) (now (rows .entry)) (now (params .entry)) (now (order .entry)) w n (now (made .exit)) (now (places .exit)) (now (hashes .exit)) (now (hints .exit)) (now (rows .exit)) (now (params .exit)) (now (numbers .exit)) (now (order .exit)) r ⌝ }
 {
     if kind == 1 {
@@ -198,7 +195,6 @@ fn expand_in_order(
     start: Counts,
 ) -> Body
     requires { ⌜ Good (now s) (now made) (now places) (now hashes) (now hints) (now rows) (now params) (now numbers) (now order) start 0 × Space (now s) (now path) (now binders) (now bound) (now uses) (now spare) × Book (now s) ⌝ }
-    requires { ⌜ Magic ⌝ }
     ensures { λ r. ⌜ InOrder (now (s .entry)) (now (made .entry)) (now (places .entry)) (now (rows .entry)) (now (params .entry)) (now (order .entry)) start (now (made .exit)) (now (places .exit)) (now (hashes .exit)) (now (hints .exit)) (now (rows .exit)) (now (params .exit)) (now (numbers .exit)) (now (order .exit)) r ⌝ }
 {
     let mut left = number(s, 0) as usize;
@@ -256,7 +252,6 @@ pub fn expand_definitions(
     order: &mut [u16],
 ) -> Body
     requires { ⌜ Starts (now s) (now made) (now rows) (now params) (now number) (now order) ⌝ }
-    requires { ⌜ Magic ⌝ }
     ensures { λ r. ⌜ Expands (now (s .entry)) (now (made .exit)) (now (rows .exit)) (now (params .exit)) (now (number .exit)) (now (order .exit)) r ⌝ }
 {
     let mut path = [0u8; 255];

@@ -10,17 +10,14 @@ use Rattle.formats.proofs.expand_definitions.Tie as tie
 
 expand-in-order-requires : tie.Need-expand-in-order-requires
 expand-in-order-requires c κs =
-    let p = c .before .before .before .before .before .before .before .before .before .before .before .before .before .before .before .before .before .before .before .before .before .before .before .before .before .before .before .pre .0 in (
-      (
-        good p (c .before .before .before .before .before .before .before .before .before .before .before .before .before .before .before .before .before .take-at-start .ensures) (c .before .before .before .before .before .before .before .before .before .before .before .before .before .number .ensures) (omega (arith, c .before .before .before .before .before .before .before .before .before .before .before .before .before .before .before .before .places2 .given)) (omega (arith, c .before .before .before .before .before .before .before .before .before .before .before .before .before .before .before .hashes2 .given)) (omega (arith, c .before .before .before .before .before .before .before .before .before .before .before .before .before .before .hints2 .given)),
-        space (the-book p) (λ i. omega (arith, c .before .before .before .before .before .before .before .before .before .before .before .before .before .before .before .before .before .before .before .before .before .before .before .before .before .before .shared-slice-known .given i)) (length-replicate {0} {A = ℕ} 255 0) (length-replicate {0} {A = ℕ} 16384 0) (length-replicate {0} {A = ℕ} 16384 0) (length-replicate {0} {A = ℕ} 16384 0) (length-replicate {0} {A = ℕ} 16384 0),
-        the-book p,
-      ),
-      c .before .before .before .before .before .before .before .before .before .before .before .before .before .before .before .before .before .before .before .before .before .before .before .before .before .before .before .pre .1,
+    let p = c .before .before .before .before .before .before .before .before .before .before .before .before .before .before .before .before .before .before .before .before .before .before .before .before .before .before .before .pre in (
+      good p (c .before .before .before .before .before .before .before .before .before .before .before .before .before .before .before .before .before .take-at-start .ensures) (c .before .before .before .before .before .before .before .before .before .before .before .before .before .number .ensures) (omega (arith, c .before .before .before .before .before .before .before .before .before .before .before .before .before .before .before .before .places2 .given)) (omega (arith, c .before .before .before .before .before .before .before .before .before .before .before .before .before .before .before .hashes2 .given)) (omega (arith, c .before .before .before .before .before .before .before .before .before .before .before .before .before .before .hints2 .given)),
+      space (the-book p) (λ i. omega (arith, c .before .before .before .before .before .before .before .before .before .before .before .before .before .before .before .before .before .before .before .before .before .before .before .before .before .before .shared-slice-known .given i)) (length-replicate {0} {A = ℕ} 255 0) (length-replicate {0} {A = ℕ} 16384 0) (length-replicate {0} {A = ℕ} 16384 0) (length-replicate {0} {A = ℕ} 16384 0) (length-replicate {0} {A = ℕ} 16384 0),
+      the-book p,
     )
 
 returns : tie.Need-returns
-returns c = expands (c .before .before .before .before .before .before .before .before .before .before .before .before .before .before .before .before .before .before .before .before .before .before .before .before .before .before .before .before .before .before .before .before .before .before .before .before .before .before .before .before .before .before .before .before .before .before .pre .0) (c .before .before .before .before .before .before .before .before .before .before .before .before .before .before .before .before .before .before .before .before .before .before .before .before .before .before .before .before .before .before .before .before .before .before .before .before .take-at-start .ensures) (c .before .before .before .before .before .before .before .before .before .before .before .before .before .before .before .before .before .before .before .before .before .before .before .before .before .before .before .before .before .before .before .before .number .ensures) (c .before .before .before .before .before .before .before .before .before .before .before .before .before .before .before .before .before .before .expand-in-order .ensures)
+returns c = expands (c .before .before .before .before .before .before .before .before .before .before .before .before .before .before .before .before .before .before .before .before .before .before .before .before .before .before .before .before .before .before .before .before .before .before .before .before .before .before .before .before .before .before .before .before .before .before .pre) (c .before .before .before .before .before .before .before .before .before .before .before .before .before .before .before .before .before .before .before .before .before .before .before .before .before .before .before .before .before .before .before .before .before .before .before .before .take-at-start .ensures) (c .before .before .before .before .before .before .before .before .before .before .before .before .before .before .before .before .before .before .before .before .before .before .before .before .before .before .before .before .before .before .before .before .number .ensures) (c .before .before .before .before .before .before .before .before .before .before .before .before .before .before .before .before .before .before .expand-in-order .ensures)
 
 pub expand-definitions-spec : {M : Type 1} → statement M
 expand-definitions-spec =
