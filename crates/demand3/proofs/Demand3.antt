@@ -1,32 +1,40 @@
 -- Every accepted result meets demand 3.
-use mathlib.Core.Path.{_≡_, refl}
+use mathlib.Core.Path.{_≡_, refl, _∙_}
 use mathlib.Core.List.{List, [], _∷_, _++_}
-use mathlib.Core.Bool.{true, false, not}
-use Prim.Native.Nat.{ℕ}
+use mathlib.Core.Bool.{Bool, true, false}
+use Prim.Native.Nat.{ℕ, _≤_}
 use native.Mathlib.Omega.{arith}
 use lib.ListN.{length}
-use Rattle.definition.specs.Res.{absent, just, Res, bad, ok}
+use Rattle.definition.specs.Res.{absent, ok}
 use Rattle.definition.specs.Out.{done}
-use Rattle.definition.specs.Tree.{Name, Definition, format, constant, byte-order, macro}
+use Rattle.definition.specs.Tree.{Name, Combinator, Definition, format, constant, byte-order, macro}
 use Rattle.definition.specs.Names.{elem}
-use Rattle.definition.specs.Lift.{full, State, names, start, liftBook, walkAll}
-use Rattle.definition.specs.Answer.{Result, outcome, expanded, elaborated}
+use Rattle.definition.specs.Bodies.{everyInvocation}
+use Rattle.definition.specs.Lift.{full, State, names, start, walkAll}
+use Rattle.definition.specs.Answer.{Result, expanded, elaborated}
 use Rattle.definition.specs.Premise.{callsKnown, chainsPlain}
-use Rattle.definition.specs.PutBack.{bodyOf, backAll, putBack}
-use Rattle.demand3.specs.Flat.{FlatAll}
-use Rattle.demand3.specs.Demand3.{Tight, Demand3}
+use Rattle.definition.specs.PutBack.{bodyOf}
+use Rattle.laws.specs.Book.{Bytes}
+use Rattle.laws.specs.Lists.{Distinct, NoMacro}
+use Rattle.laws.proofs.Steps.{Yields, of-value}
+use Rattle.laws.proofs.Results.{expanded-is-book, elaborated-yields}
+use Rattle.demand3.specs.Words.{Named, EachBody}
+use Rattle.demand3.specs.PutBack.{NoneLeft, PutsAllBack}
+use Rattle.demand3.specs.Demand3.{CallsKnown, ChainsPlain, Apart, AllTight, Demand3}
 use Rattle.demand3.proofs.Elem.{bodyOf-none}
-use Rattle.demand3.proofs.Walked.{Known, Grew, walkedAll}
+use Rattle.demand3.proofs.Agree.{named-elem, unnamed, passed-calls, passed-bodies, calls-known, chains-plain}
+use Rattle.demand3.proofs.Rounds.{rounds-all-back}
+use Rattle.demand3.proofs.Walked.{Known, Grew, walkedAll, flat-append}
 use Rattle.demand3.proofs.Back.{Holds, back-all}
-use Rattle.demand3.proofs.Ease.{ease-all}
 use Rattle.demand3.proofs.Tight.{tight-all}
 
-flat-append : (a b : List Definition) → FlatAll a → FlatAll b → FlatAll (a ++ b)
-flat-append [] b f g = g
-flat-append (format n ps c ∷ a) b f g = (f .0, flat-append a b (f .1) g)
-flat-append (constant n x ∷ a) b f g = flat-append a b f g
-flat-append (byte-order x ∷ a) b f g = flat-append a b f g
-flat-append (macro n ps c ∷ a) b f g = flat-append a b f g
+distinct-apart : (ds : List Definition) → Distinct (names ds) → Apart ds
+unfolding names
+distinct-apart [] d = tt
+distinct-apart (format n ps c ∷ ds) d = ((λ w. unnamed n ds (d .0) w), distinct-apart ds (d .1))
+distinct-apart (constant n x ∷ ds) d = ((λ w. unnamed n ds (d .0) w), distinct-apart ds (d .1))
+distinct-apart (byte-order x ∷ ds) d = distinct-apart ds d
+distinct-apart (macro n ps c ∷ ds) d = distinct-apart ds d
 
 module _ (ds es : List Definition) (t : State) (e : walkAll full ds (start ds) ≡ ok es t) where
   grew : Grew (start ds) t
@@ -47,33 +55,37 @@ module _ (ds es : List Definition) (t : State) (e : walkAll full ds (start ds) �
   unfolding Holds
   holds n c p = p
 
-  restored : callsKnown ds ≡ true → backAll (t .made) (length (t .made)) es ≡ ds
+  none-left : callsKnown ds ≡ true → EachBody (NoneLeft (t .made)) ds
+  unfolding callsKnown
+  none-left p = passed-bodies (NoneLeft (t .made)) (λ c. everyInvocation c (λ n. elem n (names ds)))
+      (λ c w. passed-calls (λ n. Named n (t .made) → ⊥) (λ n. elem n (names ds)) (λ n q. unnamed n (t .made) (apart n q)) c w) ds p
+
+  restored : callsKnown ds ≡ true → PutsAllBack (t .made) es ds
   unfolding callsKnown start
-  restored p = back-all (t .made) (names ds) clear ds (start ds) es t e known holds p (length (t .made)) (omega arith)
-
-  whole : callsKnown ds ≡ true → putBack es (t .made) ≡ just ds
-  unfolding putBack callsKnown
-  whole p = rw (restored p, ease-all (λ n. elem n (names ds)) (λ n. not (elem n (names (t .made)))) (λ n q. rw (apart n q)) ds p)
-
-  tight : callsKnown ds ≡ true → chainsPlain ds ≡ true → Tight (t .made) (length (t .made)) (t .made)
-  unfolding callsKnown chainsPlain start Tight
-  tight p q = tight-all (t .made) (names ds) clear apart (length (t .made)) ds (start ds) es t e known holds p q (omega arith) tt
-
-  pub met : Demand3 ds (record { kept = es; lifted = t .made })
-  unfolding start names
-  met = record {
-    flat = flat-append es (t .made) (walkedAll ds (start ds) es t e .1) (grew .flat tt);
-    distinct = grew .distinct known tt;
-    fresh = apart;
-    restored = whole;
-    shortest = tight;
+  restored p = record {
+    ends = λ k q. rounds-all-back (t .made) k es ∙ back-all (t .made) (names ds) clear ds (start ds) es t e known holds p k (omega (arith, q));
+    none-left = none-left p;
   }
 
-outcome-met : (ds : List Definition) (r : Result) (m : Res State (List Definition)) → walkAll full ds (start ds) ≡ m → outcome m ≡ done r → Demand3 ds r
-unfolding outcome
-outcome-met ds r (bad k s) w e = let z : _≡_ {A = ℕ} 0 1 = cc in absurd (omega arith)
-outcome-met ds r (ok es t) w e = let p : record { kept = es; lifted = t .made } ≡ r = cc in rw p at (met ds es t w)
+  tight : callsKnown ds ≡ true → chainsPlain ds ≡ true → AllTight (t .made) (t .made)
+  unfolding callsKnown chainsPlain start
+  tight p q = tight-all (t .made) (names ds) clear apart ds (start ds) es t e known holds p q (omega arith) tt
 
-pub demand3 : (book : List ℕ) (ds : List Definition) (r : Result) → expanded book ≡ done ds → elaborated book ≡ done r → Demand3 ds r
-unfolding elaborated liftBook
-demand3 book ds r x e = outcome-met ds r (walkAll full ds (start ds)) refl (rw x at e)
+  met : NoMacro ds → Demand3 ds es (t .made)
+  unfolding start names
+  met m = record {
+    flat = flat-append es (t .made) (walkedAll ds (start ds) es t e .1 m) (grew .flat tt);
+    apart = distinct-apart (t .made) (grew .distinct known tt);
+    fresh = λ n p. unnamed n (t .made) (apart n (named-elem n ds p));
+    restored = λ p. restored (calls-known ds p);
+    shortest = λ p q. tight (calls-known ds p) (chains-plain ds q);
+  }
+
+-- the expanded list that a result comes from, and that it meets demand 3 for it
+pub record Comes (book : List ℕ) (r : Result) : Type 0 where
+  pub list : List Definition
+  pub expands : expanded book ≡ done list
+  pub meets : Demand3 list (r .kept) (r .lifted)
+
+pub comes : (book : List ℕ) → Bytes book → Yields (Comes book) (elaborated book)
+comes book b = elaborated-yields (Comes book) book λ ds x. of-value (walkAll full ds (start ds)) λ es t e. record { list = ds; expands = x; meets = met ds es t e (expanded-is-book book b ds x .1) }

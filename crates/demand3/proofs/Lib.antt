@@ -1,9 +1,10 @@
+pub mod Agree
+pub mod Uses
 pub mod Elem
 pub mod Walked
+pub mod Rounds
 pub mod Back
-pub mod Ease
-pub mod Covered
 pub mod Tight
 pub mod Demand3
-pub mod Accepted
+pub mod Delivered
 pub mod Twice

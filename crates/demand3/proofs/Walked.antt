@@ -32,10 +32,9 @@ pub record Grew (s t : State) : Type 0 where
   pub lasts : (n : Name) (c : Combinator) → bodyOf (s .made) n ≡ just c → bodyOf (t .made) n ≡ just c
   pub longer : length (s .made) ≤ length (t .made)
   pub flat : FlatAll (s .made) → FlatAll (t .made)
-  pub formats : NoMacro (s .made) → NoMacro (t .made)
 
 pub stay : (s t : State) → s ≡ t → Grew s t
-stay s t e = rw (← e) (record { keep = λ n p. p; fixed = λ n p q. q; known = λ k. k; distinct = λ k d. d; lasts = λ n c p. p; longer = omega arith; flat = λ f. f; formats = λ f. f })
+stay s t e = rw (← e) (record { keep = λ n p. p; fixed = λ n p q. q; known = λ k. k; distinct = λ k d. d; lasts = λ n c p. p; longer = omega arith; flat = λ f. f })
 
 pub then : (s t u : State) → Grew s t → Grew t u → Grew s u
 then s t u a b = record {
@@ -46,22 +45,14 @@ then s t u a b = record {
   lasts = λ n c p. b .lasts n c (a .lasts n c p);
   longer = omega (arith, a .longer, b .longer);
   flat = λ f. b .flat (a .flat f);
-  formats = λ f. b .formats (a .formats f);
 }
 
-flat-snoc : (ds : List Definition) (n : Name) (ps : List Param) (c : Combinator) → FlatAll ds → Flat c → FlatAll (ds ++ (format n ps c ∷ []))
-flat-snoc [] n ps c h f = (f, tt)
-flat-snoc (format m qs d ∷ ds) n ps c h f = (h .0, flat-snoc ds n ps c (h .1) f)
-flat-snoc (constant m x ∷ ds) n ps c h f = flat-snoc ds n ps c h f
-flat-snoc (byte-order x ∷ ds) n ps c h f = flat-snoc ds n ps c h f
-flat-snoc (macro m qs d ∷ ds) n ps c h f = flat-snoc ds n ps c h f
-
-formats-snoc : (ds : List Definition) (n : Name) (ps : List Param) (c : Combinator) → NoMacro ds → NoMacro (ds ++ (format n ps c ∷ []))
-formats-snoc [] n ps c h = tt
-formats-snoc (format m qs d ∷ ds) n ps c h = formats-snoc ds n ps c h
-formats-snoc (constant m x ∷ ds) n ps c h = formats-snoc ds n ps c h
-formats-snoc (byte-order x ∷ ds) n ps c h = formats-snoc ds n ps c h
-formats-snoc (macro m qs d ∷ ds) n ps c h = absurd h
+pub flat-append : (a b : List Definition) → FlatAll a → FlatAll b → FlatAll (a ++ b)
+flat-append [] b f g = g
+flat-append (format n ps c ∷ a) b f g = (f .0, flat-append a b (f .1) g)
+flat-append (constant n x ∷ a) b f g = flat-append a b f g
+flat-append (byte-order x ∷ a) b f g = flat-append a b f g
+flat-append (macro n ps c ∷ a) b f g = absurd f
 
 -- a lift, from what its inside did
 module _ (c : Combinator) (inside : Walk) (base : Name) (binders : List Param) (s : State) (d : Combinator) (t : State) (l : Lifted full c inside base binders s d t) (g : Grew (l .first) (l .last)) where
@@ -91,8 +82,7 @@ module _ (c : Combinator) (inside : Walk) (base : Name) (binders : List Param) (
         (distinct-snoc (names (l .last .made)) (l .name) (g .distinct (known-first k) (rw (l .first-made) dd)) (name-new k));
     lasts = λ m b p. rw (l .last-made) (bodyOf-lasts (l .last .made) _ m b (g .lasts m b (rw (l .first-made) p)));
     longer = rw (l .last-made) (simp length-append (omega (arith, g .longer, ap length (l .first-made))));
-    flat = λ h. rw (l .last-made) (flat-snoc (l .last .made) (l .name) (l .params) (l .body) (g .flat (rw (l .first-made) h)) f);
-    formats = λ h. rw (l .last-made) (formats-snoc (l .last .made) (l .name) (l .params) (l .body) (g .formats (rw (l .first-made) h)));
+    flat = λ h. rw (l .last-made) (flat-append (l .last .made) (format (l .name) (l .params) (l .body) ∷ []) (g .flat (rw (l .first-made) h)) (f, tt));
   }
 
 pub record Walked (c : Combinator) (s : State) (d : Combinator) (t : State) : Type 0 where
@@ -203,29 +193,28 @@ mutual
       let q : v ≡ t = cc in
       (rw (← q) (then s u v (z .grew) (w .0)), rw (← p) (z .calm, w .1))
 
--- the whole list
-pub walkedAll : (ds : List Definition) (s : State) (es : List Definition) (t : State) → walkAll full ds s ≡ ok es t → Grew s t × FlatAll es
+-- the whole list: what the walk keeps of the states, and that what is left is flat
+pub walkedAll : (ds : List Definition) (s : State) (es : List Definition) (t : State) → walkAll full ds s ≡ ok es t → Grew s t × (NoMacro ds → FlatAll es)
 unfolding walkAll
-walkedAll [] s es t e = let p : [] ≡ es = cc in (stay s t (cc), rw (← p) tt)
+walkedAll [] s es t e = let p : [] ≡ es = cc in (stay s t (cc), λ m. rw (← p) tt)
 walkedAll (format n ps c ∷ ds) s es t e = did (walk full c n ps s) _ es t e λ x u h e₂.
     did (walkAll full ds u) _ es t e₂ λ y v h₂ e₃.
     let w = walked c n ps s x u h in
     let z = walkedAll ds u y v h₂ in
     let p : format n ps x ∷ y ≡ es = cc in
     let q : v ≡ t = cc in
-    (rw (← q) (then s u v (w .grew) (z .0)), rw (← p) (w .flat, z .1))
+    (rw (← q) (then s u v (w .grew) (z .0)), λ m. rw (← p) (w .flat, z .1 m))
 walkedAll (constant n x ∷ ds) s es t e = did (walkAll full ds s) _ es t e λ y v h₂ e₃.
     let z = walkedAll ds s y v h₂ in
     let p : constant n x ∷ y ≡ es = cc in
     let q : v ≡ t = cc in
-    (rw (← q) (z .0), rw (← p) (z .1))
+    (rw (← q) (z .0), λ m. rw (← p) (z .1 m))
 walkedAll (byte-order x ∷ ds) s es t e = did (walkAll full ds s) _ es t e λ y v h₂ e₃.
     let z = walkedAll ds s y v h₂ in
     let p : byte-order x ∷ y ≡ es = cc in
     let q : v ≡ t = cc in
-    (rw (← q) (z .0), rw (← p) (z .1))
+    (rw (← q) (z .0), λ m. rw (← p) (z .1 m))
 walkedAll (macro n ps c ∷ ds) s es t e = did (walkAll full ds s) _ es t e λ y v h₂ e₃.
     let z = walkedAll ds s y v h₂ in
-    let p : macro n ps c ∷ y ≡ es = cc in
     let q : v ≡ t = cc in
-    (rw (← q) (z .0), rw (← p) (z .1))
+    (rw (← q) (z .0), λ m. absurd m)
