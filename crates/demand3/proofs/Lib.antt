@@ -8,3 +8,4 @@ pub mod Tight
 pub mod Demand3
 pub mod Delivered
 pub mod Twice
+pub mod Needed

@@ -2,7 +2,7 @@
 use mathlib.Core.Path.{_≡_, refl, sym, ap, _∙_}
 use mathlib.Core.List.{List, [], _∷_}
 use mathlib.Core.Bool.{Bool, true, false}
-use Prim.Native.Nat.{ℕ, zero, suc, _+_, _≤_}
+use Prim.Native.Nat.{ℕ, zero, suc, _+_, _-_, _≤_}
 use native.Mathlib.Omega.{arith}
 use lib.ListN.{length}
 use Rattle.definition.specs.Res.{Maybe, absent, just}
@@ -12,7 +12,7 @@ use Rattle.definition.specs.Lift.{names}
 use Rattle.definition.specs.PutBack.{bodyOf, instead, meaningOf, replace, replaceI, replaceF, replaceC, inBody, standsFor, back, backAll}
 use Rattle.laws.proofs.Tests.{by-test}
 use Rattle.demand3.specs.Words.{Named, EachBody, EachCallI, EachCallF, EachCallC}
-use Rattle.demand3.specs.PutBack.{wholeOf, orElse, putAt, put, putI, putF, putC, putAll, rounds, roundsAll, NoneLeft, PutsAllBack, GoingOn, OneOutcome}
+use Rattle.demand3.specs.PutBack.{wholeOf, orElse, putAt, put, putI, putF, putC, putAll, times, Ends, rounds, roundsAll, NoneLeft, PutsBack, PutsAllBack, GoingOn, OneOutcome}
 use Rattle.demand3.proofs.Agree.{elem-named}
 use Rattle.demand3.proofs.Elem.{bodyOf-none}
 
@@ -110,7 +110,7 @@ module _ (M : List Definition) where
     nothing-putC (case l c f) = rw (nothing-put c, nothing-putC f)
 
   pub rounds-back : (k : ℕ) (c : Combinator) → rounds k c M ≡ replace c (standsFor M k)
-  unfolding rounds
+  unfolding times
   rounds-back zero c = sym (nothing-put c)
   rounds-back (suc k) c = rounds-back k (put c M) ∙ put-deeper c k
 
@@ -131,7 +131,7 @@ module _ (M : List Definition) where
   nothing-all (macro n ps c ∷ ds) = rw (nothing-all ds)
 
   pub rounds-all-back : (k : ℕ) (ds : List Definition) → roundsAll k ds M ≡ backAll M k ds
-  unfolding roundsAll
+  unfolding times
   rounds-all-back zero ds = sym (nothing-all ds)
   rounds-all-back (suc k) ds = rounds-all-back k (putAll ds M) ∙ all-deeper k ds
 
@@ -182,16 +182,37 @@ module _ (M : List Definition) where
   still-all (byte-order x ∷ ds) h = rw (still-all ds h)
   still-all (macro n ps c ∷ ds) h = rw (still-all ds h)
 
-  rounds-more : (j k n : ℕ) → n ≡ j + k → (ds : List Definition) → roundsAll n ds M ≡ roundsAll k (roundsAll j ds M) M
-  unfolding roundsAll
-  rounds-more zero k n e ds = let p : n ≡ k = omega arith in rw p
-  rounds-more (suc j) k zero e ds = absurd (omega arith)
-  rounds-more (suc j) k (suc n) e ds = rounds-more j k n (omega arith) (putAll ds M)
-
 pub going-on : GoingOn
-unfolding roundsAll
-going-on M zero ds h = refl
-going-on M (suc k) ds h = rw (still-all M ds h) (going-on M k ds h)
+going-on M ds h = still-all M ds h
+
+-- a step that is taken again and again
+module _ {A : Type 0} (step : A → A) where
+  times-more : (j k n : ℕ) → n ≡ j + k → (a : A) → times n step a ≡ times k step (times j step a)
+  unfolding times
+  times-more zero k n e a = let p : n ≡ k = omega arith in rw p
+  times-more (suc j) k zero e a = absurd (omega arith)
+  times-more (suc j) k (suc n) e a = times-more j k n (omega arith) (step a)
+
+  times-still : (k : ℕ) (a : A) → step a ≡ a → times k step a ≡ a
+  unfolding times
+  times-still zero a e = refl
+  times-still (suc k) a e = rw e (times-still k a e)
+
+  -- where none is left the step changes nothing: it has ended there, and whoever stops where none is left has the same
+  module _ (None : A → Type 0) (still : (a : A) → None a → step a ≡ a) where
+    pub ended : (n : ℕ) (before after : A) → times n step before ≡ after → None after → Ends step None n before after
+    ended n before after e h = record { ends = λ k q. times-more n (k - n) k (omega arith) before ∙ rw e (times-still (k - n) after (still after h)); none-left = h }
+
+    pub same-outcome : (n : ℕ) (before after : A) → Ends step None n before after → (k : ℕ) → None (times k step before) → times k step before ≡ after
+    same-outcome n before after e k h = sym (times-still n (times k step before) (still (times k step before) h)) ∙ (sym (times-more k n (k + n) refl before) ∙ e .ends (k + n) (omega arith))
 
 pub one-outcome : OneOutcome
-one-outcome M before after b k h = sym (going-on M (length M) (roundsAll k before M) h) ∙ (sym (rounds-more M k (length M) (k + length M) refl before) ∙ b .ends (k + length M) (omega arith))
+one-outcome M before after e k h = same-outcome (λ es. putAll es M) (EachBody (NoneLeft M)) (λ es w. still-all M es w) (length M) before after e k h
+
+-- putting back that has ended
+module _ (M : List Definition) where
+  pub back-ended : (before after : Combinator) → rounds (length M) before M ≡ after → NoneLeft M after → PutsBack M before after
+  back-ended before after e h = ended (λ d. put d M) (NoneLeft M) (λ d w. still M d w) (length M) before after e h
+
+  pub all-back-ended : (before after : List Definition) → roundsAll (length M) before M ≡ after → EachBody (NoneLeft M) after → PutsAllBack M before after
+  all-back-ended before after e h = ended (λ es. putAll es M) (EachBody (NoneLeft M)) (λ es w. still-all M es w) (length M) before after e h

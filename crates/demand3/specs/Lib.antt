@@ -4,3 +4,4 @@ pub mod PutBack
 pub mod Shortest
 pub mod Demand3
 pub mod Delivered
+pub mod Needed

@@ -61,31 +61,38 @@ putAll (constant n x ∷ ds) lifted = constant n x ∷ putAll ds lifted
 putAll (byte-order x ∷ ds) lifted = byte-order x ∷ putAll ds lifted
 putAll (macro n ps c ∷ ds) lifted = macro n ps c ∷ putAll ds lifted
 
--- k rounds, in one body and in all
-unfoldable pub rounds : ℕ → Combinator → List Definition → Combinator
-rounds zero c lifted = c
-rounds (suc k) c lifted = rounds k (put c lifted) lifted
+module _ {A : Type 0} where
+  -- k times
+  unfoldable pub times : ℕ → (A → A) → A → A
+  times zero step a = a
+  times (suc k) step a = times k step (step a)
 
-unfoldable pub roundsAll : ℕ → List Definition → List Definition → List Definition
-roundsAll zero ds lifted = ds
-roundsAll (suc k) ds lifted = roundsAll k (putAll ds lifted) lifted
+  -- it ends: after n rounds none is left, and more rounds change nothing
+  pub record Ends (step : A → A) (None : A → Type 0) (n : ℕ) (before after : A) : Type 0 where
+    pub ends : (k : ℕ) → n ≤ k → times k step before ≡ after
+    pub none-left : None after
+
+-- k rounds, in one body and in all
+abbrev pub rounds : ℕ → Combinator → List Definition → Combinator
+rounds k c lifted = times k (λ d. put d lifted) c
+
+abbrev pub roundsAll : ℕ → List Definition → List Definition → List Definition
+roundsAll k ds lifted = times k (λ es. putAll es lifted) ds
 
 -- "none is left"
 abbrev pub NoneLeft : List Definition → Combinator → Type 0
 NoneLeft lifted c = EachCall c (λ n. Named n lifted → ⊥)
 
--- it ends: after as many rounds as there are lifted definitions none is left, and more rounds change nothing
-pub record PutsBack (lifted : List Definition) (before after : Combinator) : Type 0 where
-  pub ends : (k : ℕ) → length lifted ≤ k → rounds k before lifted ≡ after
-  pub none-left : NoneLeft lifted after
+-- "until none is left": it ends, after as many rounds as there are lifted definitions
+abbrev pub PutsBack : List Definition → Combinator → Combinator → Type 0
+PutsBack lifted before after = Ends (λ d. put d lifted) (NoneLeft lifted) (length lifted) before after
 
-pub record PutsAllBack (lifted before after : List Definition) : Type 0 where
-  pub ends : (k : ℕ) → length lifted ≤ k → roundsAll k before lifted ≡ after
-  pub none-left : EachBody (NoneLeft lifted) after
+abbrev pub PutsAllBack : List Definition → List Definition → List Definition → Type 0
+PutsAllBack lifted before after = Ends (λ es. putAll es lifted) (EachBody (NoneLeft lifted)) (length lifted) before after
 
 -- once none is left, going on changes nothing, whatever the definitions are
 abbrev pub GoingOn : Type 0
-GoingOn = (lifted : List Definition) (k : ℕ) (ds : List Definition) → EachBody (NoneLeft lifted) ds → roundsAll k ds lifted ≡ ds
+GoingOn = (lifted ds : List Definition) → EachBody (NoneLeft lifted) ds → putAll ds lifted ≡ ds
 
 -- so it does not matter when one stops: where none is left after some number of rounds, they have given what it ends with
 abbrev pub OneOutcome : Type 0
