@@ -9,3 +9,4 @@ pub mod Demand3
 pub mod Delivered
 pub mod Twice
 pub mod Needed
+pub mod Trial

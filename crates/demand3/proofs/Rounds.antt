@@ -193,7 +193,7 @@ module _ {A : Type 0} (step : A → A) where
   times-more (suc j) k zero e a = absurd (omega arith)
   times-more (suc j) k (suc n) e a = times-more j k n (omega arith) (step a)
 
-  times-still : (k : ℕ) (a : A) → step a ≡ a → times k step a ≡ a
+  pub times-still : (k : ℕ) (a : A) → step a ≡ a → times k step a ≡ a
   unfolding times
   times-still zero a e = refl
   times-still (suc k) a e = rw e (times-still k a e)
@@ -216,3 +216,7 @@ module _ (M : List Definition) where
 
   pub all-back-ended : (before after : List Definition) → roundsAll (length M) before M ≡ after → EachBody (NoneLeft M) after → PutsAllBack M before after
   all-back-ended before after e h = ended (λ es. putAll es M) (EachBody (NoneLeft M)) (λ es w. still-all M es w) (length M) before after e h
+
+  -- a body in which none stands is its own
+  pub standing : (c : Combinator) → NoneLeft M c → PutsBack M c c
+  standing c h = record { ends = λ k q. times-still (λ d. put d M) k c (still M c h); none-left = h }

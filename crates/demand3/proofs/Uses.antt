@@ -42,10 +42,10 @@ unfolding root
 root-cut [] rest h = refl
 root-cut (b ∷ s) rest h = rw (ne-eqb b 46 (λ e. h (List·Memᴰ·head (sym e)))) (ap (_∷_ b) (root-cut s rest (λ t. h (List·Memᴰ·tail t))))
 
-root-of : (n u : Name) → Root n u → root n ≡ u
+pub root-of : (n u : Name) → Root n u → root n ≡ u
 root-of n u w = ⊎-elim (λ e. rw e (root-whole u (w .dotless))) (λ v. rw (v .1) (root-cut u (v .0) (w .dotless))) (w .parts)
 
-of-root : (n : Name) → Root n (root n)
+pub of-root : (n : Name) → Root n (root n)
 of-root n = record { dotless = λ h. root-dotless n h; parts = root-parts n }
 
 roots-of : (ns : List Name) (u : Name) → SomeRoot ns u → List·Memᴰ u (map root ns)
@@ -193,15 +193,19 @@ only-there (n ∷ before) p after h w = ⊎-elim
     (λ t. only-there before p after (h .1) t)
     (List·Memᴰ·cases-cons w)
 
+-- names that are named once, and are those of the uses without a binder
+pub shortest-by : (ns : List Name) (c : Combinator) → NoneTwice ns → ((u : Name) → Unbound c u → List·Memᴰ u ns) → ((u : Name) → List·Memᴰ u ns → Unbound c u) → Shortest ns c
+shortest-by ns c twice enough used = record {
+  once = twice;
+  enough = enough;
+  needed = λ before p after e. record {
+    name = p;
+    stands = used p (rw e (Memᴰ·append-right before (List·Memᴰ·head refl)));
+    none = λ w. only-there before p after (rw e at twice) w;
+  };
+}
+
 pub shortest : (c : Combinator) → chainsOk c ≡ true → Shortest (sorted (free c)) c
-shortest c h =
-    let twice = none-twice (sorted (free c)) (sorted-distinct (free c)) in
-    record {
-      once = twice;
-      enough = λ u w. elem-in u (sorted (free c)) (elem-sorted u (free c) ∙ in-elem u (free c) (used-collected c h u w));
-      needed = λ before p after e. record {
-        name = p;
-        stands = collected-used c p (elem-in p (free c) (sym (elem-sorted p (free c)) ∙ in-elem p (sorted (free c)) (rw e (Memᴰ·append-right before (List·Memᴰ·head refl)))));
-        none = λ w. only-there before p after (rw e at twice) w;
-      };
-    }
+shortest c h = shortest-by (sorted (free c)) c (none-twice (sorted (free c)) (sorted-distinct (free c)))
+    (λ u w. elem-in u (sorted (free c)) (elem-sorted u (free c) ∙ in-elem u (free c) (used-collected c h u w)))
+    (λ u w. collected-used c u (elem-in u (free c) (sym (elem-sorted u (free c)) ∙ in-elem u (sorted (free c)) w)))

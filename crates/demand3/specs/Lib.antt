@@ -5,3 +5,4 @@ pub mod Shortest
 pub mod Demand3
 pub mod Delivered
 pub mod Needed
+pub mod Trial
