@@ -101,6 +101,38 @@ module _ (P : Name → Type 0) (test : Name → Bool) (h : (n : Name) → test n
     passed-callsC no-case p = tt
     passed-callsC (case l c f) p = let q = both-true (everyInvocation c test) (everyInvocationC f test) p in (passed-calls c (q .0), passed-callsC f (q .1))
 
+-- what says less holds too
+module _ (P Q : Name → Type 0) (h : (n : Name) → P n → Q n) where
+  mutual
+    pub fewer-calls : (c : Combinator) → EachCall c P → EachCall c Q
+    fewer-calls (plain i) p = fewer-callsI i p
+    fewer-calls (chained i c) p = (fewer-callsI i (p .0), fewer-calls c (p .1))
+
+    fewer-callsI : (i : Inner) → EachCallI i P → EachCallI i Q
+    fewer-callsI (leaf k x) p = tt
+    fewer-callsI (struct f) p = fewer-callsF f p
+    fewer-callsI (choice s k f) p = fewer-callsC f p
+    fewer-callsI (shell x c) p = fewer-calls c p
+    fewer-callsI (bytes l) p = tt
+    fewer-callsI (invocation n a) p = h n p
+    fewer-callsI (macro-invocation n a) p = tt
+
+    fewer-callsF : (f : Fields) → EachCallF f P → EachCallF f Q
+    fewer-callsF no-field p = tt
+    fewer-callsF (field k l c f) p = (fewer-calls c (p .0), fewer-callsF f (p .1))
+    fewer-callsF (const l x f) p = fewer-callsF f p
+
+    fewer-callsC : (f : Cases) → EachCallC f P → EachCallC f Q
+    fewer-callsC no-case p = tt
+    fewer-callsC (case l c f) p = (fewer-calls c (p .0), fewer-callsC f (p .1))
+
+pub fewer-bodies : (P Q : Combinator → Type 0) → ((c : Combinator) → P c → Q c) → (ds : List Definition) → EachBody P ds → EachBody Q ds
+fewer-bodies P Q h [] p = tt
+fewer-bodies P Q h (format n ps c ∷ ds) p = (h c (p .0), fewer-bodies P Q h ds (p .1))
+fewer-bodies P Q h (constant n x ∷ ds) p = fewer-bodies P Q h ds p
+fewer-bodies P Q h (byte-order x ∷ ds) p = fewer-bodies P Q h ds p
+fewer-bodies P Q h (macro n ps c ∷ ds) p = fewer-bodies P Q h ds p
+
 -- chains
 is-tail : (k : Leaf) → IsTail k → isTail k ≡ true
 unfolding isTail
@@ -122,7 +154,7 @@ tail-is tail p = tt
 tail-is nothing p = not-both false p refl
 tail-is never p = not-both false p refl
 
-may-chain : (i : Inner) → BytesOrTail i → bytesOrTail i ≡ true
+pub may-chain : (i : Inner) → BytesOrTail i → bytesOrTail i ≡ true
 unfolding bytesOrTail
 may-chain (leaf k x) p = is-tail k p
 may-chain (struct f) p = absurd p

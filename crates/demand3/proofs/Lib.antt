@@ -1,8 +1,10 @@
 pub mod Agree
 pub mod Uses
 pub mod Elem
-pub mod Walked
 pub mod Rounds
+pub mod Trace
+pub mod Grew
+pub mod Flat
 pub mod Back
 pub mod Tight
 pub mod Demand3

@@ -1,143 +1,22 @@
--- Putting back round by round is the definition's putting back k deep; once no lifted call is left, more rounds change nothing.
+-- Putting back round by round: once no lifted call is left, more rounds change nothing.
 use mathlib.Core.Path.{_≡_, refl, sym, ap, _∙_}
 use mathlib.Core.List.{List, [], _∷_}
-use mathlib.Core.Bool.{Bool, true, false}
-use Prim.Native.Nat.{ℕ, zero, suc, _+_, _-_, _≤_}
+use Prim.Native.Nat.{ℕ, zero, suc, _+_, _-_}
 use native.Mathlib.Omega.{arith}
 use lib.ListN.{length}
-use Rattle.definition.specs.Res.{Maybe, absent, just}
+use Rattle.definition.specs.Res.{absent}
 use Rattle.definition.specs.Tree.{Name, Combinator, plain, chained, Inner, leaf, struct, choice, shell, bytes, invocation, macro-invocation, Fields, no-field, field, const, Cases, no-case, case, Definition, format, constant, byte-order, macro}
-use Rattle.definition.specs.Names.{eqName, elem}
+use Rattle.definition.specs.Names.{elem}
 use Rattle.definition.specs.Lift.{names}
-use Rattle.definition.specs.PutBack.{bodyOf, instead, meaningOf, replace, replaceI, replaceF, replaceC, inBody, standsFor, back, backAll}
 use Rattle.laws.proofs.Tests.{by-test}
 use Rattle.demand3.specs.Words.{Named, EachBody, EachCallI, EachCallF, EachCallC}
-use Rattle.demand3.specs.PutBack.{wholeOf, orElse, putAt, put, putI, putF, putC, putAll, times, Ends, rounds, roundsAll, NoneLeft, PutsBack, PutsAllBack, GoingOn, OneOutcome}
+use Rattle.demand3.specs.PutBack.{wholeOf, putAt, put, putI, putF, putC, putAll, times, Ends, rounds, roundsAll, NoneLeft, PutsBack, PutsAllBack, GoingOn, OneOutcome}
 use Rattle.demand3.proofs.Agree.{elem-named}
-use Rattle.demand3.proofs.Elem.{bodyOf-none}
-
-whole-body : (ds : List Definition) (n : Name) → wholeOf ds n ≡ bodyOf ds n
-unfolding wholeOf bodyOf
-whole-body [] n = refl
-whole-body (format m ps c ∷ ds) n = rw (whole-body ds n)
-whole-body (constant m x ∷ ds) n = whole-body ds n
-whole-body (byte-order x ∷ ds) n = whole-body ds n
-whole-body (macro m ps c ∷ ds) n = whole-body ds n
+use Rattle.demand3.proofs.Elem.{wholeOf-none}
 
 module _ (M : List Definition) where
-  -- a name that has no body stands for nothing at any depth
-  silent : (k : ℕ) (n : Name) → bodyOf M n ≡ absent → standsFor M k n ≡ absent
-  unfolding standsFor inBody
-  silent zero n e = refl
-  silent (suc k) n e = rw e
-
-  -- one round more is one call deeper
-  call-deeper : (k : ℕ) (n : Name) (a : List Name) (m : Maybe Combinator) → bodyOf M n ≡ m
-      → replace (orElse m (plain (invocation n a))) (standsFor M k) ≡ instead (inBody m (standsFor M k)) (plain (invocation n a))
-  unfolding replace meaningOf inBody
-  call-deeper k n a (just d) e = refl
-  call-deeper k n a absent e = rw (silent k n e)
-
-  plain-deeper : (i : Inner) (k : ℕ) → replaceI (putI i M) (standsFor M k) ≡ replaceI i (standsFor M (suc k)) → replace (put (plain i) M) (standsFor M k) ≡ replace (plain i) (standsFor M (suc k))
-  unfolding put putAt replace meaningOf standsFor
-  plain-deeper (leaf a x) k e = ap plain e
-  plain-deeper (struct f) k e = ap plain e
-  plain-deeper (choice s a f) k e = ap plain e
-  plain-deeper (shell x c) k e = ap plain e
-  plain-deeper (bytes l) k e = ap plain e
-  plain-deeper (invocation n a) k e = rw (whole-body M n) (call-deeper k n a (bodyOf M n) refl)
-  plain-deeper (macro-invocation n a) k e = ap plain e
-
-  mutual
-    unfolding put replace
-
-    put-deeper : (c : Combinator) (k : ℕ) → replace (put c M) (standsFor M k) ≡ replace c (standsFor M (suc k))
-    put-deeper (plain i) k = plain-deeper i k (put-deeperI i k)
-    put-deeper (chained i c) k = rw (put-deeperI i k, put-deeper c k)
-
-    put-deeperI : (i : Inner) (k : ℕ) → replaceI (putI i M) (standsFor M k) ≡ replaceI i (standsFor M (suc k))
-    put-deeperI (leaf a x) k = refl
-    put-deeperI (struct f) k = rw (put-deeperF f k)
-    put-deeperI (choice s a f) k = rw (put-deeperC f k)
-    put-deeperI (shell x c) k = rw (put-deeper c k)
-    put-deeperI (bytes l) k = refl
-    put-deeperI (invocation n a) k = refl
-    put-deeperI (macro-invocation n a) k = refl
-
-    put-deeperF : (f : Fields) (k : ℕ) → replaceF (putF f M) (standsFor M k) ≡ replaceF f (standsFor M (suc k))
-    put-deeperF no-field k = refl
-    put-deeperF (field m l c f) k = rw (put-deeper c k, put-deeperF f k)
-    put-deeperF (const l x f) k = rw (put-deeperF f k)
-
-    put-deeperC : (f : Cases) (k : ℕ) → replaceC (putC f M) (standsFor M k) ≡ replaceC f (standsFor M (suc k))
-    put-deeperC no-case k = refl
-    put-deeperC (case l c f) k = rw (put-deeper c k, put-deeperC f k)
-
-  -- no round, no change
-  plain-nothing : (i : Inner) → replaceI i (standsFor M 0) ≡ i → replace (plain i) (standsFor M 0) ≡ plain i
-  unfolding replace meaningOf standsFor
-  plain-nothing (leaf a x) e = ap plain e
-  plain-nothing (struct f) e = ap plain e
-  plain-nothing (choice s a f) e = ap plain e
-  plain-nothing (shell x c) e = ap plain e
-  plain-nothing (bytes l) e = ap plain e
-  plain-nothing (invocation n a) e = refl
-  plain-nothing (macro-invocation n a) e = ap plain e
-
-  mutual
-    unfolding replace
-
-    nothing-put : (c : Combinator) → replace c (standsFor M 0) ≡ c
-    nothing-put (plain i) = plain-nothing i (nothing-putI i)
-    nothing-put (chained i c) = rw (nothing-putI i, nothing-put c)
-
-    nothing-putI : (i : Inner) → replaceI i (standsFor M 0) ≡ i
-    nothing-putI (leaf a x) = refl
-    nothing-putI (struct f) = rw (nothing-putF f)
-    nothing-putI (choice s a f) = rw (nothing-putC f)
-    nothing-putI (shell x c) = rw (nothing-put c)
-    nothing-putI (bytes l) = refl
-    nothing-putI (invocation n a) = refl
-    nothing-putI (macro-invocation n a) = refl
-
-    nothing-putF : (f : Fields) → replaceF f (standsFor M 0) ≡ f
-    nothing-putF no-field = refl
-    nothing-putF (field m l c f) = rw (nothing-put c, nothing-putF f)
-    nothing-putF (const l x f) = rw (nothing-putF f)
-
-    nothing-putC : (f : Cases) → replaceC f (standsFor M 0) ≡ f
-    nothing-putC no-case = refl
-    nothing-putC (case l c f) = rw (nothing-put c, nothing-putC f)
-
-  pub rounds-back : (k : ℕ) (c : Combinator) → rounds k c M ≡ replace c (standsFor M k)
-  unfolding times
-  rounds-back zero c = sym (nothing-put c)
-  rounds-back (suc k) c = rounds-back k (put c M) ∙ put-deeper c k
-
-  all-deeper : (k : ℕ) (ds : List Definition) → backAll M k (putAll ds M) ≡ backAll M (suc k) ds
-  unfolding backAll putAll back
-  all-deeper k [] = refl
-  all-deeper k (format n ps c ∷ ds) = rw (put-deeper c k, all-deeper k ds)
-  all-deeper k (constant n x ∷ ds) = rw (all-deeper k ds)
-  all-deeper k (byte-order x ∷ ds) = rw (all-deeper k ds)
-  all-deeper k (macro n ps c ∷ ds) = rw (all-deeper k ds)
-
-  nothing-all : (ds : List Definition) → backAll M 0 ds ≡ ds
-  unfolding backAll back
-  nothing-all [] = refl
-  nothing-all (format n ps c ∷ ds) = rw (nothing-put c, nothing-all ds)
-  nothing-all (constant n x ∷ ds) = rw (nothing-all ds)
-  nothing-all (byte-order x ∷ ds) = rw (nothing-all ds)
-  nothing-all (macro n ps c ∷ ds) = rw (nothing-all ds)
-
-  pub rounds-all-back : (k : ℕ) (ds : List Definition) → roundsAll k ds M ≡ backAll M k ds
-  unfolding times
-  rounds-all-back zero ds = sym (nothing-all ds)
-  rounds-all-back (suc k) ds = rounds-all-back k (putAll ds M) ∙ all-deeper k ds
-
-  -- once none is left
-  no-whole : (n : Name) → (Named n M → ⊥) → wholeOf M n ≡ absent
-  no-whole n h = whole-body M n ∙ by-test (elem n (names M)) (λ q. absurd (h (elem-named n M q))) (λ q. bodyOf-none M n q)
+  pub no-whole : (n : Name) → (Named n M → ⊥) → wholeOf M n ≡ absent
+  no-whole n h = by-test (elem n (names M)) (λ q. absurd (h (elem-named n M q))) (λ q. wholeOf-none M n q)
 
   plain-still : (i : Inner) → EachCallI i (λ n. Named n M → ⊥) → putI i M ≡ i → put (plain i) M ≡ plain i
   unfolding put putAt
@@ -205,6 +84,19 @@ module _ {A : Type 0} (step : A → A) where
 
     pub same-outcome : (n : ℕ) (before after : A) → Ends step None n before after → (k : ℕ) → None (times k step before) → times k step before ≡ after
     same-outcome n before after e k h = sym (times-still n (times k step before) (still (times k step before) h)) ∙ (sym (times-more k n (k + n) refl before) ∙ e .ends (k + n) (omega arith))
+
+-- a step on the whole that is a step on its parts
+module _ {A B : Type 0} (f : A → B) (stepA : A → A) (stepB : B → B) (e : (a : A) → stepB (f a) ≡ f (stepA a)) where
+  pub times-under : (k : ℕ) (a b : A) → times k stepA a ≡ b → times k stepB (f a) ≡ f b
+  unfolding times
+  times-under zero a b h = ap f h
+  times-under (suc k) a b h = rw (e a) (times-under k (stepA a) b h)
+
+module _ {A B C : Type 0} (f : A → B → C) (stepA : A → A) (stepB : B → B) (stepC : C → C) (e : (a : A) (b : B) → stepC (f a b) ≡ f (stepA a) (stepB b)) where
+  pub times-both : (k : ℕ) (a : A) (b : B) (x : A) (y : B) → times k stepA a ≡ x → times k stepB b ≡ y → times k stepC (f a b) ≡ f x y
+  unfolding times
+  times-both zero a b x y p q = rw (p, q)
+  times-both (suc k) a b x y p q = rw (e a b) (times-both k (stepA a) (stepB b) x y p q)
 
 pub one-outcome : OneOutcome
 one-outcome M before after e k h = same-outcome (λ es. putAll es M) (EachBody (NoneLeft M)) (λ es w. still-all M es w) (length M) before after e k h

@@ -2,20 +2,20 @@
 use mathlib.Core.Path.{_≡_, refl, sym, ap, _∙_}
 use mathlib.Core.Logic.{_⊎_, inl, inr, ⊎-elim}
 use mathlib.Core.List.{List, [], _∷_, _++_, map, List·Memᴰ, List·Memᴰ·head, List·Memᴰ·tail, List·Memᴰ·not-nil, List·Memᴰ·cases-cons, Memᴰ·append-left, Memᴰ·append-right, List·Memᴰ·append-cases}
-use mathlib.Core.Bool.{Bool, true, false, _&&_}
+use mathlib.Core.Bool.{Bool, true, false}
 use Prim.Native.Nat.{ℕ}
 use lib.Dec.{eqb}
 use borrow.Author.Tests.{eqb-true, eqb-false, ne-eqb}
 use Rattle.definition.specs.Tree.{Name, Shell, wrap, vec, option, array, Selector, none, by, FieldKind, ordinary, dependent, Combinator, plain, chained, Inner, leaf, struct, choice, shell, bytes, invocation, macro-invocation, Fields, no-field, field, const, Cases, no-case, case}
 use Rattle.definition.specs.Names.{eqName, elem, remove, root, sorted}
 use Rattle.definition.specs.Collect.{bytesOrTail, only, selectorUses, shellUses, unbound, free, freeI, freeF, freeC}
-use Rattle.definition.specs.Bodies.{chainsOk, chainsOkI, chainsOkF, chainsOkC}
 use Rattle.laws.specs.Lists.{Distinct}
-use Rattle.laws.proofs.Tests.{by-test, not-both, both-true}
+use Rattle.laws.proofs.Tests.{by-test, not-both}
 use Rattle.laws.proofs.Members.{eqName-true, eqName-refl, elem-in, in-elem}
 use Rattle.laws.proofs.Order.{elem-sorted, sorted-distinct}
-use Rattle.demand3.specs.Words.{Root, SomeRoot, SelectorUse, ShellUse, Past, Unbound, UnboundI, UnboundF, UnboundC}
+use Rattle.demand3.specs.Words.{PlainChains, PlainChainsI, PlainChainsF, PlainChainsC, Root, SomeRoot, SelectorUse, ShellUse, Past, Unbound, UnboundI, UnboundF, UnboundC}
 use Rattle.demand3.specs.Shortest.{NoneTwice, Shortest}
+use Rattle.demand3.proofs.Agree.{may-chain}
 
 -- roots
 root-dotless : (n : Name) → List·Memᴰ 46 (root n) → ⊥
@@ -149,16 +149,14 @@ module _ {X Y : Type 0} where
   to-append u a b f g w = ⊎-elim (λ x. Memᴰ·append-left b (f x)) (λ y. Memᴰ·append-right a (g y)) w
 
 mutual
-  unfolding free chainsOk
+  unfolding free
 
-  pub used-collected : (c : Combinator) → chainsOk c ≡ true → (u : Name) → Unbound c u → List·Memᴰ u (free c)
+  pub used-collected : (c : Combinator) → PlainChains c → (u : Name) → Unbound c u → List·Memᴰ u (free c)
   used-collected (plain i) h u w = used-collectedI i h u w
   used-collected (chained i c) h u w =
-      let p = both-true (bytesOrTail i) (chainsOkI i && chainsOk c) h in
-      let q = both-true (chainsOkI i) (chainsOk c) (p .1) in
-      rw (p .0) (to-append u (freeI i) (free c) (λ a. used-collectedI i (q .0) u a) (λ b. used-collected c (q .1) u b) w)
+      rw (may-chain i (h .0)) (to-append u (freeI i) (free c) (λ a. used-collectedI i (h .1 .0) u a) (λ b. used-collected c (h .1 .1) u b) w)
 
-  used-collectedI : (i : Inner) → chainsOkI i ≡ true → (u : Name) → UnboundI i u → List·Memᴰ u (freeI i)
+  used-collectedI : (i : Inner) → PlainChainsI i → (u : Name) → UnboundI i u → List·Memᴰ u (freeI i)
   used-collectedI (leaf k x) h u w = absurd w
   used-collectedI (struct f) h u w = used-collectedF f h u w
   used-collectedI (choice s k f) h u w = to-append u (selectorUses s) (freeC f) (λ a. selector-use s u a) (λ b. used-collectedC f h u b) w
@@ -167,18 +165,16 @@ mutual
   used-collectedI (invocation n a) h u w = roots-of a u w
   used-collectedI (macro-invocation n a) h u w = absurd w
 
-  used-collectedF : (f : Fields) → chainsOkF f ≡ true → (u : Name) → UnboundF f u → List·Memᴰ u (freeF f)
+  used-collectedF : (f : Fields) → PlainChainsF f → (u : Name) → UnboundF f u → List·Memᴰ u (freeF f)
   used-collectedF no-field h u w = absurd w
   used-collectedF (field k l c f) h u w =
-      let p = both-true (chainsOk c) (chainsOkF f) h in
-      to-append u (free c) (unbound k l (freeF f)) (λ a. used-collected c (p .0) u a) (λ b. past k l u (UnboundF f u) (freeF f) (λ t. used-collectedF f (p .1) u t) b) w
+      to-append u (free c) (unbound k l (freeF f)) (λ a. used-collected c (h .0) u a) (λ b. past k l u (UnboundF f u) (freeF f) (λ t. used-collectedF f (h .1) u t) b) w
   used-collectedF (const l x f) h u w = used-collectedF f h u w
 
-  used-collectedC : (f : Cases) → chainsOkC f ≡ true → (u : Name) → UnboundC f u → List·Memᴰ u (freeC f)
+  used-collectedC : (f : Cases) → PlainChainsC f → (u : Name) → UnboundC f u → List·Memᴰ u (freeC f)
   used-collectedC no-case h u w = absurd w
   used-collectedC (case l c f) h u w =
-      let p = both-true (chainsOk c) (chainsOkC f) h in
-      to-append u (free c) (freeC f) (λ a. used-collected c (p .0) u a) (λ b. used-collectedC f (p .1) u b) w
+      to-append u (free c) (freeC f) (λ a. used-collected c (h .0) u a) (λ b. used-collectedC f (h .1) u b) w
 
 -- the sorted list
 none-twice : (ns : List Name) → Distinct ns → NoneTwice ns
@@ -205,7 +201,7 @@ shortest-by ns c twice enough used = record {
   };
 }
 
-pub shortest : (c : Combinator) → chainsOk c ≡ true → Shortest (sorted (free c)) c
+pub shortest : (c : Combinator) → PlainChains c → Shortest (sorted (free c)) c
 shortest c h = shortest-by (sorted (free c)) c (none-twice (sorted (free c)) (sorted-distinct (free c)))
     (λ u w. elem-in u (sorted (free c)) (elem-sorted u (free c) ∙ in-elem u (free c) (used-collected c h u w)))
     (λ u w. collected-used c u (elem-in u (free c) (sym (elem-sorted u (free c)) ∙ in-elem u (sorted (free c)) w)))
