@@ -5,21 +5,19 @@ use mathlib.Core.Bool.{Bool, true, false, _&&_}
 use Prim.Native.Nat.{ℕ, _+_, _-_, _≤_}
 use native.Mathlib.Omega.{arith}
 use lib.Dec.{leb}
-use lib.ListN.{length, take, drop, length-append}
+use lib.ListN.{length, drop, length-append}
 use lib.Seq.{take-append-seam, drop-append-seam}
 use borrow.Author.Tests.{leb-true, le-leb}
 use Rattle.definition.specs.Res.{ok}
 use Rattle.definition.specs.Code.{work-short}
 use Rattle.definition.specs.Out.{Out, refused, done, given}
-use Rattle.definition.specs.Tree.{Definition}
 use Rattle.definition.specs.Contents.{readBook}
 use Rattle.definition.specs.Write.{wBook}
-use Rattle.definition.specs.Answer.{expanded, Result, all, Answer, answered, attempt, answer, output}
+use Rattle.definition.specs.Answer.{expanded, Result, all, answered, attempt, answer}
 use Rattle.definition.specs.Premise.{callsKnown, chainsPlain, tested, told, premise}
 use Rattle.laws.proofs.Tests.{both-true}
 use Rattle.laws.proofs.Steps.{yielded, did-out, did-given}
 use Rattle.laws.proofs.Results.{attempt-yields, result-is-book}
-use Rattle.demand3.specs.Demand3.{Demand3}
 use Rattle.demand3.specs.Delivered.{Delivered, AcceptedIsDelivered, Premises, YesIsPremises}
 use Rattle.demand3.proofs.Agree.{calls-known, known-calls, chains-plain, plain-chains}
 use Rattle.demand3.proofs.Demand3.{Comes, comes}

@@ -7,7 +7,7 @@ use lib.ListN.{length}
 use Rattle.definition.specs.Tree.{Name, Combinator, plain, chained, Inner, leaf, struct, choice, shell, bytes, invocation, macro-invocation, Fields, no-field, field, const, Cases, no-case, case, Param, Definition, format, constant, byte-order, macro}
 use Rattle.definition.specs.Lift.{State}
 use Rattle.demand3.specs.Words.{Named, EachBody, EachCall, EachCallI, EachCallF, EachCallC, PlainChains, PlainChainsI, PlainChainsF, PlainChainsC}
-use Rattle.demand3.specs.PutBack.{rounds, NoneLeft}
+use Rattle.demand3.specs.PutBack.{rounds}
 use Rattle.demand3.specs.Demand3.{Tight, AllTight}
 use Rattle.demand3.proofs.Uses.{shortest}
 use Rattle.demand3.proofs.Agree.{fewer-calls}

@@ -1,7 +1,7 @@
 -- The right result of the trial meets demand 3, and each wrong one does not.
 use mathlib.Core.Path.{_≡_, refl, sym, _∙_}
 use mathlib.Core.Logic.{_⊎_, inl, inr, ⊎-elim}
-use mathlib.Core.List.{List, [], _∷_, List·Memᴰ, List·Memᴰ·head, List·Memᴰ·tail, List·Memᴰ·not-nil, List·Memᴰ·cases-cons, List·Memᴰ·eq-of-singleton}
+use mathlib.Core.List.{List, [], _∷_, List·Memᴰ, List·Memᴰ·head, List·Memᴰ·not-nil, List·Memᴰ·cases-cons, List·Memᴰ·eq-of-singleton}
 use mathlib.Core.Bool.{Bool, true, not, _&&_}
 use native.Mathlib.Omega.{arith}
 use lib.ListN.{length, drop}
@@ -18,7 +18,7 @@ use Rattle.laws.specs.Lists.{paramNames}
 use Rattle.laws.proofs.Tests.{not-both, both-true, not-true}
 use Rattle.laws.proofs.Members.{elem-in, in-elem}
 use Rattle.demand3.specs.Words.{Named, Root, Unbound}
-use Rattle.demand3.specs.PutBack.{wholeOf, putAt, put, putAll, times, NoneLeft, rounds}
+use Rattle.demand3.specs.PutBack.{wholeOf, putAt, put, putAll, times, NoneLeft}
 use Rattle.demand3.specs.Shortest.{NoneTwice, Shortest}
 use Rattle.demand3.specs.Demand3.{CallsKnown, ChainsPlain, Apart, Tight, AllTight}
 use Rattle.demand3.specs.Trial.{list, kept, lifted, right, Meets, Trial, inBytes, inArray, inSelector, inCall}

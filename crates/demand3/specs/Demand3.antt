@@ -1,5 +1,4 @@
 -- Demand 3, for the expanded list `ds`, and what the result keeps of it and what is lifted.
-use mathlib.Core.Path.{_≡_}
 use mathlib.Core.List.{List, [], _∷_, _++_}
 use Rattle.definition.specs.Tree.{Name, Param, Combinator, Definition, format, constant, byte-order, macro}
 use Rattle.laws.specs.Lists.{paramNames}

@@ -3,7 +3,6 @@ use mathlib.Core.Path.{_≡_}
 use mathlib.Core.List.{List, [], _∷_, map}
 use Prim.Native.Nat.{ℕ}
 use Prim.Native.String.{String}
-use Rattle.definition.specs.Utf8.{utf8}
 use Rattle.definition.specs.Out.{Out, done}
 use Rattle.definition.specs.Tree.{struct, no-field, Combinator, plain, chained, Definition}
 use Rattle.definition.specs.Write.{wBook}

@@ -2,7 +2,7 @@
 use mathlib.Core.Path.{_≡_}
 use mathlib.Core.List.{List, [], _∷_}
 use Prim.Native.String.{String}
-use Rattle.definition.specs.Tree.{Combinator, plain, Inner, struct, choice, by, enums, no-field, no-case, Param, Definition}
+use Rattle.definition.specs.Tree.{Combinator, plain, struct, choice, by, enums, no-field, no-case, Param, Definition}
 use Rattle.definition.specs.Utf8.{utf8}
 use Rattle.definition.specs.Out.{done}
 use Rattle.definition.specs.Write.{wBook}
