@@ -229,3 +229,36 @@ module _ {s : List ℕ} {at end : ℕ} {path₀ : List ℕ} {len : ℕ} {binders
 pub some : (a : ℕ) → (a ≡ 0 → ⊥) → 0 < a
 some zero h = absurd (h refl)
 some (suc a) h = omega arith
+
+-- ---- what is lent keeps its length
+pub record Lengths (path₀ binders₀ bound₀ uses₀ spare₀ made₀ places₀ hashes₀ hints₀ rows₀ params₀ number₀ order₀ path₁ binders₁ bound₁ uses₁ spare₁ made₁ places₁ hashes₁ hints₁ rows₁ params₁ number₁ order₁ : List ℕ) : Type 0 where
+  pub path : length path₁ ≡ length path₀
+  pub binders : length binders₁ ≡ length binders₀
+  pub bound : length bound₁ ≡ length bound₀
+  pub uses : length uses₁ ≡ length uses₀
+  pub spare : length spare₁ ≡ length spare₀
+  pub made : length made₁ ≡ length made₀
+  pub places : length places₁ ≡ length places₀
+  pub hashes : length hashes₁ ≡ length hashes₀
+  pub hints : length hints₁ ≡ length hints₀
+  pub rows : length rows₁ ≡ length rows₀
+  pub params : length params₁ ≡ length params₀
+  pub number : length number₁ ≡ length number₀
+  pub order : length order₁ ≡ length order₀
+
+pub lengths-on : {path₀ binders₀ bound₀ uses₀ spare₀ made₀ places₀ hashes₀ hints₀ rows₀ params₀ number₀ order₀ path binders bound uses spare made places hashes hints rows params number order path′ binders′ bound′ uses′ spare′ made′ places′ hashes′ hints′ rows′ params′ number′ order′ : List ℕ} → Lengths path₀ binders₀ bound₀ uses₀ spare₀ made₀ places₀ hashes₀ hints₀ rows₀ params₀ number₀ order₀ path binders bound uses spare made places hashes hints rows params number order → Lengths path binders bound uses spare made places hashes hints rows params number order path′ binders′ bound′ uses′ spare′ made′ places′ hashes′ hints′ rows′ params′ number′ order′ → Lengths path₀ binders₀ bound₀ uses₀ spare₀ made₀ places₀ hashes₀ hints₀ rows₀ params₀ number₀ order₀ path′ binders′ bound′ uses′ spare′ made′ places′ hashes′ hints′ rows′ params′ number′ order′
+lengths-on x y = record {
+  path = y .path ∙ x .path;
+  binders = y .binders ∙ x .binders;
+  bound = y .bound ∙ x .bound;
+  uses = y .uses ∙ x .uses;
+  spare = y .spare ∙ x .spare;
+  made = y .made ∙ x .made;
+  places = y .places ∙ x .places;
+  hashes = y .hashes ∙ x .hashes;
+  hints = y .hints ∙ x .hints;
+  rows = y .rows ∙ x .rows;
+  params = y .params ∙ x .params;
+  number = y .number ∙ x .number;
+  order = y .order ∙ x .order;
+}
