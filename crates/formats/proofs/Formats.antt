@@ -17,7 +17,8 @@ use Rattle.seek.specs.Here.{Here}
 use Rattle.seek.proofs.Here.{here-length, number-here, name-here}
 use Rattle.lookup.specs.Name.{nameAt}
 use Rattle.lookup.proofs.Names.{stands}
-use Rattle.writer.specs.Buf.{after, Wrote}
+use Rattle.writer.specs.Buf.{Wrote}
+use Rattle.writer.proofs.Wrote.{place-is}
 use Rattle.names.specs.Name.{Held}
 use Rattle.names.proofs.Held.{grown}
 use Rattle.lift.specs.declared.Counts.{Counts}
@@ -38,6 +39,9 @@ use Rattle.formats.specs.Formats.{Format, EndsIn, Formatted, Defined}
 -- a name that was put into an empty path
 pub held : {d : List ℕ} {name : Name} {d′ : List ℕ} {r : ℕ} → Wrote d 0 name d′ r → Held d′ r name
 held {d} w = grown {name = []} (record { place = omega arith; bytes = sym (take-nil (length d)) }) w
+
+pub len-most : {d name d′ : List ℕ} {r : ℕ} → Wrote d 0 name d′ r → length d ≡ 255 → r ≤ 256
+len-most w l = omega (arith, place-is w)
 
 module _ {s : List ℕ} {at : ℕ} (short : length s ≤ 16384) {list : ℕ} (el : list ≡ namePast s at) where
   module _ (m : Name) (ps : List Param) (c : Combinator) (z : List ℕ) (h : Here s at (wDefinition (format m ps c) z)) where
@@ -126,8 +130,3 @@ module _ {s : List ℕ} {kind at : ℕ} {made places rows params order : List �
       of (constant m x) e = (refl, g)
       of (byte-order x) e = (refl, g)
       of (macro m ps c) e = (refl, g)
-
--- a name in the path has 255 bytes at most, or its length says that it has more
-pub short-name : {d p : List ℕ} {at r : ℕ} → r ≡ after d at p → length d ≡ 255 → r ≤ 256
-unfolding after
-short-name e l = omega (arith, e, l)
