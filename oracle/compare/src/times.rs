@@ -1,7 +1,7 @@
 //! Time against size, of books that are refused at their very last byte: what reading costs, and nothing else but the
 //! constant cost of a call, which a book that is refused at once has too.
 
-use crate::callee::{Call, Callee, Request};
+use crate::callee::{Call, Callee, Request, Times};
 use crate::case::WORK_BYTES;
 use driver::build::*;
 use driver::limits::BOOK_BYTES;
@@ -160,10 +160,10 @@ fn timed(callee: &mut dyn Callee, book: &[u8], code: u32) -> Result<f64, String>
         out: 0,
         work: WORK_BYTES,
         noise: 0,
-        times: TIMES,
+        times: Times::ForTime(TIMES),
     })?;
     match reply.numbers[0] {
-        got if got == code => Ok(f64::from(reply.nanoseconds)),
+        got if got == code => Ok(f64::from(reply.measure)),
         got => Err(format!("answered {got} where {code} was expected")),
     }
 }
