@@ -59,25 +59,27 @@ struct Running {
 }
 
 impl Harness {
-    pub fn new(words: Vec<String>) -> Self {
-        let running = None;
-        Harness { words, running }
+    pub fn new(words: Vec<String>) -> Result<Self, String> {
+        let running = Some(started(&words)?);
+        Ok(Harness { words, running })
     }
+}
 
-    fn start(&self) -> io::Result<Running> {
-        let mut child = Command::new(&self.words[0])
-            .args(&self.words[1..])
-            .stdin(Stdio::piped())
-            .stdout(Stdio::piped())
-            .spawn()?;
-        match (child.stdin.take(), child.stdout.take()) {
-            (Some(input), Some(output)) => Ok(Running {
-                child,
-                input,
-                output,
-            }),
-            _ => Err(io::Error::other("no pipe to the harness")),
-        }
+fn started(words: &[String]) -> Result<Running, String> {
+    let unable = |error| format!("{} can't be run: {error}", words.join(" "));
+    let mut child = Command::new(&words[0])
+        .args(&words[1..])
+        .stdin(Stdio::piped())
+        .stdout(Stdio::piped())
+        .spawn()
+        .map_err(unable)?;
+    match (child.stdin.take(), child.stdout.take()) {
+        (Some(input), Some(output)) => Ok(Running {
+            child,
+            input,
+            output,
+        }),
+        _ => Err(unable(io::Error::other("no pipe"))),
     }
 }
 
@@ -85,9 +87,7 @@ impl Callee for Harness {
     fn call(&mut self, request: &Request) -> Result<Reply, String> {
         let mut running = match self.running.take() {
             Some(running) => running,
-            None => self
-                .start()
-                .map_err(|error| format!("{} can't be run: {error}", self.words.join(" ")))?,
+            None => started(&self.words)?,
         };
         match exchange(&mut running, request) {
             Ok(reply) => {

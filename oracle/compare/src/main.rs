@@ -49,13 +49,13 @@ fn compared(words: Vec<String>) -> Result<String, String> {
         ("answers", [count, seed, program, words @ ..]) => {
             let mut say = |line: &str| eprintln!("{line}");
             let (count, seed) = (number(count)?, number(seed)?);
-            run(&mut harness(program, words), &calls, seed, count, &mut say)
+            run(&mut harness(program, words)?, &calls, seed, count, &mut say)
         }
         ("stack", [count, seed, program, words @ ..]) => {
             let (count, seed) = (number(count)?, number(seed)?);
-            stack(&mut harness(program, words), &calls, seed, count)
+            stack(&mut harness(program, words)?, &calls, seed, count)
         }
-        ("times", [program, words @ ..]) => times(&mut harness(program, words)),
+        ("times", [program, words @ ..]) => times(&mut harness(program, words)?),
         _ => Err(USAGE.to_string()),
     }
 }
@@ -65,7 +65,7 @@ fn number(word: &str) -> Result<u64, String> {
         .map_err(|_| format!("`{word}` is no number\n{USAGE}"))
 }
 
-fn harness(program: &str, words: &[&str]) -> Harness {
+fn harness(program: &str, words: &[&str]) -> Result<Harness, String> {
     let words = std::iter::once(&program).chain(words);
     Harness::new(words.map(|word| word.to_string()).collect())
 }
