@@ -8,9 +8,9 @@
  * output follow; these. The measure of one call is 0, of several the nanoseconds of the quickest; and where a case is
  * to be called 0 times, it is called once and measured are the bytes of stack that it has used.
  *
- * Output and work area are filled with noise before the first call of a case. Of the output come back the bytes that the answer
- * calls the result, and more where bytes behind them have changed. Each buffer ends where a page begins that can't
- * be touched, and begins behind bytes that are held against what they were.
+ * Output and work area are filled with noise before the first call of a case. Of the output come back the bytes that
+ * the answer calls the result, and more where bytes behind them have changed. Each buffer ends where a page begins that
+ * can't be touched, and begins behind bytes that are held against what they were.
  */
 #define _DEFAULT_SOURCE
 #include "samulsto.h"
@@ -36,13 +36,13 @@ static void fail(const char *why)
     exit(1);
 }
 
-/* Bytes of which none has a pattern; odd ones, so that none is zero. */
+/* Bytes without a pattern. */
 static void make_noise(void)
 {
     uint64_t x = 0x9e3779b97f4a7c15u;
     for (size_t i = 0; i < NOISE; i++) {
         x = x * 6364136223846793005u + 1442695040888963407u;
-        noise[i] = (uint8_t)(x >> 56) | 1u;
+        noise[i] = (uint8_t)(x >> 56);
     }
 }
 
