@@ -51,3 +51,15 @@ judged() {
     # shellcheck disable=SC2086
     exec env $emulated "$judge" "$@" $run "$made/harness"
 }
+
+# The words of a command: [--only CALL] [COUNT [SEED]], into only, count and seed.
+only_of() {
+    only=''
+    if [ "${1:-}" = --only ]; then
+        [ $# -ge 2 ] || die '--only what? premise or elaborate'
+        only="--only $2"
+        shift 2
+    fi
+    count=${1:-}
+    seed=${2:-}
+}

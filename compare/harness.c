@@ -4,12 +4,13 @@
  * A case: which call (0 premise, 1 elaborate), length of the book, of the output, of the work area, a number that
  * chooses the noise, how often to call; the book.
  * Its answer: the last call's four numbers (premise: code, holds, 0, 0); how many bytes of the work area are not zero;
- * how many bytes were written that must not be (of the book, or before a buffer); nanoseconds of the quickest call (0
- * for a single one); how many bytes of the output follow; these.
+ * how many bytes were written that must not be (of the book, or before a buffer); a measure; how many bytes of the
+ * output follow; these. The measure of one call is 0, of several the nanoseconds of the quickest; and where a case is
+ * to be called 0 times, it is called once and measured are the bytes of stack that it has used.
  *
- * Output and work area are filled with noise before the first call of a case. Of the output come back the bytes that the answer
- * calls the result, and more where bytes behind them have changed. Each buffer ends where a page begins that can't
- * be touched, and begins behind bytes that are held against what they were.
+ * Output and work area are filled with noise before the first call of a case. Of the output come back the bytes that
+ * the answer calls the result, and more where bytes behind them have changed. Each buffer ends where a page begins that
+ * can't be touched, and begins behind bytes that are held against what they were.
  */
 #define _DEFAULT_SOURCE
 #include "samulsto.h"
@@ -18,12 +19,14 @@
 #include <string.h>
 #include <sys/mman.h>
 #include <time.h>
+#include <ucontext.h>
 
 /* A multiple of every page size in use. */
 #define PAGE 65536u
 #define ROOM (16u * PAGE)
 #define BEFORE 256u
 #define NOISE (ROOM + PAGE)
+#define STACK (16u * PAGE)
 
 static uint8_t noise[NOISE], copy[ROOM];
 
@@ -33,13 +36,13 @@ static void fail(const char *why)
     exit(1);
 }
 
-/* Bytes of which none has a pattern; odd ones, so that none is zero. */
+/* Bytes without a pattern. */
 static void make_noise(void)
 {
     uint64_t x = 0x9e3779b97f4a7c15u;
     for (size_t i = 0; i < NOISE; i++) {
         x = x * 6364136223846793005u + 1442695040888963407u;
-        noise[i] = (uint8_t)(x >> 56) | 1u;
+        noise[i] = (uint8_t)(x >> 56);
     }
 }
 
@@ -137,21 +140,56 @@ static uint32_t quickest(uint32_t which, const struct buffers *b, uint32_t times
     return (uint32_t)best;
 }
 
+static ucontext_t home;
+static const struct buffers *lent;
+static uint32_t called;
+static struct samulsto_answer answered;
+
+static void call_lent(void)
+{
+    answered = call(called, lent);
+}
+
+/* Bytes of a stack of its own, all alike before, that one call has changed. */
+static uint32_t stack_used(uint32_t which, const struct buffers *b, struct samulsto_answer *got)
+{
+    static uint64_t stack[STACK / 8];
+    static ucontext_t away;
+    uint32_t left = 0;
+    memset(stack, 0x5a, STACK);
+    lent = b;
+    called = which;
+    if (getcontext(&away) != 0)
+        fail("no second stack");
+    away.uc_stack.ss_sp = stack;
+    away.uc_stack.ss_size = STACK;
+    away.uc_link = &home;
+    makecontext(&away, call_lent, 0);
+    if (swapcontext(&home, &away) != 0)
+        fail("no second stack");
+    *got = answered;
+    while (left < STACK / 8 && stack[left] == 0x5a5a5a5a5a5a5a5au)
+        left++;
+    return STACK - 8 * left;
+}
+
 static void answer_case(uint32_t which, uint32_t times, const struct buffers *b, const uint8_t *was)
 {
     struct samulsto_answer got;
-    uint32_t quick = 0;
+    uint32_t measure = 0;
     memcpy(b->book.bytes - BEFORE, copy, BEFORE + b->book.length);
     memcpy(b->out.bytes - BEFORE, was, BEFORE + b->out.length);
     memcpy(b->work.bytes - BEFORE, was, BEFORE + b->work.length);
-    if (times > 1)
-        quick = quickest(which, b, times, &got);
-    else
+    if (times == 0)
+        measure = stack_used(which, b, &got);
+    else if (times == 1)
         got = call(which, b);
+    else
+        measure = quickest(which, b, times, &got);
     uint32_t strayed = differing(b->book.bytes - BEFORE, copy, BEFORE + b->book.length) +
                        differing(b->out.bytes - BEFORE, was, BEFORE) + differing(b->work.bytes - BEFORE, was, BEFORE);
     uint32_t shown = to_show(b->out.bytes, was + BEFORE, b->out.length, which == 1 ? got.length : 0);
-    uint32_t answer[8] = {got.code, got.length, got.definitions, got.lifted, 0, strayed, quick, shown};
+    uint32_t answer[8] = {got.code, got.length, got.definitions, got.lifted, 0, strayed, measure, shown};
     answer[4] = not_zero(b->work.bytes, b->work.length);
     give(answer, sizeof answer);
     give(b->out.bytes, shown);

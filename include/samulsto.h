@@ -4,6 +4,8 @@
  * and memset from the C library and nothing else; it keeps no state and calls nobody back, so any number of threads
  * may call it, each with buffers of its own.
  *
+ * A call needs stack; docs/SPEED.md says how much.
+ *
  * A book holds definitions of record layouts; docs/CODES.md and oracle/README.md show some. Every string of bytes may
  * be handed in: what is no book, or too much of one, is answered with a code.
  *

@@ -24,16 +24,20 @@ fn main() {
         stop(NOT_X86_64);
     }
     let archive = match env::var_os("SAMULSTO_ARCHIVE") {
-        Some(path) => PathBuf::from(path),
+        Some(path) => given(path.into()),
         None => built(),
     };
-    println!("cargo:rerun-if-changed={}", archive.display());
     let here = PathBuf::from(env::var_os("OUT_DIR").unwrap_or_default());
     if let Err(error) = fs::copy(&archive, here.join("libelab.a")) {
         stop(&format!("{} can't be copied: {error}", archive.display()));
     }
     println!("cargo:rustc-link-search=native={}", here.display());
     println!("cargo:rustc-link-lib=static=elab");
+}
+
+fn given(archive: PathBuf) -> PathBuf {
+    println!("cargo:rerun-if-changed={}", archive.display());
+    archive
 }
 
 /// The archive as `rt` builds it from the repository around this crate.

@@ -9,7 +9,7 @@ pub enum Call {
     Elaborate,
 }
 
-/// One call, or so many to time them, with buffers of these lengths, full of the noise of that number.
+/// A call with buffers of these lengths, full of the noise of that number.
 #[derive(Debug, Clone, Copy)]
 pub struct Request<'a> {
     pub call: Call,
@@ -17,7 +17,17 @@ pub struct Request<'a> {
     pub out: usize,
     pub work: usize,
     pub noise: u32,
-    pub times: u32,
+    pub times: Times,
+}
+
+/// How often to call, and what for.
+#[derive(Debug, Clone, Copy, PartialEq, Eq)]
+pub enum Times {
+    Once,
+    /// Once, on a stack of which the bytes used are counted.
+    ForStack,
+    /// So often, more than once, to find the quickest.
+    ForTime(u32),
 }
 
 /// What came of it. `out` is the result and whatever else of the output has changed.
@@ -27,8 +37,8 @@ pub struct Reply {
     pub out: Vec<u8>,
     pub work_not_zero: u32,
     pub strayed: u32,
-    /// Of the quickest call, where there are several.
-    pub nanoseconds: u32,
+    /// Bytes of stack, or nanoseconds of the quickest call; 0 where neither was asked for.
+    pub measure: u32,
 }
 
 pub trait Callee {
@@ -49,25 +59,27 @@ struct Running {
 }
 
 impl Harness {
-    pub fn new(words: Vec<String>) -> Self {
-        let running = None;
-        Harness { words, running }
+    pub fn new(words: Vec<String>) -> Result<Self, String> {
+        let running = Some(started(&words)?);
+        Ok(Harness { words, running })
     }
+}
 
-    fn start(&self) -> io::Result<Running> {
-        let mut child = Command::new(&self.words[0])
-            .args(&self.words[1..])
-            .stdin(Stdio::piped())
-            .stdout(Stdio::piped())
-            .spawn()?;
-        match (child.stdin.take(), child.stdout.take()) {
-            (Some(input), Some(output)) => Ok(Running {
-                child,
-                input,
-                output,
-            }),
-            _ => Err(io::Error::other("no pipe to the harness")),
-        }
+fn started(words: &[String]) -> Result<Running, String> {
+    let unable = |error| format!("{} can't be run: {error}", words.join(" "));
+    let mut child = Command::new(&words[0])
+        .args(&words[1..])
+        .stdin(Stdio::piped())
+        .stdout(Stdio::piped())
+        .spawn()
+        .map_err(unable)?;
+    match (child.stdin.take(), child.stdout.take()) {
+        (Some(input), Some(output)) => Ok(Running {
+            child,
+            input,
+            output,
+        }),
+        _ => Err(unable(io::Error::other("no pipe"))),
     }
 }
 
@@ -75,9 +87,7 @@ impl Callee for Harness {
     fn call(&mut self, request: &Request) -> Result<Reply, String> {
         let mut running = match self.running.take() {
             Some(running) => running,
-            None => self
-                .start()
-                .map_err(|error| format!("{} can't be run: {error}", self.words.join(" ")))?,
+            None => started(&self.words)?,
         };
         match exchange(&mut running, request) {
             Ok(reply) => {
@@ -127,7 +137,7 @@ fn exchange(running: &mut Running, request: &Request) -> io::Result<Reply> {
         numbers: [number(0), number(1), number(2), number(3)],
         work_not_zero: number(4),
         strayed: number(5),
-        nanoseconds: number(6),
+        measure: number(6),
         out,
     })
 }
@@ -137,10 +147,15 @@ fn encoded(request: &Request) -> Vec<u8> {
         Call::Premise => 0,
         Call::Elaborate => 1,
     };
+    let times = match request.times {
+        Times::ForStack => 0,
+        Times::Once => 1,
+        Times::ForTime(times) => times,
+    };
     let [book, out, work] =
         [request.book.len(), request.out, request.work].map(|length| length as u32);
     let mut bytes = Vec::with_capacity(24 + request.book.len());
-    for number in [call, book, out, work, request.noise, request.times] {
+    for number in [call, book, out, work, request.noise, times] {
         bytes.extend(number.to_le_bytes());
     }
     bytes.extend(request.book);

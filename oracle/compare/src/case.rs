@@ -1,6 +1,6 @@
 //! A case, what document 01 says of it, and whether the callee says the same.
 
-use crate::callee::{Call, Callee, Reply, Request};
+use crate::callee::{Call, Callee, Reply, Request, Times};
 use driver::answer::{answer, premise, Answer, Internal, Premise};
 use driver::cases::Rng;
 use driver::expand::Mode;
@@ -159,7 +159,7 @@ pub fn judge(callee: &mut dyn Callee, case: &Case) -> Result<Result<Expected, St
         out: expected.out_bytes,
         work: case.sizes.work,
         noise: case.sizes.noise,
-        times: 1,
+        times: Times::Once,
     };
     Ok(match callee.call(&request) {
         Err(ended) => Err(ended),

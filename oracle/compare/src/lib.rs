@@ -7,5 +7,6 @@ pub mod parts;
 pub mod run;
 pub mod shrink;
 pub mod smaller;
+pub mod stack;
 pub mod tally;
 pub mod times;

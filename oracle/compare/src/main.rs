@@ -1,8 +1,9 @@
 //! The calls of the archive, through the program that makes them (`compare/harness.c` of the repository), held against
-//! the driver, or timed. `compare/run` and `compare/times` of the repository build all of it.
+//! the driver, or timed. The scripts beside that program build all of it.
 
 use compare::callee::{Call, Harness};
 use compare::run::run;
+use compare::stack::stack;
 use compare::times::times;
 use std::process::ExitCode;
 
@@ -11,6 +12,7 @@ const STACK_BYTES: usize = 256 << 20;
 
 const USAGE: &str = "\
 compare answers [--only premise|elaborate] COUNT SEED PROGRAM WORDS..
+compare stack [--only premise|elaborate] COUNT SEED PROGRAM WORDS..
 compare times PROGRAM WORDS..";
 
 fn main() -> ExitCode {
@@ -36,34 +38,34 @@ fn main() -> ExitCode {
 }
 
 fn compared(words: Vec<String>) -> Result<String, String> {
-    let split: Vec<&str> = words.iter().map(String::as_str).collect();
-    let both = [Call::Elaborate, Call::Premise];
-    match split.as_slice() {
-        ["answers", "--only", "premise", rest @ ..] => answers(&[Call::Premise], rest),
-        ["answers", "--only", "elaborate", rest @ ..] => answers(&[Call::Elaborate], rest),
-        ["answers", rest @ ..] => answers(&both, rest),
-        ["times", program @ ..] if !program.is_empty() => times(&mut harness(program)),
+    let words: Vec<&str> = words.iter().map(String::as_str).collect();
+    let (calls, rest) = match words.get(1..) {
+        Some(["--only", "premise", rest @ ..]) => (vec![Call::Premise], rest),
+        Some(["--only", "elaborate", rest @ ..]) => (vec![Call::Elaborate], rest),
+        Some(rest) => (vec![Call::Elaborate, Call::Premise], rest),
+        None => return Err(USAGE.to_string()),
+    };
+    match (words[0], rest) {
+        ("answers", [count, seed, program, words @ ..]) => {
+            let mut say = |line: &str| eprintln!("{line}");
+            let (count, seed) = (number(count)?, number(seed)?);
+            run(&mut harness(program, words)?, &calls, seed, count, &mut say)
+        }
+        ("stack", [count, seed, program, words @ ..]) => {
+            let (count, seed) = (number(count)?, number(seed)?);
+            stack(&mut harness(program, words)?, &calls, seed, count)
+        }
+        ("times", [program, words @ ..]) => times(&mut harness(program, words)?),
         _ => Err(USAGE.to_string()),
     }
 }
 
-fn harness(program: &[&str]) -> Harness {
-    Harness::new(program.iter().map(|word| word.to_string()).collect())
+fn number(word: &str) -> Result<u64, String> {
+    word.parse()
+        .map_err(|_| format!("`{word}` is no number\n{USAGE}"))
 }
 
-fn answers(calls: &[Call], words: &[&str]) -> Result<String, String> {
-    let [count, seed, program @ ..] = words else {
-        return Err(USAGE.to_string());
-    };
-    if program.is_empty() {
-        return Err(USAGE.to_string());
-    }
-    let number = |word: &str| {
-        word.parse::<u64>()
-            .map_err(|_| format!("`{word}` is no number\n{USAGE}"))
-    };
-    let (count, seed) = (number(count)?, number(seed)?);
-    run(&mut harness(program), calls, seed, count, &mut |line| {
-        eprintln!("{line}")
-    })
+fn harness(program: &str, words: &[&str]) -> Result<Harness, String> {
+    let words = std::iter::once(&program).chain(words);
+    Harness::new(words.map(|word| word.to_string()).collect())
 }

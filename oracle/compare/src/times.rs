@@ -1,14 +1,13 @@
 //! Time against size, of books that are refused at their very last byte: what reading costs, and nothing else but the
 //! constant cost of a call, which a book that is refused at once has too.
 
-use crate::callee::{Call, Callee, Request};
+use crate::callee::{Call, Callee, Request, Times};
 use crate::case::WORK_BYTES;
 use driver::build::*;
 use driver::limits::BOOK_BYTES;
 use driver::read::read;
 use driver::tree::{Cases, Definition, Inner, Leaf};
 use driver::write::write;
-use std::fmt::Write;
 
 const SIZES: [usize; 5] = [1024, 2048, 4096, 8192, BOOK_BYTES];
 const TIMES: u32 = 400;
@@ -16,7 +15,7 @@ const TIMES: u32 = 400;
 /// A shape: its book with so many items.
 type Shape = (&'static str, fn(usize) -> Vec<Definition>);
 
-const SHAPES: [Shape; 7] = [
+const SHAPES: [Shape; 9] = [
     ("fields", |items| {
         one(structure(repeated(
             items,
@@ -36,6 +35,14 @@ const SHAPES: [Shape; 7] = [
     ("cases", |items| {
         let case = ("Case".to_string(), call("m", &["hdr.len", "n"]).into());
         one(choice(Some("n"), Cases::Enums(repeated(items, case))))
+    }),
+    ("formats that call", |items| {
+        (0..items).map(|number| calling(number, items)).collect()
+    }),
+    ("macros and calls", |items| {
+        (0..items)
+            .flat_map(|number| with_macro(number, items))
+            .collect()
     }),
     ("macro arguments", |items| {
         one(macro_call(
@@ -65,6 +72,24 @@ fn small(number: usize) -> Definition {
     format(&format!("f{number}"), structure(vec![field("a", int)]))
 }
 
+/// A format that calls one far away, by name.
+fn calling(number: usize, items: usize) -> Definition {
+    let called = format!("format{}", (number + items / 2) % items);
+    format(
+        &format!("format{number}"),
+        structure(vec![field("a", call(&called, &[]))]),
+    )
+}
+
+/// A macro, and a format that calls one far away.
+fn with_macro(number: usize, items: usize) -> Vec<Definition> {
+    let called = format!("macro{}", (number + items / 2) % items);
+    let body = structure(vec![field("a", call("a", &[]))]);
+    let own = macro_definition(&format!("macro{number}"), &["a"], body);
+    let root = structure(vec![field("a", macro_call(&called, vec![int()]))]);
+    vec![own, format(&format!("format{number}"), root)]
+}
+
 fn vecs(count: usize) -> Inner {
     (0..count).fold(nothing(), |inner, _| vec(inner))
 }
@@ -90,45 +115,55 @@ fn refused_at_the_end(mut book: Vec<u8>) -> Result<Vec<u8>, String> {
     }
 }
 
-/// A table in Markdown: nanoseconds per byte of reading, by shape and size.
+/// Two tables in Markdown, nanoseconds per byte by shape and size: reading alone, then the whole premise test of the
+/// same book undamaged.
 pub fn times(callee: &mut dyn Callee) -> Result<String, String> {
-    let mut text = String::new();
-    let sizes: Vec<String> = SIZES.iter().map(usize::to_string).collect();
-    let _ = writeln!(
-        text,
-        "| shape | {} | largest / smallest |",
-        sizes.join(" | ")
-    );
-    let _ = writeln!(text, "|---|{}", "---|".repeat(SIZES.len() + 1));
+    let mut reading = head("reading");
+    let mut testing = head("premise");
     for shape in &SHAPES {
-        let mut each = Vec::new();
+        let (mut read, mut tested) = (Vec::new(), Vec::new());
         for size in SIZES {
-            let book = refused_at_the_end(largest(shape, size)?)?;
-            let mut none = book.clone();
+            let sound = largest(shape, size)?;
+            let damaged = refused_at_the_end(sound.clone())?;
+            let mut none = sound.clone();
             none[..2].fill(0xff);
-            let reading = timed(callee, &book)? - timed(callee, &none)?;
-            each.push(reading / book.len() as f64);
+            let constant = timed(callee, &none, 3)?;
+            let bytes = sound.len() as f64;
+            read.push((timed(callee, &damaged, 3)? - constant) / bytes);
+            tested.push((timed(callee, &sound, 0)? - constant) / bytes);
         }
-        let cells: Vec<String> = each.iter().map(|time| format!("{time:.2}")).collect();
-        let last = each[each.len() - 1] / each[0];
-        let _ = writeln!(text, "| {} | {} | {last:.2} |", shape.0, cells.join(" | "));
+        reading += &row(shape.0, &read);
+        testing += &row(shape.0, &tested);
     }
-    Ok(text)
+    Ok(format!("{reading}\n{testing}"))
 }
 
-fn timed(callee: &mut dyn Callee, book: &[u8]) -> Result<f64, String> {
+fn head(what: &str) -> String {
+    let sizes: Vec<String> = SIZES.iter().map(usize::to_string).collect();
+    let line = "---|".repeat(SIZES.len() + 1);
+    format!(
+        "| {what} | {} | largest / smallest |\n|---|{line}\n",
+        sizes.join(" | ")
+    )
+}
+
+fn row(name: &str, each: &[f64]) -> String {
+    let cells: Vec<String> = each.iter().map(|time| format!("{time:.2}")).collect();
+    let ratio = each[each.len() - 1] / each[0];
+    format!("| {name} | {} | {ratio:.2} |\n", cells.join(" | "))
+}
+
+fn timed(callee: &mut dyn Callee, book: &[u8], code: u32) -> Result<f64, String> {
     let reply = callee.call(&Request {
         call: Call::Premise,
         book,
         out: 0,
         work: WORK_BYTES,
         noise: 0,
-        times: TIMES,
+        times: Times::ForTime(TIMES),
     })?;
     match reply.numbers[0] {
-        3 => Ok(f64::from(reply.nanoseconds)),
-        code => Err(format!(
-            "a book to be refused with 3 is answered with {code}"
-        )),
+        got if got == code => Ok(f64::from(reply.measure)),
+        got => Err(format!("answered {got} where {code} was expected")),
     }
 }

@@ -25,7 +25,7 @@ impl Callee for Fake {
             out: honest.out,
             work_not_zero: 0,
             strayed: 0,
-            nanoseconds: 0,
+            measure: 0,
         };
         self.0(request, &mut reply);
         Ok(reply)
