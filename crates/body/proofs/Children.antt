@@ -1,47 +1,41 @@
 -- A child: its frame, and that the pass goes on with it.
 -- Assumes nothing.
 use mathlib.Core.Path.{_≡_, refl, sym, ap, _∙_}
-use mathlib.Core.Bool.{Bool, true, false}
+use mathlib.Core.Bool.{true, false}
 use mathlib.Core.List.{List, [], _∷_, _++_}
-use Prim.Native.Nat.{ℕ, suc, _+_, _-_, _*_, _≤_, _<_, min, max}
+use Prim.Native.Nat.{ℕ, _+_, _-_, _*_, _≤_, _<_}
 use native.Mathlib.Omega.{arith}
-use lib.Dec.{eqb}
-use lib.ListN.{length, take, set, length-set, length-append}
+use lib.ListN.{length, take, length-set, length-append}
 use Rattle.definition.specs.Code.{Code, number}
 use Rattle.definition.specs.Res.{Res, bad, ok}
-use Rattle.definition.specs.Tree.{Name, Shell, wrap, vec, option, array, Combinator, plain, chained, Inner, leaf, struct, choice, shell, bytes, invocation, macro-invocation}
-use Rattle.definition.specs.Write.{wU16, wName, wText, wLen, wList, wOpen, wShut, countA, wInner, wCombinator, wInners}
+use Rattle.definition.specs.Tree.{Shell, wrap, vec, option, array, Combinator, plain, chained, Inner, leaf, struct, choice, shell, bytes, invocation, macro-invocation}
+use Rattle.definition.specs.Write.{wU16, wName, wText, wLen, wList, wOpen, countA, wInner, wCombinator, wInners}
 use Rattle.definition.specs.Size.{size, levels}
-use Rattle.definition.specs.Collect.{anonymous}
 use Rattle.laws.proofs.Sizes.{adds, sizeI, size-struct, size-choice, size-shell, size-plain, size-chained}
-use Rattle.laws.proofs.Splits.{s-comb, s-inner}
+use Rattle.laws.proofs.Splits.{s-inner}
 use Rattle.lifting.proofs.Ranges.{sizeI-some}
-use Rattle.lifting.specs.After.{chainAt}
-use Rattle.seek.specs.At.{byteAt, pastAt}
 use Rattle.seek.specs.Here.{Here}
 use Rattle.seek.proofs.Here.{here-length, byte-here, next-here}
 use Rattle.collect.specs.Anonymous.{anonymousAt}
-use Rattle.collect.specs.Uses.{pick}
 use Rattle.collect.proofs.Anonymous.{anonymous-here}
 use Rattle.names.specs.Name.{Held}
 use Rattle.tables.specs.Rows.{rowsOf}
 use Rattle.lift.specs.declared.Counts.{Counts}
-use Rattle.lift.specs.Bound.{Bound, boundFrom}
-use Rattle.lift.specs.Sheet.{Sheet, sheetOf, Tables}
+use Rattle.lift.specs.Bound.{boundFrom}
+use Rattle.lift.specs.Sheet.{Sheet, sheetOf}
 use Rattle.naming.specs.declared.Frame.{Frame}
 use Rattle.naming.specs.declared.Named.{Named}
 use Rattle.naming.specs.declared.Named.the-variants.{Lift, Refused}
-use Rattle.naming.specs.Walk.{Start, starts}
-use Rattle.naming.specs.Nodes.{Own, walked, lifted, Node, nodeOf, Wait, run, Opens}
-use Rattle.naming.specs.Frames.{innerEnd, combinatorEnd, beginAt, Stands, OwnIs, frameAt, FrameIs}
+use Rattle.naming.specs.Walk.{Start}
+use Rattle.naming.specs.Nodes.{walked, lifted, nodeOf, run}
+use Rattle.naming.specs.Frames.{combinatorEnd, Stands, OwnIs, frameAt}
 use Rattle.naming.specs.Lifts.{Whole, Answers, Lifts}
 use Rattle.naming.proofs.Ends.{inner-rest, inner-end, begins, combinator-end}
 use Rattle.naming.proofs.Opened.{frame-opens}
 use Rattle.naming.proofs.Machine.{steps-walked, steps-lifted, steps-refused}
-use Rattle.body.specs.Walks.{Good}
-use Rattle.body.specs.Steps.{Sound, weight, Refuses, Opened, ChildIs, Comes}
+use Rattle.body.specs.Steps.{Sound, weight, Opened, ChildIs, Comes}
 use Rattle.body.specs.declared.steps.Child.the-variants as comes
-use Rattle.body.proofs.Started.{Started, started, rows-length, numbered-on}
+use Rattle.body.proofs.Started.{started, rows-length, numbered-on}
 
 -- ---- sizes
 open-some : (x : Shell) → 1 ≤ length (wOpen x [])
@@ -139,19 +133,21 @@ module _ {s : List ℕ} {at : ℕ} {path : List ℕ} {len : ℕ} {binders : List
   child-walked {g} an e = record {
     kept = refl;
     comes = λ c base k n wait order m st deep kd held op env few good.
-        let wh = whole-of {last = last} c small st (omega arith) ends in
-        (rw e (record {
-          node = nodeOf c at base (n .env) walked;
-          frame = frame-opens (omega arith) c (st .after) k at last len b 0 0 base (n .env) walked (st .is) deep kd held env refl few;
-          same = λ ws. steps-walked op ws _ (sym (anonymous-here c 64 (omega arith) (st .after) (st .is)) ∙ an);
-          place = refl;
-          last = wh .ends;
-          longer = omega arith;
-          bound = refl;
-          sound = frame-sound small c (st .after) last len b 0 0 (omega arith) (st .is) (omega arith) (λ h. absurd (omega arith));
-          counted = omega arith;
-          light = frame-light small c (st .after) last len b 0 0 (omega arith) (st .is);
-        }), good);
+        let wh = whole-of {last = last} c small st (omega arith) ends in (
+          rw e (record {
+            node = nodeOf c at base (n .env) walked;
+            frame = frame-opens (omega arith) c (st .after) k at last len b 0 0 base (n .env) walked (st .is) deep kd held env refl few;
+            same = λ ws. steps-walked op ws _ (sym (anonymous-here c 64 (omega arith) (st .after) (st .is)) ∙ an);
+            place = refl;
+            last = wh .ends;
+            longer = omega arith;
+            bound = refl;
+            sound = frame-sound small c (st .after) last len b 0 0 (omega arith) (st .is) (omega arith) (λ h. absurd (omega arith));
+            counted = omega arith;
+            light = frame-light small c (st .after) last len b 0 0 (omega arith) (st .is);
+          }),
+          good,
+        );
   }
 
   module _ {path′ made′ places′ hashes′ hints′ rows′ params′ number′ : List ℕ} {r : Named} (an : anonymousAt 64 s at ≡ true)
@@ -181,23 +177,25 @@ module _ {s : List ℕ} {at : ℕ} {path : List ℕ} {len : ℕ} {binders : List
           let tb = y .right .0 in
           let len-rows = rows-length s made rows params (w .lifts) in
           let calls : (5 ≤ call) × (call ≤ 16384) = (omega (arith, y .size, q .least), omega (arith, y .size, q .most, tb .bytes-most)) in
-          let own-few : own ≤ 512 = omega (arith, y .right .2, tb .few .0, tb .defns-most) in
-          (rw eg (record {
-            node = nodeOf c at (y .start .name) (nd .env) (lifted (length (t .rows)) (y .start .call));
-            frame = frame-opens (omega arith) c (st .after) k at last n b own call (y .start .name) (nd .env) (lifted (length (t .rows)) (y .start .call)) (st .is) deep kd (y .held) env (omega (arith, eo, len-rows), y .size) few;
-            same = λ ws. steps-lifted op ws t (y .start) (y .after) (sym (anonymous-here c 64 (omega arith) (st .after) (st .is)) ∙ an) (y .is) ∙ ap (λ (z : Sheet). run (nodeOf c at (y .start .name) (nd .env) (lifted (length (t .rows)) (y .start .call))) (wait ∷ ws) z) (y .says);
-            place = refl;
-            last = wh .ends;
-            longer = omega (arith, held .place, y .held .place, q .longer);
-            bound = refl;
-            sound = frame-sound small c (st .after) last n b own call (omega arith) (st .is) own-few (λ h. calls);
-            counted = omega (arith, y .right .2);
-            light = frame-light small c (st .after) last n b own call (omega arith) (st .is);
-          }), record {
-            tables = tb;
-            number-long = rw (y .right .1) (simp length-set (good .number-long));
-            numbered = λ p h. rw (y .right .1) (numbered-on (rowsOf s made rows params (w .lifts)) (rowsOf s made′ rows′ params′ (v .lifts)) (q .row) number at (w .lifts) p after-rows (q .at) len-rows (omega (arith, good .number-long)) (good .numbered p h));
-            order-long = good .order-long;
-            finished = omega (arith, good .finished, y .right .2);
-          });
+          let own-few : own ≤ 512 = omega (arith, y .right .2, tb .few .0, tb .defns-most) in (
+            rw eg (record {
+              node = nodeOf c at (y .start .name) (nd .env) (lifted (length (t .rows)) (y .start .call));
+              frame = frame-opens (omega arith) c (st .after) k at last n b own call (y .start .name) (nd .env) (lifted (length (t .rows)) (y .start .call)) (st .is) deep kd (y .held) env (omega (arith, eo, len-rows), y .size) few;
+              same = λ ws. steps-lifted op ws t (y .start) (y .after) (sym (anonymous-here c 64 (omega arith) (st .after) (st .is)) ∙ an) (y .is) ∙ ap (λ (z : Sheet). run (nodeOf c at (y .start .name) (nd .env) (lifted (length (t .rows)) (y .start .call))) (wait ∷ ws) z) (y .says);
+              place = refl;
+              last = wh .ends;
+              longer = omega (arith, held .place, y .held .place, q .longer);
+              bound = refl;
+              sound = frame-sound small c (st .after) last n b own call (omega arith) (st .is) own-few (λ h. calls);
+              counted = omega (arith, y .right .2);
+              light = frame-light small c (st .after) last n b own call (omega arith) (st .is);
+            }),
+            record {
+              tables = tb;
+              number-long = rw (y .right .1) (simp length-set (good .number-long));
+              numbered = λ p h. rw (y .right .1) (numbered-on (rowsOf s made rows params (w .lifts)) (rowsOf s made′ rows′ params′ (v .lifts)) (q .row) number at (w .lifts) p after-rows (q .at) len-rows (omega (arith, good .number-long)) (good .numbered p h));
+              order-long = good .order-long;
+              finished = omega (arith, good .finished, y .right .2);
+            },
+          );
     }

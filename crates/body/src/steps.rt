@@ -104,7 +104,26 @@ pub fn open_child(
     let anonymous = contains_anonymous_format(s, at, 64);
     if anonymous {
         let own = w.lifts + 1;
-        let named = lift_anonymous_combinator(s, at, last, path, len, binders, b, bound, uses, spare, made, places, hashes, hints, rows, params, number, w);
+        let named = lift_anonymous_combinator(
+            s,
+            at,
+            last,
+            path,
+            len,
+            binders,
+            b,
+            bound,
+            uses,
+            spare,
+            made,
+            places,
+            hashes,
+            hints,
+            rows,
+            params,
+            number,
+            w,
+        );
         match named {
             Named::Refused(c) => {
                 return Child::Refused(c);

@@ -2,9 +2,8 @@
 -- Assumes nothing.
 use mathlib.Core.Path.{refl, _∙_}
 use native.Mathlib.Omega.{arith}
-use lib.ListN.{length-replicate}
 use borrow.Author.Needs.{needs}
-use Rattle.body.proofs.Rounds.{Round, left, round-start, frames-long, round-deep, pass-safe, close-safe, resume-safe, round-pass, round-less-pass, walks-last, round-back, round-less-back, open-safe, walks-refused, round-open, round-less-open, some, Lengths, lengths-on}
+use Rattle.body.proofs.Rounds.{Round, left, round-start, round-deep, pass-safe, close-safe, resume-safe, round-pass, round-less-pass, walks-last, round-back, round-less-back, open-safe, walks-refused, round-open, round-less-open, some, Lengths, lengths-on}
 use Rattle.body.proofs.expand_combinator.Statement.{statement}
 use Rattle.body.proofs.expand_combinator.Tie as tie
 
@@ -18,7 +17,7 @@ abbrev μ-loop : tie.MeasureT-loop
     left s frames f d
 
 loop-holds : tie.Need-loop-holds Inv-loop μ-loop
-loop-holds c = (round-start (c .before .before .before .before .before .before .before .before .before .before .before .before .before .before .before .pre .0) (c .before .before .before .before .before .before .before .before .before .before .before .before .before .before .before .pre .1) (c .before .before .before .before .before .before .before .before .before .before .before .before .before .before .before .pre .2) (c .open-node .ensures) refl, record { path = refl; binders = refl; bound = refl; uses = refl; spare = refl; made = refl; places = refl; hashes = refl; hints = refl; rows = refl; params = refl; number = refl; order = refl })
+loop-holds c = (round-start (c .before .before .before .before .before .before .before .before .before .before .before .before .before .before .before .pre .2) (c .before .before .before .before .before .before .before .before .before .before .before .before .before .before .before .pre .0) (c .before .before .before .before .before .before .before .before .before .before .before .before .before .before .before .pre .1) (c .open-node .ensures) refl, record { path = refl; binders = refl; bound = refl; uses = refl; spare = refl; made = refl; places = refl; hashes = refl; hints = refl; rows = refl; params = refl; number = refl; order = refl })
 
 pass-requires : tie.Need-pass-requires Inv-loop μ-loop
 pass-requires c κs = pass-safe (c .before .before .before .before .before .before .before .loop .inv .0)
@@ -28,9 +27,9 @@ loop-less c = round-less-pass (c .before .before .before .before .before .before
 
 loop-again : tie.Need-loop-again Inv-loop μ-loop
 loop-again c = (
-      round-pass (c .before .before .before .before .before .before .before .before .loop .inv .0) _ (c .before .before .before .before .before .before .next-step .ensures) (c .before .before .step .given .1) (c .pass .ensures),
-      lengths-on (c .before .before .before .before .before .before .before .before .loop .inv .1) (record { path = c .before .before .before .before .before .path .given; binders = refl; bound = refl; uses = refl; spare = refl; made = refl; places = refl; hashes = refl; hints = refl; rows = refl; params = refl; number = refl; order = refl }),
-    )
+  round-pass (c .before .before .before .before .before .before .before .before .loop .inv .0) _ (c .before .before .before .before .before .before .next-step .ensures) (c .before .before .step .given .1) (c .pass .ensures),
+  lengths-on (c .before .before .before .before .before .before .before .before .loop .inv .1) (record { path = c .before .before .before .before .before .path .given; binders = refl; bound = refl; uses = refl; spare = refl; made = refl; places = refl; hashes = refl; hints = refl; rows = refl; params = refl; number = refl; order = refl }),
+)
 
 close-node-requires : tie.Need-close-node-requires Inv-loop μ-loop
 close-node-requires c κs = close-safe (c .before .before .before .before .before .before .before .loop .inv .0)
@@ -52,9 +51,9 @@ loop-less-2 c = round-less-back (c .before .before .before .before .before .befo
 
 loop-again-2 : tie.Need-loop-again-2 Inv-loop μ-loop
 loop-again-2 c = (
-      round-back (c .before .before .before .before .before .before .before .before .before .before .before .before .before .before .before .before .loop .inv .0) _ (c .before .before .before .before .before .before .before .before .before .before .before .before .before .before .next-step .ensures) (c .before .before .before .before .before .before .before .before .before .before .enum-told .given .1) (c .before .before .before .before .before .before .before .before .close-node .ensures .0) (c .before .before .before .before .before .before .before .before .close-node .ensures .1) (some _ (c .before .before .before .before .before .if1 .left)) (c .before .before .resume-node .ensures .0) (c .before .before .resume-node .ensures .1),
-      lengths-on (c .before .before .before .before .before .before .before .before .before .before .before .before .before .before .before .before .loop .inv .1) (record { path = c .before .before .before .before .before .before .before .before .before .before .before .before .before .path .given; binders = c .before .binders .given; bound = refl; uses = refl; spare = refl; made = refl; places = refl; hashes = refl; hints = refl; rows = refl; params = refl; number = refl; order = c .before .before .before .before .before .before .before .order .given }),
-    )
+  round-back (c .before .before .before .before .before .before .before .before .before .before .before .before .before .before .before .before .loop .inv .0) _ (c .before .before .before .before .before .before .before .before .before .before .before .before .before .before .next-step .ensures) (c .before .before .before .before .before .before .before .before .before .before .enum-told .given .1) (c .before .before .before .before .before .before .before .before .close-node .ensures .0) (c .before .before .before .before .before .before .before .before .close-node .ensures .1) (some _ (c .before .before .before .before .before .if1 .left)) (c .before .before .resume-node .ensures .0) (c .before .before .resume-node .ensures .1),
+  lengths-on (c .before .before .before .before .before .before .before .before .before .before .before .before .before .before .before .before .loop .inv .1) (record { path = c .before .before .before .before .before .before .before .before .before .before .before .before .before .path .given; binders = c .before .binders .given; bound = refl; uses = refl; spare = refl; made = refl; places = refl; hashes = refl; hints = refl; rows = refl; params = refl; number = refl; order = c .before .before .before .before .before .before .before .order .given }),
+)
 
 open-child-requires : tie.Need-open-child-requires Inv-loop μ-loop
 open-child-requires c κs = open-safe (c .before .before .before .before .before .before .before .before .before .before .before .before .before .before .before .before .before .before .before .loop .inv .0) _ (c .before .before .before .before .before .before .before .before .before .before .before .before .before .before .before .before .before .next-step .ensures) (c .before .before .before .before .before .before .before .before .before .before .before .before .before .step2 .given .1) (c .before .before .before .before .before .before .before .before .before .before .before .before .before .before .before .before .path .given)
@@ -76,9 +75,9 @@ loop-less-3 c = round-less-open (c .before .before .before .before .before .befo
 
 loop-again-3 : tie.Need-loop-again-3 Inv-loop μ-loop
 loop-again-3 c = (
-      round-open (c .before .before .before .before .before .before .before .before .before .before .before .before .before .before .before .before .before .before .before .before .before .before .before .before .before .before .before .before .before .before .before .before .before .before .before .before .before .before .before .before .before .before .before .before .before .loop .inv .0) _ (c .before .before .before .before .before .before .before .before .before .before .before .before .before .before .before .before .before .before .before .before .before .before .before .before .before .before .before .before .before .before .before .before .before .before .before .before .before .before .before .before .before .before .before .next-step .ensures) (c .before .before .before .before .before .before .before .before .before .before .before .before .before .before .before .before .before .before .before .before .before .before .before .before .before .before .before .before .before .before .before .before .before .before .before .before .before .before .before .step2 .given .1) (c .before .before .before .before .before .before .before .before .before .before .before .before .before .before .before .before .before .before .before .before .before .before .before .before .before .before .before .before .before .before .before .before .before .before .before .before .before .before .before .before .before .before .path .given) (c .before .before .before .before .before .before .before .before .before .before .before .before .before .before .before .before .before .before .before .before .before .before .before .before .before .open-child .ensures) (c .before .child2 .given .1) (c .before .before .before .before .before .before .before .before .before .before .before .before .before .before .before .before .before .before .before .before .before .before .before .before .path2 .given) (c .before .before .before .before .before .before .before .before .before .before .before .before .before .before .before .before .before .before .before .before .before .before .bound .given) (c .before .before .before .before .before .before .before .before .before .before .before .before .before .before .before .before .before .before .before .before .uses .given) (c .before .before .before .before .before .before .before .before .before .before .before .before .before .before .before .before .before .before .spare .given),
-      lengths-on (c .before .before .before .before .before .before .before .before .before .before .before .before .before .before .before .before .before .before .before .before .before .before .before .before .before .before .before .before .before .before .before .before .before .before .before .before .before .before .before .before .before .before .before .before .before .loop .inv .1) (record { path = c .before .before .before .before .before .before .before .before .before .before .before .before .before .before .before .before .before .before .before .before .before .before .before .before .path2 .given ∙ c .before .before .before .before .before .before .before .before .before .before .before .before .before .before .before .before .before .before .before .before .before .before .before .before .before .before .before .before .before .before .before .before .before .before .before .before .before .before .before .before .before .before .path .given; binders = refl; bound = c .before .before .before .before .before .before .before .before .before .before .before .before .before .before .before .before .before .before .before .before .before .before .bound .given; uses = c .before .before .before .before .before .before .before .before .before .before .before .before .before .before .before .before .before .before .before .before .uses .given; spare = c .before .before .before .before .before .before .before .before .before .before .before .before .before .before .before .before .before .before .spare .given; made = c .before .before .before .before .before .before .before .before .before .before .before .before .before .before .before .before .made .given; places = c .before .before .before .before .before .before .before .before .before .before .before .before .before .before .places .given; hashes = c .before .before .before .before .before .before .before .before .before .before .before .before .hashes .given; hints = c .before .before .before .before .before .before .before .before .before .before .hints .given; rows = c .before .before .before .before .before .before .before .before .rows .given; params = c .before .before .before .before .before .before .params .given; number = c .before .before .before .before .number .given; order = refl }),
-    )
+  round-open (c .before .before .before .before .before .before .before .before .before .before .before .before .before .before .before .before .before .before .before .before .before .before .before .before .before .before .before .before .before .before .before .before .before .before .before .before .before .before .before .before .before .before .before .before .before .loop .inv .0) _ (c .before .before .before .before .before .before .before .before .before .before .before .before .before .before .before .before .before .before .before .before .before .before .before .before .before .before .before .before .before .before .before .before .before .before .before .before .before .before .before .before .before .before .before .next-step .ensures) (c .before .before .before .before .before .before .before .before .before .before .before .before .before .before .before .before .before .before .before .before .before .before .before .before .before .before .before .before .before .before .before .before .before .before .before .before .before .before .before .step2 .given .1) (c .before .before .before .before .before .before .before .before .before .before .before .before .before .before .before .before .before .before .before .before .before .before .before .before .before .before .before .before .before .before .before .before .before .before .before .before .before .before .before .before .before .before .path .given) (c .before .before .before .before .before .before .before .before .before .before .before .before .before .before .before .before .before .before .before .before .before .before .before .before .before .open-child .ensures) (c .before .child2 .given .1) (c .before .before .before .before .before .before .before .before .before .before .before .before .before .before .before .before .before .before .before .before .before .before .before .before .path2 .given) (c .before .before .before .before .before .before .before .before .before .before .before .before .before .before .before .before .before .before .before .before .before .before .bound .given) (c .before .before .before .before .before .before .before .before .before .before .before .before .before .before .before .before .before .before .before .before .uses .given) (c .before .before .before .before .before .before .before .before .before .before .before .before .before .before .before .before .before .before .spare .given),
+  lengths-on (c .before .before .before .before .before .before .before .before .before .before .before .before .before .before .before .before .before .before .before .before .before .before .before .before .before .before .before .before .before .before .before .before .before .before .before .before .before .before .before .before .before .before .before .before .before .loop .inv .1) (record { path = c .before .before .before .before .before .before .before .before .before .before .before .before .before .before .before .before .before .before .before .before .before .before .before .before .path2 .given ∙ c .before .before .before .before .before .before .before .before .before .before .before .before .before .before .before .before .before .before .before .before .before .before .before .before .before .before .before .before .before .before .before .before .before .before .before .before .before .before .before .before .before .before .path .given; binders = refl; bound = c .before .before .before .before .before .before .before .before .before .before .before .before .before .before .before .before .before .before .before .before .before .before .bound .given; uses = c .before .before .before .before .before .before .before .before .before .before .before .before .before .before .before .before .before .before .before .before .uses .given; spare = c .before .before .before .before .before .before .before .before .before .before .before .before .before .before .before .before .before .before .spare .given; made = c .before .before .before .before .before .before .before .before .before .before .before .before .before .before .before .before .made .given; places = c .before .before .before .before .before .before .before .before .before .before .before .before .before .before .places .given; hashes = c .before .before .before .before .before .before .before .before .before .before .before .before .hashes .given; hints = c .before .before .before .before .before .before .before .before .before .before .hints .given; rows = c .before .before .before .before .before .before .before .before .rows .given; params = c .before .before .before .before .before .before .params .given; number = c .before .before .before .before .number .given; order = refl }),
+)
 
 same-length : tie.Need-same-length Inv-loop μ-loop
 same-length c = c .before .before .before .before .before .before .before .before .path .given ∙ c .before .before .before .before .before .before .before .before .before .before .before .loop .inv .1 .path
