@@ -102,9 +102,6 @@ module _ {s : List ℕ} {at end : ℕ} {path₀ : List ℕ} {len : ℕ} {binders
   source : length s ≤ 16384
   source = R .goes (R .root) .good .tables .source
 
-  pub frames-long : length frames ≡ 64
-  frames-long = R .goes (R .root) .frames-long
-
   pub round-deep : d ≤ 63
   round-deep = R .goes (R .root) .deep
 
