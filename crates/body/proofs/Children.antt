@@ -1,47 +1,41 @@
 -- A child: its frame, and that the pass goes on with it.
 -- Assumes nothing.
 use mathlib.Core.Path.{_≡_, refl, sym, ap, _∙_}
-use mathlib.Core.Bool.{Bool, true, false}
+use mathlib.Core.Bool.{true, false}
 use mathlib.Core.List.{List, [], _∷_, _++_}
-use Prim.Native.Nat.{ℕ, suc, _+_, _-_, _*_, _≤_, _<_, min, max}
+use Prim.Native.Nat.{ℕ, _+_, _-_, _*_, _≤_, _<_}
 use native.Mathlib.Omega.{arith}
-use lib.Dec.{eqb}
-use lib.ListN.{length, take, set, length-set, length-append}
+use lib.ListN.{length, take, length-set, length-append}
 use Rattle.definition.specs.Code.{Code, number}
 use Rattle.definition.specs.Res.{Res, bad, ok}
-use Rattle.definition.specs.Tree.{Name, Shell, wrap, vec, option, array, Combinator, plain, chained, Inner, leaf, struct, choice, shell, bytes, invocation, macro-invocation}
-use Rattle.definition.specs.Write.{wU16, wName, wText, wLen, wList, wOpen, wShut, countA, wInner, wCombinator, wInners}
+use Rattle.definition.specs.Tree.{Shell, wrap, vec, option, array, Combinator, plain, chained, Inner, leaf, struct, choice, shell, bytes, invocation, macro-invocation}
+use Rattle.definition.specs.Write.{wU16, wName, wText, wLen, wList, wOpen, countA, wInner, wCombinator, wInners}
 use Rattle.definition.specs.Size.{size, levels}
-use Rattle.definition.specs.Collect.{anonymous}
 use Rattle.laws.proofs.Sizes.{adds, sizeI, size-struct, size-choice, size-shell, size-plain, size-chained}
-use Rattle.laws.proofs.Splits.{s-comb, s-inner}
+use Rattle.laws.proofs.Splits.{s-inner}
 use Rattle.lifting.proofs.Ranges.{sizeI-some}
-use Rattle.lifting.specs.After.{chainAt}
-use Rattle.seek.specs.At.{byteAt, pastAt}
 use Rattle.seek.specs.Here.{Here}
 use Rattle.seek.proofs.Here.{here-length, byte-here, next-here}
 use Rattle.collect.specs.Anonymous.{anonymousAt}
-use Rattle.collect.specs.Uses.{pick}
 use Rattle.collect.proofs.Anonymous.{anonymous-here}
 use Rattle.names.specs.Name.{Held}
 use Rattle.tables.specs.Rows.{rowsOf}
 use Rattle.lift.specs.declared.Counts.{Counts}
-use Rattle.lift.specs.Bound.{Bound, boundFrom}
-use Rattle.lift.specs.Sheet.{Sheet, sheetOf, Tables}
+use Rattle.lift.specs.Bound.{boundFrom}
+use Rattle.lift.specs.Sheet.{Sheet, sheetOf}
 use Rattle.naming.specs.declared.Frame.{Frame}
 use Rattle.naming.specs.declared.Named.{Named}
 use Rattle.naming.specs.declared.Named.the-variants.{Lift, Refused}
-use Rattle.naming.specs.Walk.{Start, starts}
-use Rattle.naming.specs.Nodes.{Own, walked, lifted, Node, nodeOf, Wait, run, Opens}
-use Rattle.naming.specs.Frames.{innerEnd, combinatorEnd, beginAt, Stands, OwnIs, frameAt, FrameIs}
+use Rattle.naming.specs.Walk.{Start}
+use Rattle.naming.specs.Nodes.{walked, lifted, nodeOf, run}
+use Rattle.naming.specs.Frames.{combinatorEnd, Stands, OwnIs, frameAt}
 use Rattle.naming.specs.Lifts.{Whole, Answers, Lifts}
 use Rattle.naming.proofs.Ends.{inner-rest, inner-end, begins, combinator-end}
 use Rattle.naming.proofs.Opened.{frame-opens}
 use Rattle.naming.proofs.Machine.{steps-walked, steps-lifted, steps-refused}
-use Rattle.body.specs.Walks.{Good}
-use Rattle.body.specs.Steps.{Sound, weight, Refuses, Opened, ChildIs, Comes}
+use Rattle.body.specs.Steps.{Sound, weight, Opened, ChildIs, Comes}
 use Rattle.body.specs.declared.steps.Child.the-variants as comes
-use Rattle.body.proofs.Started.{Started, started, rows-length, numbered-on}
+use Rattle.body.proofs.Started.{started, rows-length, numbered-on}
 
 -- ---- sizes
 open-some : (x : Shell) → 1 ≤ length (wOpen x [])

@@ -5,7 +5,7 @@ use mathlib.Core.Bool.{true}
 use mathlib.Core.List.{List, _∷_}
 use Prim.Native.Nat.{ℕ, _≤_}
 use native.Mathlib.Omega.{arith}
-use lib.ListN.{length, length-append}
+use lib.ListN.{length-append}
 use Rattle.definition.specs.Tree.{Name}
 use Rattle.definition.specs.Names.{child}
 use Rattle.writer.proofs.Wrote.{same-length}
@@ -16,10 +16,10 @@ use Rattle.naming.specs.declared.Frame.{Frame}
 use Rattle.naming.specs.declared.Next.{Next}
 use Rattle.naming.specs.declared.Next.the-variants.{Done, Pass, Chain, Label, Case, Anon, Item}
 use Rattle.naming.specs.Nodes.{Node}
-use Rattle.naming.specs.Frames.{FrameIs, Opening, NextIs}
+use Rattle.naming.specs.Frames.{Opening, NextIs}
 use Rattle.naming.specs.Next.{nextOf}
 use Rattle.naming.proofs.Opened.{next-is}
-use Rattle.body.specs.Steps.{Reaches, StepIs}
+use Rattle.body.specs.Steps.{StepIs}
 use Rattle.body.specs.declared.steps.Step.the-variants as step
 
 child-longer : {path path′ : List ℕ} {len r : ℕ} (name seg : Name) → Child path len seg path′ r → Held path len name → len ≤ r

@@ -1,32 +1,28 @@
 -- The loop over a body: for every tree that may stand there and every name that the path may hold.
 -- Assumes nothing.
-use mathlib.Core.Path.{_≡_, refl, sym, ap, _∙_}
+use mathlib.Core.Path.{_≡_, refl, sym, _∙_}
 use mathlib.Core.Logic.{⊎-elim}
 use mathlib.Core.List.{List, [], _∷_, _++_}
-use Prim.Native.Nat.{ℕ, zero, suc, _+_, _-_, _*_, _≤_, _<_, min}
+use Prim.Native.Nat.{ℕ, zero, suc, _+_, _-_, _≤_, _<_}
 use native.Mathlib.Omega.{arith}
 use lib.ListN.{length, take, getD, set, length-append}
 use lib.Seq.{take-all, take-append-le}
-use Rattle.definition.specs.Res.{Res, bad, ok}
 use Rattle.definition.specs.Tree.{Name, Combinator}
-use Rattle.definition.specs.Size.{size, levels}
-use Rattle.seek.proofs.Here.{here-length}
 use Rattle.writer.proofs.Put.{within}
 use Rattle.names.specs.Name.{Held}
 use Rattle.lift.specs.declared.Counts.{Counts}
 use Rattle.lift.specs.Bound.{boundFrom, Sized}
-use Rattle.lift.specs.Sheet.{Sheet, sheetOf, Tables}
+use Rattle.lift.specs.Sheet.{sheetOf, Tables}
 use Rattle.lift.proofs.Entered.{cut-length}
 use Rattle.naming.specs.declared.Frame.{Frame}
-use Rattle.naming.specs.Walk.{Extent, walk}
-use Rattle.naming.specs.Nodes.{walked, Node, nodeOf, Wait, run}
-use Rattle.naming.specs.Frames.{OwnIs, frameAt, FrameIs, Closing, passed, Passing, bindBy, boundAfter, delivered}
-use Rattle.naming.specs.Lifts.{Whole, Some, Scratch}
+use Rattle.naming.specs.Walk.{walk}
+use Rattle.naming.specs.Nodes.{walked, nodeOf, Wait}
+use Rattle.naming.specs.Frames.{OwnIs, frameAt, Closing, passed, Passing, bindBy, boundAfter, delivered}
+use Rattle.naming.specs.Lifts.{Whole, Scratch}
 use Rattle.naming.proofs.Machine.{run-root}
 use Rattle.naming.proofs.Opened.{frame-opens}
 use Rattle.body.specs.Walks.{Good, Ready, Ends, Walks}
-use Rattle.body.specs.Steps.{Reached, Reaches, StepIs, Sound, weight, SomeChild, Refuses, Opened, ChildIs, Comes, closedOf, orderOf}
-use Rattle.body.specs.declared.Body.{Body}
+use Rattle.body.specs.Steps.{Reached, StepIs, weight, SomeChild, Opened, ChildIs, Comes, closedOf, orderOf}
 use Rattle.body.specs.declared.Body.the-variants.{Named, Refused}
 use Rattle.body.specs.declared.steps.Step.{Step}
 use Rattle.body.specs.declared.steps.Step.the-variants as step
@@ -34,7 +30,7 @@ use Rattle.body.specs.declared.steps.Child.{Child}
 use Rattle.body.specs.declared.steps.Child.the-variants as comes
 use Rattle.body.specs.declared.steps.Closed.{Closed}
 use Rattle.body.proofs.Children.{frame-sound}
-use Rattle.body.proofs.Stack.{no-frame, Waits, Stack, waiting, lifting, Going}
+use Rattle.body.proofs.Stack.{no-frame, Stack, waiting, lifting, Going}
 use Rattle.body.proofs.Turns.{less-pass, goes-pass, child-levels, child-few, goes-open, less-open, ends-refused, good-closed, ends-last, goes-back, less-back}
 
 -- a tree that stands there, and a name that the path holds
@@ -105,9 +101,6 @@ module _ {s : List ℕ} {at end : ℕ} {path₀ : List ℕ} {len : ℕ} {binders
     (R : Round s at end path₀ len binders₀ b made₀ places₀ rows₀ params₀ order₀ w₀ n₀ path binders bound uses spare made places hashes hints rows params number order frames f d w n) where
   source : length s ≤ 16384
   source = R .goes (R .root) .good .tables .source
-
-  pub frames-long : length frames ≡ 64
-  frames-long = R .goes (R .root) .frames-long
 
   pub round-deep : d ≤ 63
   round-deep = R .goes (R .root) .deep

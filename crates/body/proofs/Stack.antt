@@ -1,39 +1,34 @@
 -- The nodes that wait, by their frames, and one turn of the loop.
 -- Assumes nothing.
-use mathlib.Core.Path.{_≡_, refl, sym, ap, _∙_}
-use mathlib.Core.Bool.{Bool, true, false}
+use mathlib.Core.Path.{_≡_, refl, ap, _∙_}
+use mathlib.Core.Bool.{true, false}
 use mathlib.Core.List.{List, [], _∷_, _++_}
 use Prim.Native.Nat.{ℕ, zero, suc, _+_, _-_, _*_, _≤_, _<_, min}
 use native.Mathlib.Omega.{arith}
-use native.Mathlib.Nat.{le-refl}
 use native.Mathlib.Numerals.{add-one}
 use lib.Dec.{eqb}
-use lib.ListN.{length, take, getD, set, length-set, replicate, length-replicate}
-use lib.Seq.{getD-set-same, getD-set-other, take-suc}
+use lib.ListN.{length, take, getD, set, length-set}
+use lib.Seq.{getD-set-same, getD-set-other}
 use borrow.Author.Tests.{eq-eqb, ne-eqb, eqb-true, eqb-false}
-use Rattle.definition.specs.Res.{Res, bad, ok}
-use Rattle.definition.specs.Tree.{Name, Combinator}
-use Rattle.definition.specs.Size.{size, levels}
+use Rattle.definition.specs.Res.{Res, ok}
+use Rattle.definition.specs.Tree.{Name}
+use Rattle.definition.specs.Size.{size}
 use Rattle.laws.proofs.Tests.{by-test}
-use Rattle.lifting.proofs.Ranges.{size-some}
-use Rattle.seek.specs.At.{pastAt}
 use Rattle.collect.specs.Uses.{pick}
 use Rattle.writer.proofs.Put.{put-first, take-written}
-use Rattle.names.specs.Name.{Held}
 use Rattle.names.proofs.Held.{held-back, take-less}
 use Rattle.lift.specs.declared.Counts.{Counts}
-use Rattle.lift.specs.Bound.{boundFrom, withParam, Sized}
-use Rattle.lift.specs.Sheet.{Sheet, sheetOf, Tables}
-use Rattle.lift.proofs.Params.{Same, param-before, param-length, param-own}
+use Rattle.lift.specs.Bound.{Sized}
+use Rattle.lift.specs.Sheet.{Sheet, sheetOf}
+use Rattle.lift.proofs.Params.{Same}
 use Rattle.naming.specs.declared.Frame.{Frame}
-use Rattle.naming.specs.Walk.{plus, Extent, finish, walk}
-use Rattle.naming.specs.Nodes.{Own, walked, lifted, Node, nodeOf, close, goOn, Wait, deliver, run}
-use Rattle.naming.specs.Frames.{combinatorEnd, OwnIs, FrameIs, Closing, passed, Passing, binding, bindBy, boundAfter, delivered, Opening}
-use Rattle.naming.specs.Lifts.{Whole, Scratch}
+use Rattle.naming.specs.Walk.{plus, Extent, finish}
+use Rattle.naming.specs.Nodes.{Own, walked, lifted, Node, close, Wait, run}
+use Rattle.naming.specs.Frames.{OwnIs, FrameIs, Opening}
+use Rattle.naming.specs.Lifts.{Scratch}
 use Rattle.naming.proofs.Bound.{bound-kept}
-use Rattle.naming.proofs.Machine.{steps-back, steps-last}
 use Rattle.body.specs.Walks.{Good}
-use Rattle.body.specs.Steps.{Reached, Sound, weight, Refuses, Opened, closedOf, orderOf}
+use Rattle.body.specs.Steps.{Sound, closedOf, orderOf}
 
 -- ---- a frame where path and binders change behind it
 module _ {s path binders path′ binders′ : List ℕ} (long : length path′ ≡ length path) where

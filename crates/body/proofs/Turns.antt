@@ -1,48 +1,40 @@
 -- One turn of the loop.
 -- Assumes nothing.
-use mathlib.Core.Path.{_≡_, refl, sym, ap, _∙_}
+use mathlib.Core.Path.{_≡_, refl, sym, _∙_}
 use mathlib.Core.Logic.{⊎-elim}
 use mathlib.Core.Bool.{Bool, true, false}
-use mathlib.Core.List.{List, [], _∷_, _++_}
-use Prim.Native.Nat.{ℕ, zero, suc, _+_, _-_, _*_, _≤_, _<_, min}
+use mathlib.Core.List.{List, [], _∷_}
+use Prim.Native.Nat.{ℕ, _+_, _-_, _*_, _≤_, _<_, min}
 use native.Mathlib.Omega.{arith}
 use native.Mathlib.Nat.{eq-or-lt-of-le}
 use lib.Dec.{eqb}
-use lib.ListN.{length, take, getD, set, length-set, length-append}
-use lib.Seq.{getD-set-same, take-all, take-append-le}
-use Rattle.definition.specs.Res.{Res, bad, ok}
-use Rattle.definition.specs.Tree.{Name, Combinator}
+use lib.ListN.{length, take, getD, set, length-set}
+use lib.Seq.{getD-set-same}
+use Rattle.definition.specs.Res.{Res, ok}
 use Rattle.definition.specs.Write.{wCombinator}
 use Rattle.definition.specs.Size.{size, levels}
 use Rattle.laws.proofs.Tests.{by-test}
 use Rattle.laws.proofs.Sizes.{adds}
 use Rattle.laws.proofs.Splits.{s-comb}
-use Rattle.lifting.proofs.Ranges.{size-some}
 use Rattle.seek.specs.At.{byteAt, pastAt}
 use Rattle.seek.proofs.Here.{here-length}
 use Rattle.collect.specs.Uses.{pick}
-use Rattle.writer.proofs.Put.{within}
-use Rattle.names.specs.Name.{Held}
 use Rattle.names.proofs.Held.{take-less}
 use Rattle.lift.specs.declared.Counts.{Counts}
-use Rattle.lift.specs.Bound.{boundFrom, withParam, Sized}
+use Rattle.lift.specs.Bound.{withParam, Sized}
 use Rattle.lift.specs.Sheet.{Sheet, sheetOf}
 use Rattle.lift.proofs.Params.{Same, param-before, param-length, param-own}
-use Rattle.lift.proofs.Entered.{cut-length}
 use Rattle.naming.specs.declared.Frame.{Frame}
-use Rattle.naming.specs.Walk.{plus, Extent, walk}
-use Rattle.naming.specs.Nodes.{walked, Node, nodeOf, goOn, Wait, deliver, run}
-use Rattle.naming.specs.Frames.{combinatorEnd, frameAt, FrameIs, Closing, passed, Passing, binding, bindBy, boundAfter, delivered, Opening}
-use Rattle.naming.specs.Lifts.{Whole, Scratch}
+use Rattle.naming.specs.Walk.{plus, Extent}
+use Rattle.naming.specs.Nodes.{Node, goOn, Wait, deliver, run}
+use Rattle.naming.specs.Frames.{Closing, passed, Passing, binding, bindBy, boundAfter, delivered}
 use Rattle.naming.proofs.Ends.{combinator-end}
-use Rattle.naming.proofs.Machine.{steps-back, steps-last, run-root}
-use Rattle.naming.proofs.Opened.{frame-opens}
-use Rattle.body.specs.Walks.{Good, Ready, Ends}
+use Rattle.naming.proofs.Machine.{steps-back, steps-last}
+use Rattle.body.specs.Walks.{Good, Ends}
 use Rattle.body.specs.Steps.{Reached, Sound, weight, Refuses, Opened, closedOf, orderOf}
-use Rattle.body.specs.declared.Body.{Body}
-use Rattle.body.specs.declared.Body.the-variants.{Named, Refused}
-use Rattle.body.proofs.Children.{frame-sound, size-least, levels-some}
-use Rattle.body.proofs.Stack.{frame-kept, no-frame, Waits, Stack, stack-kept, stack-more, after, waiting, lifting, set-below, waiting-more, lifting-more, waiting-less, lifting-less, Going, closed-size, order-length, closed-is}
+use Rattle.body.specs.declared.Body.the-variants.{Refused}
+use Rattle.body.proofs.Children.{size-least, levels-some}
+use Rattle.body.proofs.Stack.{frame-kept, no-frame, Waits, Stack, stack-kept, stack-more, after, waiting, set-below, waiting-more, lifting-more, waiting-less, lifting-less, Going, closed-size, order-length, closed-is}
 
 -- ---- a Const field is passed
 pass-sound : {s path binders : List ℕ} {k : ℕ} {f : Frame} {n : Node} {e : ℕ} → Sound s f → Passing s path binders k f n e → Sound s (passed f e)

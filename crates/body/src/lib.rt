@@ -1,5 +1,5 @@
 // The naming pass over one body: one frame for each level, in one local.
-pub mod steps;
+mod steps;
 
 use crate::steps::Child;
 use crate::steps::Step;
@@ -11,7 +11,6 @@ use lift::Counts;
 use naming::open_node;
 use naming::pass;
 ghost use Prim.Native.Nat.{_≤_};
-ghost use lib.ListN.{take};
 ghost use Rattle.body.specs.Walks.{Good, Ready, Walks};
 
 // The counts and how many lifts are finished, or document 01's number of a refusal.
@@ -43,7 +42,7 @@ pub fn expand_combinator(
     w: Counts,
     n: usize,
 ) -> Body
-    requires { ⌜ (len ≤ 256) × Good (now s) (now made) (now places) (now hashes) (now hints) (now rows) (now params) (now number) (now order) w n × Ready (now s) at end (now path) (now binders) b (now bound) (now uses) (now spare) ⌝ }
+    requires { ⌜ Good (now s) (now made) (now places) (now hashes) (now hints) (now rows) (now params) (now number) (now order) w n × Ready (now s) at end (now path) (now binders) b (now bound) (now uses) (now spare) × (len ≤ 256) ⌝ }
     ensures { λ r. ⌜ Walks (now (s .entry)) at end (now (path .entry)) len (now (binders .entry)) b (now (made .entry)) (now (places .entry)) (now (rows .entry)) (now (params .entry)) (now (order .entry)) w n (now (made .exit)) (now (places .exit)) (now (hashes .exit)) (now (hints .exit)) (now (rows .exit)) (now (params .exit)) (now (number .exit)) (now (order .exit)) r ⌝ }
 {
     let root = open_node(s, at, end, len, b, 0, 0);

@@ -2,9 +2,8 @@
 -- Assumes nothing.
 use mathlib.Core.Path.{refl, _∙_}
 use native.Mathlib.Omega.{arith}
-use lib.ListN.{length-replicate}
 use borrow.Author.Needs.{needs}
-use Rattle.body.proofs.Rounds.{Round, left, round-start, frames-long, round-deep, pass-safe, close-safe, resume-safe, round-pass, round-less-pass, walks-last, round-back, round-less-back, open-safe, walks-refused, round-open, round-less-open, some, Lengths, lengths-on}
+use Rattle.body.proofs.Rounds.{Round, left, round-start, round-deep, pass-safe, close-safe, resume-safe, round-pass, round-less-pass, walks-last, round-back, round-less-back, open-safe, walks-refused, round-open, round-less-open, some, Lengths, lengths-on}
 use Rattle.body.proofs.expand_combinator.Statement.{statement}
 use Rattle.body.proofs.expand_combinator.Tie as tie
 
@@ -18,7 +17,7 @@ abbrev μ-loop : tie.MeasureT-loop
     left s frames f d
 
 loop-holds : tie.Need-loop-holds Inv-loop μ-loop
-loop-holds c = (round-start (c .before .before .before .before .before .before .before .before .before .before .before .before .before .before .before .pre .0) (c .before .before .before .before .before .before .before .before .before .before .before .before .before .before .before .pre .1) (c .before .before .before .before .before .before .before .before .before .before .before .before .before .before .before .pre .2) (c .open-node .ensures) refl, record { path = refl; binders = refl; bound = refl; uses = refl; spare = refl; made = refl; places = refl; hashes = refl; hints = refl; rows = refl; params = refl; number = refl; order = refl })
+loop-holds c = (round-start (c .before .before .before .before .before .before .before .before .before .before .before .before .before .before .before .pre .2) (c .before .before .before .before .before .before .before .before .before .before .before .before .before .before .before .pre .0) (c .before .before .before .before .before .before .before .before .before .before .before .before .before .before .before .pre .1) (c .open-node .ensures) refl, record { path = refl; binders = refl; bound = refl; uses = refl; spare = refl; made = refl; places = refl; hashes = refl; hints = refl; rows = refl; params = refl; number = refl; order = refl })
 
 pass-requires : tie.Need-pass-requires Inv-loop μ-loop
 pass-requires c κs = pass-safe (c .before .before .before .before .before .before .before .loop .inv .0)

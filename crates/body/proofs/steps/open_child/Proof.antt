@@ -1,9 +1,7 @@
 -- `body::steps::open_child` meets its contract.
 -- Assumes nothing.
-use mathlib.Core.Path.{_≡_, refl, sym, _∙_}
-use Prim.Native.Nat.{_≤_}
+use mathlib.Core.Path.{refl, sym, _∙_}
 use native.Mathlib.Omega.{arith}
-use lib.ListN.{length}
 use borrow.Author.Needs.{needs}
 use Rattle.body.proofs.Children.{whole-of, child-walked, child-refused, child-lifted}
 use Rattle.body.proofs.steps.open_child.Statement.{statement}
