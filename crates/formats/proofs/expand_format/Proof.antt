@@ -14,10 +14,10 @@ own-params-requires c κs =
 expand-combinator-requires : tie.Need-expand-combinator-requires
 expand-combinator-requires c κs =
     let p = c .before .before .before .before .before .before .before .before .before .before .before .before .before .before .before .before .before .before .before .before .before .before .before .before .before .before .before .before .before .before .before .before .before .before .before .before .before .before .before .pre in (
-      len-most (c .before .before .before .before .before .before .before .before .before .before .before .before .before .before .before .before .before .before .before .before .before .before .put-bytes .ensures) (p .1 .path-long),
       p .0,
       ready (p .0 .tables .source) (c .before .before .before .before .before .before .before .before .before .before .before .before .before .before .before .before .before .before .before .name-past .ensures) (c .before .before .before .before .before .before .before .before .before .before .before .before .before .before .before .before .own-params .ensures) (c .before .before .before .before .before .before .before .before .before .before .before .before .before .before .before .before .before .before .number .ensures) (c .before .before .before .before .before .before .before .before .before .before .before .before .before .combinator-end .ensures) (p .2)
           (omega (arith, c .before .before .before .before .before .before .before .before .before .before .before .before .before .before .before .before .before .before .before .before .before .path .given, p .1 .path-long)) (omega (arith, c .before .before .before .before .before .before .before .before .before .before .before .before .before .before .before .binders .given, p .1 .binders-long)) (p .1 .scratch),
+      len-most (c .before .before .before .before .before .before .before .before .before .before .before .before .before .before .before .before .before .before .before .before .before .before .put-bytes .ensures) (p .1 .path-long),
     )
 
 same-path : tie.Need-same-length
