@@ -98,18 +98,22 @@ lines-step {s} {d} {d₁} {d′} {entry} {at} {left} {kept} {o} {o₁} {r} h w m
 
 pub all-lines : {s d d₁ d′ : List ℕ} {kept left entry at o o₁ r : ℕ} → left ≡ numberAt s 0 → entry ≡ pastAt s 0 2 → at ≡ pastAt s 2 (6 * left) → Wrote d o (10 ∷ []) d₁ o₁ → Lines s entry at left kept d₁ o₁ d′ r
     → AllLines s kept d o d′ r
-all-lines {s} {kept = kept} {left} {entry} {at} a b c w m = record { says = λ ks ls e i k.
-  let g = book-listed s (ks ++ ls) e i in
-  let n : left ≡ length (ks ++ ls) = a ∙ g .0 in
-  glue w (m .says ks ls (rw (b, c, n) (g .1)) n k (after-most w)) }
+all-lines {s} {kept = kept} {left} {entry} {at} a b c w m = record {
+  says = λ ks ls e i k.
+      let g = book-listed s (ks ++ ls) e i in
+      let n : left ≡ length (ks ++ ls) = a ∙ g .0 in
+      glue w (m .says ks ls (rw (b, c, n) (g .1)) n k (after-most w));
+}
 
 -- `ok D L`, and the lines
 pub lists : {s d d₁ d₂ d₃ d′ : List ℕ} {definitions lifted kept o₁ o₂ o₃ r : ℕ} → Wrote d 0 (111 ∷ 107 ∷ []) d₁ o₁ → Wrote d₁ o₁ (count definitions) d₂ o₂ → Wrote d₂ o₂ (count lifted) d₃ o₃
     → kept ≡ definitions - lifted → AllLines s kept d₃ o₃ d′ r → Lists s definitions lifted d d′ r
 unfolding listed
-lists {d = d} {d′ = d′} {definitions = definitions} {lifted = lifted} {kept = kept} {r = r} a b c k m = record { says = λ q e i x y.
-  let n : kept ≡ length (q .kept) = omega (arith, length-append (q .kept) (q .lifted)) in
-  of q x y (glue (glue (glue a b) c) (m .says (q .kept) (q .lifted) e i n)) }
+lists {d = d} {d′ = d′} {definitions = definitions} {lifted = lifted} {kept = kept} {r = r} a b c k m = record {
+  says = λ q e i x y.
+      let n : kept ≡ length (q .kept) = omega (arith, length-append (q .kept) (q .lifted)) in
+      of q x y (glue (glue (glue a b) c) (m .says (q .kept) (q .lifted) e i n));
+}
   where
     head : List ℕ
     head = (111 ∷ 107 ∷ []) ++ count definitions ++ count lifted

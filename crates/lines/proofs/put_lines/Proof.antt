@@ -77,11 +77,10 @@ loop-less : tie.Need-loop-less Inv-loop μ-loop
 loop-less c = search needs
 
 loop-again : tie.Need-loop-again Inv-loop μ-loop
-loop-again c =
-    (
-      omega (arith, c .before .before .before .before .before .before .before .before .before .before .before .loop .inv .0),
-      λ d r p. c .before .before .before .before .before .before .before .before .before .before .before .loop .inv .1 d r (lines-step (c .before .before .before .before .before .before .before .before .before .before .loop-test .taken) (rw (c .before .before .before .before .before .before .before .before .before .byte .ensures) at (c .before .before .before .before .before .put-line .ensures)) (rw (c .before .past5 .ensures, c .before .before .past4 .ensures, c .before .before .before .before .before .before .before .number2 .ensures, c .before .before .before .before .before .before .before .before .past3 .ensures, c .minus .ensures) at p))
-    )
+loop-again c = (
+  omega (arith, c .before .before .before .before .before .before .before .before .before .before .before .loop .inv .0),
+  λ d r p. c .before .before .before .before .before .before .before .before .before .before .before .loop .inv .1 d r (lines-step (c .before .before .before .before .before .before .before .before .before .before .loop-test .taken) (rw (c .before .before .before .before .before .before .before .before .before .byte .ensures) at (c .before .before .before .before .before .put-line .ensures)) (rw (c .before .past5 .ensures, c .before .before .past4 .ensures, c .before .before .before .before .before .before .before .number2 .ensures, c .before .before .before .before .before .before .before .before .past3 .ensures, c .minus .ensures) at p)),
+)
 
 same-length : tie.Need-same-length Inv-loop μ-loop
 same-length c = search needs
