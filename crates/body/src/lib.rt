@@ -1,8 +1,109 @@
 // The naming pass over one body: one frame for each level, in one local.
+pub mod steps;
+
+use crate::steps::Child;
+use crate::steps::Step;
+use crate::steps::close_node;
+use crate::steps::next_step;
+use crate::steps::open_child;
+use crate::steps::resume_node;
 use lift::Counts;
+use naming::open_node;
+use naming::pass;
+ghost use Prim.Native.Nat.{_≤_};
+ghost use lib.ListN.{take};
+ghost use Rattle.body.specs.Walks.{Good, Ready, Walks};
 
 // The counts and how many lifts are finished, or document 01's number of a refusal.
 pub enum Body {
     Named(Counts, usize),
     Refused(u8),
+}
+
+// The body from `at` up to `end`: path holds its name in the first `len` bytes, and b binders are in force.
+pub fn expand_combinator(
+    s: &[u8],
+    at: usize,
+    end: usize,
+    path: &mut [u8],
+    len: usize,
+    binders: &mut [u16],
+    b: usize,
+    bound: &mut [u32],
+    uses: &mut [u32],
+    spare: &mut [u32],
+    made: &mut [u8],
+    places: &mut [u16],
+    hashes: &mut [u16],
+    hints: &mut [u16],
+    rows: &mut [u16],
+    params: &mut [u16],
+    number: &mut [u16],
+    order: &mut [u16],
+    w: Counts,
+    n: usize,
+) -> Body
+    requires { ⌜ (len ≤ 256) × Good (now s) (now made) (now places) (now hashes) (now hints) (now rows) (now params) (now number) (now order) w n × Ready (now s) at end (now path) (now binders) b (now bound) (now uses) (now spare) ⌝ }
+    ensures { λ r. ⌜ Walks (now (s .entry)) at end (now (path .entry)) len (now (binders .entry)) b (now (made .entry)) (now (places .entry)) (now (rows .entry)) (now (params .entry)) (now (order .entry)) w n (now (made .exit)) (now (places .exit)) (now (hashes .exit)) (now (hints .exit)) (now (rows .exit)) (now (params .exit)) (now (number .exit)) (now (order .exit)) r ⌝ }
+{
+    let root = open_node(s, at, end, len, b, 0, 0);
+    let mut frames = [root; 64];
+    let mut f = root;
+    let mut d = 0;
+    let mut counts = w;
+    let mut finished = n;
+    loop {
+        let step = next_step(s, f, path);
+        match step {
+            Step::Pass(e) => {
+                f = pass(f, e);
+                continue;
+            }
+            Step::Done => {
+                let z = close_node(f, order, finished);
+                finished = z.finished;
+                if d == 0 {
+                    return Body::Named(counts, finished);
+                }
+                d -= 1;
+                let p = frames[d];
+                f = resume_node(s, p, f, z, binders);
+                continue;
+            }
+            Step::Child(place, l) => {
+                let known = f.bound;
+                let child = open_child(
+                    s,
+                    place,
+                    path,
+                    l,
+                    &binders[..],
+                    known,
+                    bound,
+                    uses,
+                    spare,
+                    made,
+                    places,
+                    hashes,
+                    hints,
+                    rows,
+                    params,
+                    number,
+                    counts,
+                );
+                match child {
+                    Child::Refused(c) => {
+                        return Body::Refused(c);
+                    }
+                    Child::Opened(g, v) => {
+                        frames[d] = f;
+                        d += 1;
+                        f = g;
+                        counts = v;
+                        continue;
+                    }
+                }
+            }
+        }
+    }
 }

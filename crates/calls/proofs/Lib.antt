@@ -1,4 +1,5 @@
 mod Bools
+mod Marks
 pub mod Written
 pub mod Expanded
 mod Level

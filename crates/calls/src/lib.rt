@@ -9,10 +9,11 @@ use seek::number;
 use seek::past;
 use seek::selector_past;
 use seek::text_past;
+use writer::least;
 ghost use mathlib.Core.Path.{_≡_};
 ghost use mathlib.Core.List.{[], _∷_};
-ghost use Prim.Native.Nat.{_+_, min};
-ghost use lib.ListN.{length};
+ghost use Prim.Native.Nat.{_+_};
+ghost use lib.ListN.{take};
 ghost use Rattle.writer.specs.Buf.{Wrote};
 ghost use Rattle.calls.specs.Walk.{moved, entered, standsOn, chainedTo, silent, back, textOrLength, markAt, callAt, combinatorAt, innerAt, fieldsAt, fieldAt, wrapAt, choiceAt, casesAt, caseAt, arrayAt, macroAt, argumentsAt, argumentAt, skipAt};
 
@@ -23,15 +24,6 @@ pub struct Walk {
     pub n: usize,
     pub left: usize,
     pub plain: bool,
-}
-
-fn least(x: usize, y: usize) -> usize
-    ensures { λ r. ⌜ r ≡ min x y ⌝ }
-{
-    if x < y {
-        return x;
-    }
-    y
 }
 
 // The same walk at another place.
@@ -336,4 +328,12 @@ pub fn skip_inner(s: &[u8], w: Walk, levels: usize, marks: &mut [u16]) -> Walk
     let v = silent(w, at, marks.len() + 1);
     let r = inner(s, v, levels, marks);
     back(w, r)
+}
+
+// The first n marks.
+pub fn first_marks(marks: &[u16], n: usize) -> &[u16]
+    ensures { λ r. ⌜ now r ≡ take n (now (marks .entry)) ⌝ }
+{
+    let end = least(n, marks.len());
+    &marks[..end]
 }

@@ -1,79 +1,76 @@
 -- Every accepted result meets demand 3.
 use mathlib.Core.Path.{_≡_, refl}
-use mathlib.Core.List.{List, [], _∷_, _++_}
-use mathlib.Core.Bool.{true, false, not}
+use mathlib.Core.List.{List, [], _∷_}
 use Prim.Native.Nat.{ℕ}
 use native.Mathlib.Omega.{arith}
-use lib.ListN.{length}
-use Rattle.definition.specs.Res.{absent, just, Res, bad, ok}
 use Rattle.definition.specs.Out.{done}
 use Rattle.definition.specs.Tree.{Name, Definition, format, constant, byte-order, macro}
 use Rattle.definition.specs.Names.{elem}
-use Rattle.definition.specs.Lift.{full, State, names, start, liftBook, walkAll}
-use Rattle.definition.specs.Answer.{Result, outcome, expanded, elaborated}
-use Rattle.definition.specs.Premise.{callsKnown, chainsPlain}
-use Rattle.definition.specs.PutBack.{bodyOf, backAll, putBack}
-use Rattle.demand3.specs.Flat.{FlatAll}
-use Rattle.demand3.specs.Demand3.{Tight, Demand3}
-use Rattle.demand3.proofs.Elem.{bodyOf-none}
-use Rattle.demand3.proofs.Walked.{Known, Grew, walkedAll}
-use Rattle.demand3.proofs.Back.{Holds, back-all}
-use Rattle.demand3.proofs.Ease.{ease-all}
+use Rattle.definition.specs.Lift.{State, names, start}
+use Rattle.definition.specs.Answer.{Result, expanded, elaborated}
+use Rattle.laws.specs.Book.{Bytes}
+use Rattle.laws.specs.Lists.{Distinct, NoMacro}
+use Rattle.laws.proofs.Steps.{Yields, so}
+use Rattle.laws.proofs.Results.{expanded-is-book, elaborated-yields}
+use Rattle.demand3.specs.Words.{Named, EachBody, EachCall}
+use Rattle.demand3.specs.PutBack.{NoneLeft, PutsAllBack}
+use Rattle.demand3.specs.Demand3.{CallsKnown, ChainsPlain, Apart, AllTight, Demand3}
+use Rattle.demand3.proofs.Agree.{named-elem, unnamed, fewer-calls, fewer-bodies}
+use Rattle.demand3.proofs.Trace.{WalksAll, all-traced}
+use Rattle.demand3.proofs.Grew.{Known, Grew, Span, grewAll}
+use Rattle.demand3.proofs.Flat.{flat-all}
+use Rattle.demand3.proofs.Back.{back-all}
 use Rattle.demand3.proofs.Tight.{tight-all}
 
-flat-append : (a b : List Definition) → FlatAll a → FlatAll b → FlatAll (a ++ b)
-flat-append [] b f g = g
-flat-append (format n ps c ∷ a) b f g = (f .0, flat-append a b (f .1) g)
-flat-append (constant n x ∷ a) b f g = flat-append a b f g
-flat-append (byte-order x ∷ a) b f g = flat-append a b f g
-flat-append (macro n ps c ∷ a) b f g = flat-append a b f g
+distinct-apart : (ds : List Definition) → Distinct (names ds) → Apart ds
+unfolding names
+distinct-apart [] d = tt
+distinct-apart (format n ps c ∷ ds) d = ((λ w. unnamed n ds (d .0) w), distinct-apart ds (d .1))
+distinct-apart (constant n x ∷ ds) d = ((λ w. unnamed n ds (d .0) w), distinct-apart ds (d .1))
+distinct-apart (byte-order x ∷ ds) d = distinct-apart ds d
+distinct-apart (macro n ps c ∷ ds) d = distinct-apart ds d
 
-module _ (ds es : List Definition) (t : State) (e : walkAll full ds (start ds) ≡ ok es t) where
+module _ (ds es : List Definition) (t : State) (w : WalksAll ds (start ds) es t) where
   grew : Grew (start ds) t
-  grew = walkedAll ds (start ds) es t e .0
+  grew = grewAll ds (start ds) es t w
 
   known : Known (start ds)
   unfolding Known start names elem
   known n p = refl
 
-  apart : (n : Name) → elem n (names ds) ≡ true → elem n (names (t .made)) ≡ false
+  fresh : (n : Name) → Named n ds → Named n (t .made) → ⊥
   unfolding start names elem
-  apart n p = grew .fixed n p refl
+  fresh n p = unnamed n (t .made) (grew .fixed n (named-elem n ds p) refl)
 
-  clear : (n : Name) → elem n (names ds) ≡ true → bodyOf (t .made) n ≡ absent
-  clear n p = bodyOf-none (t .made) n (apart n p)
+  span : Span (t .made) (start ds) t
+  span = record { known = known; holds = λ n c p. p }
 
-  holds : Holds (t .made) (names ds) clear t
-  unfolding Holds
-  holds n c p = p
+  none-left : CallsKnown ds → EachBody (NoneLeft (t .made)) ds
+  none-left p = fewer-bodies (λ c. EachCall c (λ n. Named n ds)) (NoneLeft (t .made)) (λ c q. fewer-calls (λ n. Named n ds) (λ n. Named n (t .made) → ⊥) fresh c q) ds p
 
-  restored : callsKnown ds ≡ true → backAll (t .made) (length (t .made)) es ≡ ds
-  unfolding callsKnown start
-  restored p = back-all (t .made) (names ds) clear ds (start ds) es t e known holds p (length (t .made)) (omega arith)
+  restored : CallsKnown ds → PutsAllBack (t .made) es ds
+  unfolding start
+  restored p = record { ends = λ k q. back-all (t .made) (λ n. Named n ds) fresh ds p (start ds) es t w span k (omega (arith, q)); none-left = none-left p }
 
-  whole : callsKnown ds ≡ true → putBack es (t .made) ≡ just ds
-  unfolding putBack callsKnown
-  whole p = rw (restored p, ease-all (λ n. elem n (names ds)) (λ n. not (elem n (names (t .made)))) (λ n q. rw (apart n q)) ds p)
+  tight : CallsKnown ds → ChainsPlain ds → AllTight (t .made) (t .made)
+  unfolding start
+  tight p q = tight-all (t .made) (λ n. Named n ds) fresh ds p q (start ds) es t w span (omega arith) tt
 
-  tight : callsKnown ds ≡ true → chainsPlain ds ≡ true → Tight (t .made) (length (t .made)) (t .made)
-  unfolding callsKnown chainsPlain start Tight
-  tight p q = tight-all (t .made) (names ds) clear apart (length (t .made)) ds (start ds) es t e known holds p q (omega arith) tt
-
-  pub met : Demand3 ds (record { kept = es; lifted = t .made })
+  met : NoMacro ds → Demand3 ds es (t .made)
   unfolding start names
-  met = record {
-    flat = flat-append es (t .made) (walkedAll ds (start ds) es t e .1) (grew .flat tt);
-    distinct = grew .distinct known tt;
-    fresh = apart;
-    restored = whole;
+  met m = record {
+    flat = flat-all ds m (start ds) es t w tt;
+    apart = distinct-apart (t .made) (grew .distinct known tt);
+    fresh = fresh;
+    restored = restored;
     shortest = tight;
   }
 
-outcome-met : (ds : List Definition) (r : Result) (m : Res State (List Definition)) → walkAll full ds (start ds) ≡ m → outcome m ≡ done r → Demand3 ds r
-unfolding outcome
-outcome-met ds r (bad k s) w e = let z : _≡_ {A = ℕ} 0 1 = cc in absurd (omega arith)
-outcome-met ds r (ok es t) w e = let p : record { kept = es; lifted = t .made } ≡ r = cc in rw p at (met ds es t w)
+-- the expanded list that a result comes from, and that it meets demand 3 for it
+pub record Comes (book : List ℕ) (r : Result) : Type 0 where
+  pub list : List Definition
+  pub expands : expanded book ≡ done list
+  pub meets : Demand3 list (r .kept) (r .lifted)
 
-pub demand3 : (book : List ℕ) (ds : List Definition) (r : Result) → expanded book ≡ done ds → elaborated book ≡ done r → Demand3 ds r
-unfolding elaborated liftBook
-demand3 book ds r x e = outcome-met ds r (walkAll full ds (start ds)) refl (rw x at e)
+pub comes : (book : List ℕ) → Bytes book → Yields (Comes book) (elaborated book)
+comes book b = elaborated-yields (Comes book) book λ ds x. so (all-traced ds (start ds)) λ es t w. record { list = ds; expands = x; meets = met ds es t w (expanded-is-book book b ds x .1) }

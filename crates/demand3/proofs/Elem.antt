@@ -9,7 +9,7 @@ use Rattle.definition.specs.Res.{absent, just}
 use Rattle.definition.specs.Tree.{Name, Combinator, Param, Definition, format, constant, byte-order, macro}
 use Rattle.definition.specs.Names.{eqName, elem}
 use Rattle.definition.specs.Lift.{names}
-use Rattle.definition.specs.PutBack.{bodyOf}
+use Rattle.demand3.specs.PutBack.{wholeOf}
 use Rattle.laws.specs.Lists.{Distinct}
 use Rattle.laws.proofs.Tests.{yes-no, not-both}
 use Rattle.laws.proofs.Members.{eqName-true, eqName-refl, eqName-swap}
@@ -60,35 +60,35 @@ names-snoc (byte-order x ∷ ds) n ps c = rw (names-snoc ds n ps c)
 names-snoc (macro m qs d ∷ ds) n ps c = rw (names-snoc ds n ps c)
 
 -- a body that was found is found after more definitions were appended
-pub bodyOf-lasts : (ds more : List Definition) (n : Name) (c : Combinator) → bodyOf ds n ≡ just c → bodyOf (ds ++ more) n ≡ just c
-unfolding bodyOf
-bodyOf-lasts [] more n c e = let z : _≡_ {A = ℕ} 0 1 = cc in absurd (omega arith)
-bodyOf-lasts (format m qs d ∷ ds) more n c e = ⊎-elim
+pub wholeOf-lasts : (ds more : List Definition) (n : Name) (c : Combinator) → wholeOf ds n ≡ just c → wholeOf (ds ++ more) n ≡ just c
+unfolding wholeOf
+wholeOf-lasts [] more n c e = let z : _≡_ {A = ℕ} 0 1 = cc in absurd (omega arith)
+wholeOf-lasts (format m qs d ∷ ds) more n c e = ⊎-elim
     (λ (q : eqName m n ≡ true). rw q (rw q at e))
-    (λ (q : eqName m n ≡ false). rw q (bodyOf-lasts ds more n c (rw q at e)))
+    (λ (q : eqName m n ≡ false). rw q (wholeOf-lasts ds more n c (rw q at e)))
     (yes-no (eqName m n))
-bodyOf-lasts (constant m x ∷ ds) more n c e = bodyOf-lasts ds more n c e
-bodyOf-lasts (byte-order x ∷ ds) more n c e = bodyOf-lasts ds more n c e
-bodyOf-lasts (macro m qs d ∷ ds) more n c e = bodyOf-lasts ds more n c e
+wholeOf-lasts (constant m x ∷ ds) more n c e = wholeOf-lasts ds more n c e
+wholeOf-lasts (byte-order x ∷ ds) more n c e = wholeOf-lasts ds more n c e
+wholeOf-lasts (macro m qs d ∷ ds) more n c e = wholeOf-lasts ds more n c e
 
 -- the one that was appended is found
-pub bodyOf-new : (ds : List Definition) (n : Name) (ps : List Param) (c : Combinator) → elem n (names ds) ≡ false → bodyOf (ds ++ (format n ps c ∷ [])) n ≡ just c
-unfolding bodyOf names elem
-bodyOf-new [] n ps c e = rw (eqName-refl n)
-bodyOf-new (format m qs d ∷ ds) n ps c e =
+pub wholeOf-new : (ds : List Definition) (n : Name) (ps : List Param) (c : Combinator) → elem n (names ds) ≡ false → wholeOf (ds ++ (format n ps c ∷ [])) n ≡ just c
+unfolding wholeOf names elem
+wholeOf-new [] n ps c e = rw (eqName-refl n)
+wholeOf-new (format m qs d ∷ ds) n ps c e =
     let w = elem-tail n m (names ds) e in
-    rw (eqName-swap n m (w .0)) (bodyOf-new ds n ps c (w .1))
-bodyOf-new (constant m x ∷ ds) n ps c e = bodyOf-new ds n ps c (elem-tail n m (names ds) e .1)
-bodyOf-new (byte-order x ∷ ds) n ps c e = bodyOf-new ds n ps c e
-bodyOf-new (macro m qs d ∷ ds) n ps c e = bodyOf-new ds n ps c e
+    rw (eqName-swap n m (w .0)) (wholeOf-new ds n ps c (w .1))
+wholeOf-new (constant m x ∷ ds) n ps c e = wholeOf-new ds n ps c (elem-tail n m (names ds) e .1)
+wholeOf-new (byte-order x ∷ ds) n ps c e = wholeOf-new ds n ps c e
+wholeOf-new (macro m qs d ∷ ds) n ps c e = wholeOf-new ds n ps c e
 
 -- a name that no definition has stands for nothing
-pub bodyOf-none : (ds : List Definition) (n : Name) → elem n (names ds) ≡ false → bodyOf ds n ≡ absent
-unfolding bodyOf names elem
-bodyOf-none [] n e = refl
-bodyOf-none (format m qs d ∷ ds) n e =
+pub wholeOf-none : (ds : List Definition) (n : Name) → elem n (names ds) ≡ false → wholeOf ds n ≡ absent
+unfolding wholeOf names elem
+wholeOf-none [] n e = refl
+wholeOf-none (format m qs d ∷ ds) n e =
     let w = elem-tail n m (names ds) e in
-    rw (eqName-swap n m (w .0)) (bodyOf-none ds n (w .1))
-bodyOf-none (constant m x ∷ ds) n e = bodyOf-none ds n (elem-tail n m (names ds) e .1)
-bodyOf-none (byte-order x ∷ ds) n e = bodyOf-none ds n e
-bodyOf-none (macro m qs d ∷ ds) n e = bodyOf-none ds n e
+    rw (eqName-swap n m (w .0)) (wholeOf-none ds n (w .1))
+wholeOf-none (constant m x ∷ ds) n e = wholeOf-none ds n (elem-tail n m (names ds) e .1)
+wholeOf-none (byte-order x ∷ ds) n e = wholeOf-none ds n e
+wholeOf-none (macro m qs d ∷ ds) n e = wholeOf-none ds n e

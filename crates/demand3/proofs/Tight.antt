@@ -1,156 +1,90 @@
--- Each lifted parameter list is the shortest for its put-back body.
+-- Each lifted parameter list is the shortest for its put-back body, where chains stand only on Bytes and Tail.
 use mathlib.Core.Path.{_≡_}
 use mathlib.Core.List.{List, [], _∷_, _++_}
-use mathlib.Core.Bool.{Bool, true, false, not, _&&_}
-use Prim.Native.Nat.{ℕ, suc, _+_, _≤_}
+use Prim.Native.Nat.{ℕ, _+_, _≤_}
 use native.Mathlib.Omega.{arith}
-use lib.ListN.{length, length-append}
-use Rattle.definition.specs.Res.{absent, ok}
-use Rattle.definition.specs.Tree.{Name, CaseKind, Combinator, plain, chained, Inner, leaf, struct, choice, shell, bytes, invocation, macro-invocation, Fields, no-field, field, const, Cases, no-case, case, Param, Definition, format, constant, byte-order, macro}
-use Rattle.definition.specs.Names.{elem, child, segment, caseSegment, shellSegment}
-use Rattle.definition.specs.Collect.{anonymous, bytesOrTail}
-use Rattle.definition.specs.Lift.{full, State, Walk, childBy, bind, walk, walkI, walkF, walkC, walkAll, names}
-use Rattle.definition.specs.Bodies.{everyInvocation, everyInvocationI, everyInvocationF, everyInvocationC, chainsOk, chainsOkI, chainsOkF, chainsOkC, everyBody}
-use Rattle.definition.specs.PutBack.{bodyOf, replace, standsFor, back}
-use Rattle.laws.specs.Lists.{paramNames}
-use Rattle.laws.proofs.Tests.{both-true}
-use Rattle.laws.proofs.Steps.{did}
-use Rattle.laws.proofs.Lifted.{Lifted, lifted}
-use Rattle.demand3.specs.Shortest.{Shortest}
-use Rattle.demand3.specs.Demand3.{NoneLeft, Tight}
-use Rattle.demand3.proofs.Elem.{bodyOf-lasts}
-use Rattle.demand3.proofs.Walked.{Known, Grew, known-first, walked, walkedI, walkedF, walkedC, walkedAll, kid}
-use Rattle.demand3.proofs.Back.{Holds, earlier, calls, walk-back}
-use Rattle.demand3.proofs.Ease.{ease}
-use Rattle.demand3.proofs.Covered.{shortest}
+use lib.ListN.{length}
+use Rattle.definition.specs.Tree.{Name, Combinator, plain, chained, Inner, leaf, struct, choice, shell, bytes, invocation, macro-invocation, Fields, no-field, field, const, Cases, no-case, case, Param, Definition, format, constant, byte-order, macro}
+use Rattle.definition.specs.Lift.{State}
+use Rattle.demand3.specs.Words.{Named, EachBody, EachCall, EachCallI, EachCallF, EachCallC, PlainChains, PlainChainsI, PlainChainsF, PlainChainsC}
+use Rattle.demand3.specs.PutBack.{rounds}
+use Rattle.demand3.specs.Demand3.{Tight, AllTight}
+use Rattle.demand3.proofs.Uses.{shortest}
+use Rattle.demand3.proofs.Agree.{fewer-calls}
+use Rattle.demand3.proofs.Trace.{Kid, walked, moved, Walks, WalksI, WalksF, WalksC, WalksAll}
+use Rattle.demand3.proofs.Grew.{Span, front, rest, within, counted, grew, grewK, grewI, grewF, grewC, grewAll}
+use Rattle.demand3.proofs.Back.{back}
 
-module _ (M : List Definition) (K : ℕ) where
-  tight-snoc : (ds : List Definition) (n : Name) (ps : List Param) (c : Combinator) → Tight M K ds → NoneLeft M (back M K c) → Shortest (paramNames ps) (back M K c) → Tight M K (ds ++ (format n ps c ∷ []))
-  unfolding Tight
-  tight-snoc [] n ps c h e f = (e, (f, tt))
-  tight-snoc (format m qs d ∷ ds) n ps c h e f = (h .0, (h .1 .0, tight-snoc ds n ps c (h .1 .1) e f))
-  tight-snoc (constant m x ∷ ds) n ps c h e f = tight-snoc ds n ps c h e f
-  tight-snoc (byte-order x ∷ ds) n ps c h e f = tight-snoc ds n ps c h e f
-  tight-snoc (macro m qs d ∷ ds) n ps c h e f = tight-snoc ds n ps c h e f
+tight-snoc : (M ds : List Definition) (n : Name) (ps : List Param) (c : Combinator) → AllTight M ds → Tight M ps c → AllTight M (ds ++ (format n ps c ∷ []))
+tight-snoc M [] n ps c h f = (f, tt)
+tight-snoc M (format m qs d ∷ ds) n ps c h f = (h .0, tight-snoc M ds n ps c (h .1) f)
+tight-snoc M (constant m x ∷ ds) n ps c h f = absurd h
+tight-snoc M (byte-order x ∷ ds) n ps c h f = absurd h
+tight-snoc M (macro m qs d ∷ ds) n ps c h f = absurd h
 
-module _ (M : List Definition) (known : List Name) (clear : (n : Name) → elem n known ≡ true → bodyOf M n ≡ absent) (away : (n : Name) → elem n known ≡ true → elem n (names M) ≡ false) (K : ℕ) where
-  abbrev H : State → Type 0
-  H = Holds M known clear
+module _ (M : List Definition) (P : Name → Type 0) (away : (n : Name) → P n → Named n M → ⊥) where
+  -- what a part of the walk makes is tight, if what was made before it is
+  abbrev Adds : State → State → Type 0
+  Adds s t = Span M s t → length (t .made) ≤ length M → AllTight M (s .made) → AllTight M (t .made)
 
-  abbrev asks : Name → Bool
-  asks = calls M known clear
-
-  module _ (c : Combinator) (inside : Walk) (grew : (n : Name) (b : List Param) (s : State) (d : Combinator) (t : State) → inside n b s ≡ ok d t → Grew s t)
-      (backs : (n : Name) (b : List Param) (s : State) (d : Combinator) (t : State) → inside n b s ≡ ok d t → Known s → H t → everyInvocation c asks ≡ true → (k : ℕ) → length (t .made) ≤ length (s .made) + k → replace d (standsFor M k) ≡ c)
-      (ih : (n : Name) (b : List Param) (s : State) (d : Combinator) (t : State) → inside n b s ≡ ok d t → Known s → H t → everyInvocation c asks ≡ true → chainsOk c ≡ true → length (t .made) ≤ K → Tight M K (s .made) → Tight M K (t .made)) where
-    lift-tight : (base : Name) (binders : List Param) (s : State) (d : Combinator) (t : State) (l : Lifted full c inside base binders s d t)
-        → Known s → H t → everyInvocation c asks ≡ true → chainsOk c ≡ true → length (t .made) ≤ K → Tight M K (s .made) → Tight M K (t .made)
-    unfolding Holds back
-    lift-tight base binders s d t l kn h p r q f =
-        let g = grew (l .name) binders (l .first) (l .body) (l .last) (l .went) in
-        let kn₁ = known-first c inside base binders s d t l g kn in
-        let h₁ : H (l .last) = λ n x w. h n x (rw (l .last-made) (bodyOf-lasts (l .last .made) _ n x w)) in
-        let a : length (t .made) ≡ length (l .last .made) + 1 = rw (l .last-made) (simp length-append) in
-        let z = backs (l .name) binders (l .first) (l .body) (l .last) (l .went) kn₁ h₁ p K (omega (arith, a)) in
-        rw (l .last-made)
-        (tight-snoc M K (l .last .made) (l .name) (l .params) (l .body)
-        (ih (l .name) binders (l .first) (l .body) (l .last) (l .went) kn₁ h₁ p r (omega (arith, a)) (rw (l .first-made) f))
-        (rw z (ease asks (λ n. not (elem n (names M))) (λ n w. rw (away n w)) c p))
-        (rw (l .needed, z) (shortest c r)))
-
-    kid-tight : (a : Bool) (base : Name) (binders : List Param) (s : State) (d : Combinator) (t : State) → childBy full a c inside base binders s ≡ ok d t
-        → Known s → H t → everyInvocation c asks ≡ true → chainsOk c ≡ true → length (t .made) ≤ K → Tight M K (s .made) → Tight M K (t .made)
-    unfolding childBy
-    kid-tight true base binders s d t e kn h p r q f = lift-tight base binders s d t (lifted full c inside base binders s d t e) kn h p r q f
-    kid-tight false base binders s d t e kn h p r q f = ih base binders s d t e kn h p r q f
+  module _ (c : Combinator) (p : EachCall c P) (r : PlainChains c) (W : State → Combinator → State → Type 0)
+      (backs : (s : State) (d : Combinator) (t : State) → W s d t → Span M s t → (k : ℕ) → length (t .made) ≤ length (s .made) + k → rounds k d M ≡ c)
+      (ih : (s : State) (d : Combinator) (t : State) → W s d t → Adds s t) where
+    kid-tight : (s : State) (d : Combinator) (t : State) → Kid c W s d t → Adds s t
+    kid-tight s d t (walked a w) h q f = ih s d t w h q f
+    kid-tight s d t (moved inside n b l w) h q f =
+        let f₁ = ih (l .first) (l .body) (l .last) w (within M l h) (omega (arith, counted l)) (rw (l .first-made) f) in
+        rw (l .last-made) (tight-snoc M (l .last .made) (l .name) (l .params) (l .body) f₁ (record {
+          body = c;
+          back = record {
+            ends = λ k z. backs (l .first) (l .body) (l .last) w (within M l h) k (omega (arith, counted l, z));
+            none-left = fewer-calls P (λ n. Named n M → ⊥) (λ n z. away n z) c p;
+          };
+          shortest = rw (l .needed) (shortest c r);
+        }))
 
   mutual
-    unfolding walk everyInvocation chainsOk
+    tight : (c : Combinator) → EachCall c P → PlainChains c → (s : State) (d : Combinator) (t : State) → Walks c s d t → Adds s t
+    tight (plain i) p r s d t w h q f = tightI i p r s (w .part) t (w .went) h q f
+    tight (chained i c) p r s d t w h q f =
+        let g₁ = grewK c s (w .one) (w .mid) (w .first) in
+        let g₂ = grewI i (w .mid) (w .two) t (w .second) in
+        tightI i (p .0) (r .1 .0) (w .mid) (w .two) t (w .second) (rest M g₁ h) q
+        (kid-tight c (p .1) (r .1 .1) (λ s d t. Walks c s d t) (λ s d t v h k q. back M P away c (p .1) s d t v h k q) (λ s d t v h q f. tight c (p .1) (r .1 .1) s d t v h q f) s (w .one) (w .mid) (w .first) (front M g₂ h) (omega (arith, g₂ .longer)) f)
 
-    pub walk-tight : (c : Combinator) (n : Name) (b : List Param) (s : State) (d : Combinator) (t : State) → walk full c n b s ≡ ok d t → Known s → H t → everyInvocation c asks ≡ true → chainsOk c ≡ true → length (t .made) ≤ K → Tight M K (s .made) → Tight M K (t .made)
-    walk-tight (plain i) n b s d t e kn h p r q f = did (walkI full i n b s) _ d t e λ j u h₁ g.
-        let y : u ≡ t = cc in
-        rw y at (walkI-tight i n b s j u h₁ kn (rw (← y) at h) p r (rw (← y) at q) f)
-    walk-tight (chained i c) n b s d t e kn h p r q f = did (childBy full (anonymous c) c (λ n b s. walk full c n b s) n b s) _ d t e λ x u h₁ g.
-        did (walkI full i n b u) _ d t g λ j v h₂ g₂.
-        let z : v ≡ t = cc in
-        let pp = both-true (everyInvocationI i asks) (everyInvocation c asks) p in
-        let r₁ = both-true (bytesOrTail i) (chainsOkI i && chainsOk c) r in
-        let rr = both-true (chainsOkI i) (chainsOk c) (r₁ .1) in
-        let g₁ = kid c (λ n b s. walk full c n b s) (λ n b s d t e. walked c n b s d t e) n b s x u h₁ .grew in
-        let g₃ = walkedI i n b u j v h₂ .grew in
-        let hv : H v = rw (← z) at h in
-        let qv : length (v .made) ≤ K = rw (← z) at q in
-        let a = kid-tight c (λ n b s. walk full c n b s) (λ n b s d t e. walked c n b s d t e .grew) (λ n b s d t e kn h p k q. walk-back M known clear c n b s d t e kn h p k q) (λ n b s d t e kn h p r z a. walk-tight c n b s d t e kn h p r z a) (anonymous c) n b s x u h₁ kn (earlier M known clear u v g₃ hv) (pp .1) (rr .1) (omega (arith, g₃ .longer)) f in
-        rw z at (walkI-tight i n b u j v h₂ (g₁ .known kn) hv (pp .0) (rr .0) qv a)
+    tightI : (i : Inner) → EachCallI i P → PlainChainsI i → (s : State) (j : Inner) (t : State) → WalksI i s j t → Adds s t
+    tightI (leaf k x) p r s j t w h q f = rw (w .state) f
+    tightI (struct fs) p r s j t w h q f = tightF fs p r s (w .part) t (w .went) h q f
+    tightI (choice x k fs) p r s j t w h q f = tightC fs p r s (w .part) t (w .went) h q f
+    tightI (shell x c) p r s j t w h q f = kid-tight c p r (λ s d t. Walks c s d t) (λ s d t v h k q. back M P away c p s d t v h k q) (λ s d t v h q f. tight c p r s d t v h q f) s (w .part) t (w .went) h q f
+    tightI (bytes l) p r s j t w h q f = rw (w .state) f
+    tightI (invocation n a) p r s j t w h q f = rw (w .state) f
+    tightI (macro-invocation n a) p r s j t w h q f = rw (w .state) f
 
-    walkI-tight : (i : Inner) (n : Name) (b : List Param) (s : State) (j : Inner) (t : State) → walkI full i n b s ≡ ok j t → Known s → H t → everyInvocationI i asks ≡ true → chainsOkI i ≡ true → length (t .made) ≤ K → Tight M K (s .made) → Tight M K (t .made)
-    walkI-tight (leaf a x) n b s j t e kn h p r q f = let y : s ≡ t = cc in rw y at f
-    walkI-tight (struct fs) n b s j t e kn h p r q f = did (walkF full fs n b s) _ j t e λ x u h₁ g.
-        let z : u ≡ t = cc in
-        rw z at (walkF-tight fs n b s x u h₁ kn (rw (← z) at h) p r (rw (← z) at q) f)
-    walkI-tight (choice m a cs) n b s j t e kn h p r q f = did (walkC full cs a 0 n b s) _ j t e λ x u h₁ g.
-        let z : u ≡ t = cc in
-        rw z at (walkC-tight cs a 0 n b s x u h₁ kn (rw (← z) at h) p r (rw (← z) at q) f)
-    walkI-tight (shell m c) n b s j t e kn h p r q f = did (childBy full (anonymous c) c (λ n b s. walk full c n b s) (child n (shellSegment m)) b s) _ j t e λ x u h₁ g.
-        let z : u ≡ t = cc in
-        rw z at (kid-tight c (λ n b s. walk full c n b s) (λ n b s d t e. walked c n b s d t e .grew) (λ n b s d t e kn h p k q. walk-back M known clear c n b s d t e kn h p k q) (λ n b s d t e kn h p r z a. walk-tight c n b s d t e kn h p r z a) (anonymous c) (child n (shellSegment m)) b s x u h₁ kn (rw (← z) at h) p r (rw (← z) at q) f)
-    walkI-tight (bytes l) n b s j t e kn h p r q f = let y : s ≡ t = cc in rw y at f
-    walkI-tight (invocation m a) n b s j t e kn h p r q f = let y : s ≡ t = cc in rw y at f
-    walkI-tight (macro-invocation m a) n b s j t e kn h p r q f = let y : s ≡ t = cc in rw y at f
+    tightF : (fs : Fields) → EachCallF fs P → PlainChainsF fs → (s : State) (g : Fields) (t : State) → WalksF fs s g t → Adds s t
+    tightF no-field p r s g t w h q f = rw (w .state) f
+    tightF (field k l c fs) p r s g t w h q f =
+        let g₁ = grewK c s (w .one) (w .mid) (w .first) in
+        let g₂ = grewF fs (w .mid) (w .two) t (w .second) in
+        tightF fs (p .1) (r .1) (w .mid) (w .two) t (w .second) (rest M g₁ h) q
+        (kid-tight c (p .0) (r .0) (λ s d t. Walks c s d t) (λ s d t v h k q. back M P away c (p .0) s d t v h k q) (λ s d t v h q f. tight c (p .0) (r .0) s d t v h q f) s (w .one) (w .mid) (w .first) (front M g₂ h) (omega (arith, g₂ .longer)) f)
+    tightF (const l x fs) p r s g t w h q f = tightF fs p r s (w .part) t (w .went) h q f
 
-    walkF-tight : (fs : Fields) (n : Name) (b : List Param) (s : State) (g : Fields) (t : State) → walkF full fs n b s ≡ ok g t → Known s → H t → everyInvocationF fs asks ≡ true → chainsOkF fs ≡ true → length (t .made) ≤ K → Tight M K (s .made) → Tight M K (t .made)
-    walkF-tight no-field n b s g t e kn h p r q f = let y : s ≡ t = cc in rw y at f
-    walkF-tight (field m l c fs) n b s g t e kn h p r q f = did (childBy full (anonymous c) c (λ n b s. walk full c n b s) (child n (segment l)) b s) _ g t e λ x u h₁ e₂.
-        did (walkF full fs n (bind m l x b) u) _ g t e₂ λ j v h₂ e₃.
-        let z : v ≡ t = cc in
-        let pp = both-true (everyInvocation c asks) (everyInvocationF fs asks) p in
-        let rr = both-true (chainsOk c) (chainsOkF fs) r in
-        let g₁ = kid c (λ n b s. walk full c n b s) (λ n b s d t e. walked c n b s d t e) (child n (segment l)) b s x u h₁ .grew in
-        let g₃ = walkedF fs n (bind m l x b) u j v h₂ .0 in
-        let hv : H v = rw (← z) at h in
-        let qv : length (v .made) ≤ K = rw (← z) at q in
-        let a = kid-tight c (λ n b s. walk full c n b s) (λ n b s d t e. walked c n b s d t e .grew) (λ n b s d t e kn h p k q. walk-back M known clear c n b s d t e kn h p k q) (λ n b s d t e kn h p r z a. walk-tight c n b s d t e kn h p r z a) (anonymous c) (child n (segment l)) b s x u h₁ kn (earlier M known clear u v g₃ hv) (pp .0) (rr .0) (omega (arith, g₃ .longer)) f in
-        rw z at (walkF-tight fs n (bind m l x b) u j v h₂ (g₁ .known kn) hv (pp .1) (rr .1) qv a)
-    walkF-tight (const l x fs) n b s g t e kn h p r q f = did (walkF full fs n b s) _ g t e λ j v h₂ e₃.
-        let z : v ≡ t = cc in
-        rw z at (walkF-tight fs n b s j v h₂ kn (rw (← z) at h) p r (rw (← z) at q) f)
-
-    walkC-tight : (cs : Cases) (m : CaseKind) (i : ℕ) (n : Name) (b : List Param) (s : State) (g : Cases) (t : State) → walkC full cs m i n b s ≡ ok g t → Known s → H t → everyInvocationC cs asks ≡ true → chainsOkC cs ≡ true → length (t .made) ≤ K → Tight M K (s .made) → Tight M K (t .made)
-    walkC-tight no-case m i n b s g t e kn h p r q f = let y : s ≡ t = cc in rw y at f
-    walkC-tight (case l c cs) m i n b s g t e kn h p r q f = did (childBy full (anonymous c) c (λ n b s. walk full c n b s) (child n (caseSegment m l i)) b s) _ g t e λ x u h₁ e₂.
-        did (walkC full cs m (suc i) n b u) _ g t e₂ λ j v h₂ e₃.
-        let z : v ≡ t = cc in
-        let pp = both-true (everyInvocation c asks) (everyInvocationC cs asks) p in
-        let rr = both-true (chainsOk c) (chainsOkC cs) r in
-        let g₁ = kid c (λ n b s. walk full c n b s) (λ n b s d t e. walked c n b s d t e) (child n (caseSegment m l i)) b s x u h₁ .grew in
-        let g₃ = walkedC cs m (suc i) n b u j v h₂ .0 in
-        let hv : H v = rw (← z) at h in
-        let qv : length (v .made) ≤ K = rw (← z) at q in
-        let a = kid-tight c (λ n b s. walk full c n b s) (λ n b s d t e. walked c n b s d t e .grew) (λ n b s d t e kn h p k q. walk-back M known clear c n b s d t e kn h p k q) (λ n b s d t e kn h p r z a. walk-tight c n b s d t e kn h p r z a) (anonymous c) (child n (caseSegment m l i)) b s x u h₁ kn (earlier M known clear u v g₃ hv) (pp .0) (rr .0) (omega (arith, g₃ .longer)) f in
-        rw z at (walkC-tight cs m (suc i) n b u j v h₂ (g₁ .known kn) hv (pp .1) (rr .1) qv a)
+    tightC : (fs : Cases) → EachCallC fs P → PlainChainsC fs → (s : State) (g : Cases) (t : State) → WalksC fs s g t → Adds s t
+    tightC no-case p r s g t w h q f = rw (w .state) f
+    tightC (case l c fs) p r s g t w h q f =
+        let g₁ = grewK c s (w .one) (w .mid) (w .first) in
+        let g₂ = grewC fs (w .mid) (w .two) t (w .second) in
+        tightC fs (p .1) (r .1) (w .mid) (w .two) t (w .second) (rest M g₁ h) q
+        (kid-tight c (p .0) (r .0) (λ s d t. Walks c s d t) (λ s d t v h k q. back M P away c (p .0) s d t v h k q) (λ s d t v h q f. tight c (p .0) (r .0) s d t v h q f) s (w .one) (w .mid) (w .first) (front M g₂ h) (omega (arith, g₂ .longer)) f)
 
   -- the whole list
-  pub tight-all : (ds : List Definition) (s : State) (es : List Definition) (t : State) → walkAll full ds s ≡ ok es t → Known s → H t → everyBody (λ c. everyInvocation c asks) ds ≡ true → everyBody chainsOk ds ≡ true → length (t .made) ≤ K → Tight M K (s .made) → Tight M K (t .made)
-  unfolding walkAll everyBody
-  tight-all [] s es t e kn h p r q f = let y : s ≡ t = cc in rw y at f
-  tight-all (format n ps c ∷ ds) s es t e kn h p r q f = did (walk full c n ps s) _ es t e λ x u h₁ e₂.
-      did (walkAll full ds u) _ es t e₂ λ j v h₂ e₃.
-      let z : v ≡ t = cc in
-      let pp = both-true (everyInvocation c asks) (everyBody (λ c. everyInvocation c asks) ds) p in
-      let rr = both-true (chainsOk c) (everyBody chainsOk ds) r in
-      let g₁ = walked c n ps s x u h₁ .grew in
-      let g₃ = walkedAll ds u j v h₂ .0 in
-      let hv : H v = rw (← z) at h in
-      let qv : length (v .made) ≤ K = rw (← z) at q in
-      let a = walk-tight c n ps s x u h₁ kn (earlier M known clear u v g₃ hv) (pp .0) (rr .0) (omega (arith, g₃ .longer)) f in
-      rw z at (tight-all ds u j v h₂ (g₁ .known kn) hv (pp .1) (rr .1) qv a)
-  tight-all (constant n x ∷ ds) s es t e kn h p r q f = did (walkAll full ds s) _ es t e λ j v h₂ e₃.
-      let z : v ≡ t = cc in
-      rw z at (tight-all ds s j v h₂ kn (rw (← z) at h) p r (rw (← z) at q) f)
-  tight-all (byte-order x ∷ ds) s es t e kn h p r q f = did (walkAll full ds s) _ es t e λ j v h₂ e₃.
-      let z : v ≡ t = cc in
-      rw z at (tight-all ds s j v h₂ kn (rw (← z) at h) p r (rw (← z) at q) f)
-  tight-all (macro n ps c ∷ ds) s es t e kn h p r q f = did (walkAll full ds s) _ es t e λ j v h₂ e₃.
-      let z : v ≡ t = cc in
-      rw z at (tight-all ds s j v h₂ kn (rw (← z) at h) p r (rw (← z) at q) f)
+  pub tight-all : (ds : List Definition) → EachBody (λ c. EachCall c P) ds → EachBody PlainChains ds → (s : State) (es : List Definition) (t : State) → WalksAll ds s es t → Adds s t
+  tight-all [] p r s es t w h q f = rw (w .state) f
+  tight-all (format n ps c ∷ ds) p r s es t w h q f =
+      let g₁ = grew c s (w .one) (w .mid) (w .first) in
+      let g₂ = grewAll ds (w .mid) (w .two) t (w .second) in
+      tight-all ds (p .1) (r .1) (w .mid) (w .two) t (w .second) (rest M g₁ h) q (tight c (p .0) (r .0) s (w .one) (w .mid) (w .first) (front M g₂ h) (omega (arith, g₂ .longer)) f)
+  tight-all (constant n x ∷ ds) p r s es t w h q f = tight-all ds p r s (w .part) t (w .went) h q f
+  tight-all (byte-order x ∷ ds) p r s es t w h q f = tight-all ds p r s (w .part) t (w .went) h q f
+  tight-all (macro n ps c ∷ ds) p r s es t w h q f = tight-all ds p r s (w .part) t (w .went) h q f

@@ -1,12 +1,12 @@
 -- A result is a book within the limits that reads as what was written, and elaborated again it stays the same.
 use mathlib.Core.Path.{_≡_, refl, _∙_}
-use mathlib.Core.List.{List, [], _∷_, _++_, append-nil}
+use mathlib.Core.List.{List, [], _∷_, append-nil}
 use mathlib.Core.Bool.{true, false}
 use Prim.Native.Nat.{ℕ, suc, _≤_}
 use lib.Dec.{leb}
 use lib.ListN.{length}
 use borrow.Author.Tests.{le-leb}
-use Rattle.definition.specs.Res.{Res, bad, ok}
+use Rattle.definition.specs.Res.{ok}
 use Rattle.definition.specs.Out.{done}
 use Rattle.definition.specs.Tree.{Name, Leaf, constraint-int, constraint-enum, bits, enum, tail, nothing, never, CaseKind, Combinator, plain, chained, Inner, leaf, struct, choice, shell, bytes, invocation, macro-invocation, Fields, no-field, field, const, Cases, no-case, case, Param, Definition, format, constant, byte-order, macro}
 use Rattle.definition.specs.Contents.{book}
@@ -18,65 +18,18 @@ use Rattle.definition.specs.Collect.{anonymousLeaf, anonymous, anonymousI}
 use Rattle.definition.specs.Lift.{full, State, Walk, childBy, bind, walk, walkI, walkF, walkC, walkAll, start, liftBook}
 use Rattle.definition.specs.Answer.{Result, all, out, outcome, source, expanded, elaborated, answered, attempt, answer}
 use Rattle.laws.specs.Book.{Bytes, IsBook}
-use Rattle.laws.specs.Lists.{NoMacro}
-use Rattle.laws.proofs.Steps.{yielded, did, no-done, did-out}
-use Rattle.laws.proofs.Results.{written-is-read, expanded-book, elaborated-book}
+use Rattle.laws.proofs.Steps.{yielded}
+use Rattle.laws.proofs.Results.{written-is-read, elaborated-book}
 use Rattle.demand3.specs.Flat.{CalmLeaf, Calm, CalmI, CalmF, CalmC, Flat, FlatI, FlatAll}
-use Rattle.demand3.proofs.Walked.{walkedAll}
+use Rattle.demand3.proofs.Demand3.{comes}
 
 -- a list that an elaboration can end with
 pub record Ends (ds : List Definition) : Type 0 where
   pub book : IsBook ds
   pub flat : FlatAll ds
-  pub formats : NoMacro ds
-
-pure-all : (ds : List Definition) (s : State) (es : List Definition) (t : State) → walkAll full ds s ≡ ok es t → NoMacro ds → NoMacro es
-unfolding walkAll
-pure-all [] s es t e h = let p : [] ≡ es = cc in rw (← p) tt
-pure-all (format n ps c ∷ ds) s es t e h = did (walk full c n ps s) _ es t e λ x u w e₂.
-    did (walkAll full ds u) _ es t e₂ λ y v w₂ e₃.
-    let p : format n ps x ∷ y ≡ es = cc in
-    rw (← p) (pure-all ds u y v w₂ h)
-pure-all (constant n x ∷ ds) s es t e h = did (walkAll full ds s) _ es t e λ y v w₂ e₃.
-    let p : constant n x ∷ y ≡ es = cc in
-    rw (← p) (pure-all ds s y v w₂ h)
-pure-all (byte-order x ∷ ds) s es t e h = did (walkAll full ds s) _ es t e λ y v w₂ e₃.
-    let p : byte-order x ∷ y ≡ es = cc in
-    rw (← p) (pure-all ds s y v w₂ h)
-pure-all (macro n ps c ∷ ds) s es t e h = absurd h
-
-formats-append : (a b : List Definition) → NoMacro a → NoMacro b → NoMacro (a ++ b)
-formats-append [] b f g = g
-formats-append (format n ps c ∷ a) b f g = formats-append a b f g
-formats-append (constant n x ∷ a) b f g = formats-append a b f g
-formats-append (byte-order x ∷ a) b f g = formats-append a b f g
-formats-append (macro n ps c ∷ a) b f g = absurd f
-
-flat-append : (a b : List Definition) → FlatAll a → FlatAll b → FlatAll (a ++ b)
-flat-append [] b f g = g
-flat-append (format n ps c ∷ a) b f g = (f .0, flat-append a b (f .1) g)
-flat-append (constant n x ∷ a) b f g = flat-append a b f g
-flat-append (byte-order x ∷ a) b f g = flat-append a b f g
-flat-append (macro n ps c ∷ a) b f g = flat-append a b f g
-
--- every result that comes of bytes
-record Calmed (r : Result) : Type 0 where
-  flat : FlatAll (all r)
-  formats : NoMacro (all r)
-
-calmed : (ds : List Definition) → NoMacro ds → (m : Res State (List Definition)) → walkAll full ds (start ds) ≡ m → (r : Result) → outcome m ≡ done r → Calmed r
-unfolding outcome start
-calmed ds f (bad k s) w r e = no-done e
-calmed ds f (ok es t) w r e =
-    let x : record { kept = es; lifted = t .made } ≡ r = cc in
-    let z = walkedAll ds (start ds) es t w in
-    rw (← x) (record { flat = flat-append es (t .made) (z .1) (z .0 .flat tt); formats = formats-append es (t .made) (pure-all ds (start ds) es t w f) (z .0 .formats tt) })
 
 pub ends : (s : List ℕ) → Bytes s → (r : Result) → elaborated s ≡ done r → Ends (all r)
-unfolding elaborated liftBook
-ends s h r e = did-out (expanded s) _ r e λ ds e₁ e₂.
-    let c = calmed ds (yielded (expanded-book s h) e₁ .1) (walkAll full ds (start ds)) refl r e₂ in
-    record { book = yielded (elaborated-book s h) e; flat = c .flat; formats = c .formats }
+ends s h r e = record { book = yielded (elaborated-book s h) e; flat = yielded (comes s h) e .meets .flat }
 
 -- nothing is expanded in it
 mutual
@@ -104,18 +57,18 @@ mutual
   sameC no-case = refl
   sameC (case l c f) = rw (same c, sameC f)
 
-no-macros : (ds : List Definition) (ms : List Macro) → NoMacro ds → macros ds ms ≡ ms
+no-macros : (ds : List Definition) (ms : List Macro) → FlatAll ds → macros ds ms ≡ ms
 unfolding macros
 no-macros [] ms h = refl
-no-macros (format n ps c ∷ ds) ms h = no-macros ds ms h
+no-macros (format n ps c ∷ ds) ms h = no-macros ds ms (h .1)
 no-macros (constant n x ∷ ds) ms h = no-macros ds ms h
 no-macros (byte-order x ∷ ds) ms h = no-macros ds ms h
 no-macros (macro n ps c ∷ ds) ms h = absurd h
 
-same-all : (ds : List Definition) → NoMacro ds → expandAll ds [] ≡ done ds
+same-all : (ds : List Definition) → FlatAll ds → expandAll ds [] ≡ done ds
 unfolding expandAll
 same-all [] h = refl
-same-all (format n ps c ∷ ds) h = rw (same c, same-all ds h)
+same-all (format n ps c ∷ ds) h = rw (same c, same-all ds (h .1))
 same-all (constant n x ∷ ds) h = rw (same-all ds h)
 same-all (byte-order x ∷ ds) h = rw (same-all ds h)
 same-all (macro n ps c ∷ ds) h = absurd h
@@ -129,7 +82,7 @@ unfolding expandList
 expand-again ds e =
     let a : leb (sizeBook ds) 16384 ≡ true = le-leb (sizeBook ds) 16384 (e .book .short) in
     let b : leb (levelsBook ds) 64 ≡ true = le-leb (levelsBook ds) 64 (e .book .deep) in
-    expand-says ds ∙ rw (no-macros ds [] (e .formats), same-all ds (e .formats), a, b)
+    expand-says ds ∙ rw (no-macros ds [] (e .flat), same-all ds (e .flat), a, b)
 
 -- nothing is lifted out of it
 leaf-named : (k : Leaf) → CalmLeaf k → anonymousLeaf k ≡ false
@@ -207,7 +160,7 @@ still-all [] f s = refl
 still-all (format n ps c ∷ ds) f s = rw (still c (f .0) n ps s, still-all ds (f .1) s)
 still-all (constant n x ∷ ds) f s = rw (still-all ds f s)
 still-all (byte-order x ∷ ds) f s = rw (still-all ds f s)
-still-all (macro n ps c ∷ ds) f s = rw (still-all ds f s)
+still-all (macro n ps c ∷ ds) f s = absurd f
 
 lift-says : (ds : List Definition) → liftBook ds ≡ walkAll full ds (start ds)
 unfolding liftBook

@@ -1,40 +1,49 @@
--- Demand 3, for the expanded list `ds` and the result `r` that comes of it.
-use mathlib.Core.Path.{_≡_}
-use mathlib.Core.List.{List, [], _∷_}
-use mathlib.Core.Bool.{true, false, not}
-use Prim.Native.Nat.{ℕ}
-use lib.ListN.{length}
-use Rattle.definition.specs.Res.{just}
-use Rattle.definition.specs.Tree.{Name, Combinator, Definition, format, constant, byte-order, macro}
-use Rattle.definition.specs.Names.{elem}
-use Rattle.definition.specs.Lift.{names}
-use Rattle.definition.specs.Answer.{Result, all}
-use Rattle.definition.specs.Bodies.{everyInvocation}
-use Rattle.definition.specs.Premise.{callsKnown, chainsPlain}
-use Rattle.definition.specs.PutBack.{back, putBack}
-use Rattle.laws.specs.Lists.{paramNames, Distinct}
+-- Demand 3, for the expanded list `ds`, and what the result keeps of it and what is lifted.
+use mathlib.Core.List.{List, [], _∷_, _++_}
+use Rattle.definition.specs.Tree.{Name, Param, Combinator, Definition, format, constant, byte-order, macro}
+use Rattle.laws.specs.Lists.{paramNames}
+use Rattle.demand3.specs.Words.{Named, EachBody, EachCall, PlainChains}
 use Rattle.demand3.specs.Flat.{FlatAll}
+use Rattle.demand3.specs.PutBack.{PutsBack, PutsAllBack}
 use Rattle.demand3.specs.Shortest.{Shortest}
 
--- no call of a lifted name is left in a body
-abbrev pub NoneLeft : List Definition → Combinator → Type 0
-NoneLeft lifted c = everyInvocation c (λ n. not (elem n (names lifted))) ≡ true
+-- "every name called in those bodies is a format or constant of the list"
+abbrev pub CallsKnown : List Definition → Type 0
+CallsKnown ds = EachBody (λ c. EachCall c (λ n. Named n ds)) ds
 
--- each of these formats has the shortest parameter list for its body, put back k deep with the bodies of `lifted`
-unfoldable pub Tight : List Definition → ℕ → List Definition → Type 0
-Tight lifted k [] = Unit {0}
-Tight lifted k (format n ps c ∷ ds) = NoneLeft lifted (back lifted k c) × (Shortest (paramNames ps) (back lifted k c) × Tight lifted k ds)
-Tight lifted k (constant n x ∷ ds) = Tight lifted k ds
-Tight lifted k (byte-order x ∷ ds) = Tight lifted k ds
-Tight lifted k (macro n ps c ∷ ds) = Tight lifted k ds
+-- "chained formats stand only on bytes and tail"
+abbrev pub ChainsPlain : List Definition → Type 0
+ChainsPlain ds = EachBody PlainChains ds
 
-pub record Demand3 (ds : List Definition) (r : Result) : Type 0 where
-  -- "no struct, choice, enum or bits stands below the root of a definition's body, macro arguments aside"
-  pub flat : FlatAll (all r)
-  -- no two lifted layouts come out under one name, and none under the name of a format or constant
-  pub distinct : Distinct (names (r .lifted))
-  pub fresh : (n : Name) → elem n (names ds) ≡ true → elem n (names (r .lifted)) ≡ false
+-- no two of these have one name
+abbrev pub Apart : List Definition → Type 0
+Apart [] = Unit {0}
+Apart (format n ps c ∷ ds) = (Named n ds → ⊥) × Apart ds
+Apart (constant n x ∷ ds) = (Named n ds → ⊥) × Apart ds
+Apart (byte-order x ∷ ds) = Apart ds
+Apart (macro n ps c ∷ ds) = Apart ds
+
+-- a lifted definition whose body is put back: its parameter list is the shortest
+pub record Tight (lifted : List Definition) (ps : List Param) (c : Combinator) : Type 0 where
+  pub body : Combinator
+  pub back : PutsBack lifted c body
+  pub shortest : Shortest (paramNames ps) body
+
+-- each of these is a format that is so
+abbrev pub AllTight : List Definition → List Definition → Type 0
+AllTight lifted [] = Unit {0}
+AllTight lifted (format n ps c ∷ ds) = Tight lifted ps c × AllTight lifted ds
+AllTight lifted (constant n x ∷ ds) = ⊥
+AllTight lifted (byte-order x ∷ ds) = ⊥
+AllTight lifted (macro n ps c ∷ ds) = ⊥
+
+pub record Demand3 (ds kept lifted : List Definition) : Type 0 where
+  -- "no struct, choice, enum or bits stands below the root of a definition's body, macro arguments aside", and no kind 4 definition is left in which one could hide
+  pub flat : FlatAll (kept ++ lifted)
+  -- "if two nested layouts come out under one name": they do not, and none comes out under the name of a format or constant
+  pub apart : Apart lifted
+  pub fresh : (n : Name) → Named n ds → Named n lifted → ⊥
   -- "If after macro expansion every name called in those bodies is a format or constant of the list, putting each lifted body back at its call, and dropping the lifted definitions, gives exactly that expanded list."
-  pub restored : callsKnown ds ≡ true → putBack (r .kept) (r .lifted) ≡ just ds
+  pub restored : CallsKnown ds → PutsAllBack lifted kept ds
   -- "If, besides, chained formats stand only on bytes and tail, each lifted parameter list is the shortest possible"
-  pub shortest : callsKnown ds ≡ true → chainsPlain ds ≡ true → Tight (r .lifted) (length (r .lifted)) (r .lifted)
+  pub shortest : CallsKnown ds → ChainsPlain ds → AllTight lifted lifted

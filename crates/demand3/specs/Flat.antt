@@ -50,9 +50,10 @@ abbrev pub Flat : Combinator → Type 0
 Flat (plain i) = FlatI i
 Flat (chained i c) = FlatI i × Calm c
 
+-- "a definition's body"; a kind 4 definition is none of an accepted result's
 abbrev pub FlatAll : List Definition → Type 0
 FlatAll [] = Unit {0}
 FlatAll (format n ps c ∷ ds) = Flat c × FlatAll ds
 FlatAll (constant n x ∷ ds) = FlatAll ds
 FlatAll (byte-order x ∷ ds) = FlatAll ds
-FlatAll (macro n ps c ∷ ds) = FlatAll ds
+FlatAll (macro n ps c ∷ ds) = ⊥

@@ -8,7 +8,6 @@ use writer::zero_range;
 ghost use mathlib.Core.Path.{_≡_};
 ghost use lib.ListN.{length};
 ghost use Rattle.definition.specs.Answer.{attempt, answer, output, zeroed};
-ghost use Rattle.formats.specs.Magic.{Magic};
 ghost use Rattle.elab.specs.Elaborates.{reported, Reports, Expanded, Lifts};
 
 // The result's length, its count of definitions and the count lifted, or a code.
@@ -34,7 +33,6 @@ pub struct Report {
 
 // Codes 7 to 11. Each table is as long as code 10 lets it become.
 fn lift_book(s: &[u8], out: &mut [u8]) -> Elaborated
-    requires { ⌜ Magic ⌝ }
     requires { ⌜ Expanded (now s) ⌝ }
     ensures { λ r. ⌜ Lifts (now (s .entry)) (now (out .entry)) (now (out .exit)) r ⌝ }
 {
@@ -72,7 +70,6 @@ fn lift_book(s: &[u8], out: &mut [u8]) -> Elaborated
 
 // The elaboration, with the work area left as it is then.
 fn attempt(book: &[u8], out: &mut [u8], work: &mut [u8]) -> Elaborated
-    requires { ⌜ Magic ⌝ }
     ensures { λ r. ⌜ Reports (attempt (now (book .entry)) (length (now (out .entry))) (length (now (work .entry)))) (now (out .entry)) (now (out .exit)) r ⌝ }
 {
     let opened = open_book(book, work);
@@ -85,7 +82,6 @@ fn attempt(book: &[u8], out: &mut [u8], work: &mut [u8]) -> Elaborated
 // "On 0 the result fills the output's first bytes and the rest is as before. On a refusal .. the output is as before. The work area, short or
 // not, is all zero afterwards in each case."
 pub fn elaborate(book: &[u8], out: &mut [u8], work: &mut [u8]) -> Elaborated
-    requires { ⌜ Magic ⌝ }
     ensures { λ r. ⌜ reported r ≡ answer (now (book .entry)) (length (now (out .entry))) (length (now (work .entry))) ⌝ }
     ensures { λ _. ⌜ now (out .exit) ≡ output (now (book .entry)) (now (out .entry)) (length (now (work .entry))) ⌝ }
     ensures { λ _. ⌜ now (work .exit) ≡ zeroed (now (work .entry)) ⌝ }
@@ -121,7 +117,6 @@ fn in_numbers(e: Elaborated) -> Report
 
 #[no_mangle]
 pub extern "C" fn samulsto_elaborate(book: &[u8], out: &mut [u8], work: &mut [u8]) -> Report
-    requires { ⌜ Magic ⌝ }
     ensures { λ r. ⌜ (r .code ≡ answer (now (book .entry)) (length (now (out .entry))) (length (now (work .entry))) .code) × (r .length ≡ answer (now (book .entry)) (length (now (out .entry))) (length (now (work .entry))) .size) × (r .definitions ≡ answer (now (book .entry)) (length (now (out .entry))) (length (now (work .entry))) .definitions) × (r .lifted ≡ answer (now (book .entry)) (length (now (out .entry))) (length (now (work .entry))) .lifts) ⌝ }
     ensures { λ _. ⌜ now (out .exit) ≡ output (now (book .entry)) (now (out .entry)) (length (now (work .entry))) ⌝ }
     ensures { λ _. ⌜ now (work .exit) ≡ zeroed (now (work .entry)) ⌝ }

@@ -1,2 +1,4 @@
+pub mod Rows
+pub mod Own
+pub mod Formats
 pub mod Expands
-pub mod Magic

@@ -1,8 +1,8 @@
 // One lift of the naming pass: its parameters and their binders, its row, its name.
 use collect::name_of_use;
+use fresh::take_name;
 use lookup::name_at;
 use lookup::same_name;
-use names::fresh::take_name;
 ghost use mathlib.Core.Path.{_≡_};
 ghost use Prim.Native.Nat.{_≤_, _<_, _+_, _*_, _/_, _%_, min};
 ghost use lib.ListN.{length, take, getD, set};

@@ -16,7 +16,6 @@ ghost use lib.Dec.{leb, eqb};
 ghost use lib.ListN.{length};
 ghost use Rattle.definition.specs.Listing.{hex, shownByte, shown, count};
 ghost use Rattle.writer.specs.Buf.{Wrote};
-ghost use Rattle.formats.specs.Magic.{Magic};
 ghost use Rattle.lines.specs.Lines.{isDash, wordOf, Line, AllLines, Lists, refusal, Tells};
 
 fn minus(n: usize, m: usize) -> usize
@@ -178,7 +177,6 @@ fn put_result(s: &[u8], definitions: u16, lifted: u16, out: &mut [u8]) -> usize
 
 // The listing of a book. A text of 65,536 bytes holds every listing.
 pub fn put_listing(book: &[u8], text: &mut [u8]) -> usize
-    requires { ⌜ Magic ⌝ }
     ensures { λ r. ⌜ Tells (now (book .entry)) (now (text .entry)) (now (text .exit)) r ⌝ }
 {
     let mut out = [0u8; 16384];

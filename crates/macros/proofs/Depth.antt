@@ -1,49 +1,25 @@
--- How deep a substitution and an expansion go: no deeper than what was there with an argument, or an instance, below it.
+-- How deep an instance and an expansion go, and the calls of a combinator.
 -- Assumes nothing.
+use mathlib.Core.Path.{_≡_}
 use mathlib.Core.List.{List, [], _∷_}
 use mathlib.Core.Bool.{Bool, true, false, _&&_}
-use Prim.Native.Nat.{ℕ, suc, _+_, _≤_}
+use Prim.Native.Nat.{ℕ, _+_, _≤_}
 use native.Mathlib.Omega.{arith}
 use lib.Dec.{leb}
 use borrow.Author.Tests.{leb-true}
-use Rattle.definition.specs.Out.{Out}
-use Rattle.definition.specs.Tree.{Name, Combinator, plain, chained, Inner, leaf, struct, choice, shell, bytes, invocation, macro-invocation, Fields, no-field, field, const, Cases, no-case, case, Inners, no-inner, inner}
+use Rattle.definition.specs.Out.{Out, done}
+use Rattle.definition.specs.Tree.{Name, CaseKind, Combinator, plain, chained, Inner, leaf, struct, choice, shell, bytes, invocation, macro-invocation, Fields, no-field, field, const, Cases, no-case, case, Inners, no-inner, inner}
 use Rattle.definition.specs.Names.{eqName}
+use Rattle.definition.specs.Write.{wShut}
 use Rattle.definition.specs.Size.{size, levels, levelsI, levelsF, levelsC}
-use Rattle.definition.specs.Macros.{same, subst, substI, substF, substC, limited, instance, innerOf, Macro, expandBy, expandMacro, expand, expandI, expandF, expandC}
+use Rattle.definition.specs.Macros.{subst, limited, instance, innerOf, Macro, expandBy, expandMacro, expand}
 use Rattle.laws.proofs.Tests.{both-true}
-use Rattle.laws.proofs.Steps.{Yields, yields, next, where-true}
-use Rattle.macros.specs.Deep.{DeepM}
-
-module _ (p : Name) (y : Inner) where
-  mutual
-    unfolding subst levels
-
-    pub subst-deep : (c : Combinator) → levels (subst c p y) ≤ levels c + levelsI y
-    subst-deep (plain i) = omega (arith, subst-deepI i)
-    subst-deep (chained i c) = omega (arith, subst-deepI i, subst-deep c)
-
-    subst-deepI : (i : Inner) → levelsI (substI i p y) ≤ levelsI i + levelsI y
-    subst-deepI (leaf k x) = omega arith
-    subst-deepI (struct f) = subst-deepF f
-    subst-deepI (choice s k f) = subst-deepC f
-    subst-deepI (shell x c) = subst-deep c
-    subst-deepI (bytes l) = omega arith
-    subst-deepI (invocation n xs) = one-of (eqName n p)
-      where
-        one-of : (b : Bool) → levelsI (same y (invocation n xs) b) ≤ 0 + levelsI y
-        one-of true = omega arith
-        one-of false = omega arith
-    subst-deepI (macro-invocation n xs) = omega arith
-
-    subst-deepF : (f : Fields) → levelsF (substF f p y) ≤ levelsF f + levelsI y
-    subst-deepF no-field = omega arith
-    subst-deepF (field k l c f) = omega (arith, subst-deep c, subst-deepF f)
-    subst-deepF (const l x f) = subst-deepF f
-
-    subst-deepC : (f : Cases) → levelsC (substC f p y) ≤ levelsC f + levelsI y
-    subst-deepC no-case = omega arith
-    subst-deepC (case l c f) = omega (arith, subst-deep c, subst-deepC f)
+use Rattle.laws.proofs.Steps.{Yields, stops, yields, next, where-true}
+use Rattle.calls.specs.Pieces.{Piece, raw, pieces, piecesI, piecesF, piecesC}
+use Rattle.calls.proofs.Expanded.{All}
+use Rattle.calls.proofs.Deeper.{grown}
+use Rattle.substitution.proofs.Opening.{inner-deep}
+use Rattle.macros.specs.Deep.{DeepM, DeepP}
 
 -- an instance has at most 64 levels, where the body has
 pub instance-deep : (ps : List Name) (xs : Inners) (c : Combinator) → levels c ≤ 64 → Yields (λ d. levels d ≤ 64) (instance ps xs c)
@@ -52,11 +28,6 @@ instance-deep [] xs c h = yields h
 instance-deep (p ∷ ps) no-inner c h = yields h
 instance-deep (p ∷ ps) (inner a xs) c h =
     next {P = λ d. levels d ≤ 64} (where-true (leb (size (subst c p a)) 16384 && leb (levels (subst c p a)) 64) _ (subst c p a) (λ t. leb-true (levels (subst c p a)) 64 (both-true (leb (size (subst c p a)) 16384) (leb (levels (subst c p a)) 64) t .1))) _ λ d w. instance-deep ps xs d w
-
-pub inner-deep : (c : Combinator) → suc (levelsI (innerOf c)) ≤ levels c
-unfolding innerOf levels
-inner-deep (plain i) = omega arith
-inner-deep (chained i c) = omega arith
 
 by-deep : (b : Bool) (m : Macro) (xs : Inners) (k : ℕ) (other : Out Inner) → levels (m .body) ≤ 64 → Yields (λ j. levelsI j ≤ k + 63) other → Yields (λ j. levelsI j ≤ k + 63) (expandBy b m xs other)
 unfolding expandBy
@@ -68,28 +39,36 @@ unfolding expandMacro
 macro-deep [] n xs h = yields {a = macro-invocation n xs} (omega arith)
 macro-deep (m ∷ ms) n xs h = by-deep (eqName (m .name) n) m xs (levelsI (macro-invocation n xs)) (expandMacro ms n xs) (h .0) (macro-deep ms n xs (h .1))
 
-module _ (ms : List Macro) (h : DeepM ms) where
-  mutual
-    unfolding expand levels
+all-of : {A : Type 0} {P : A → Type 0} {m : Out A} → Yields P m → All P m
+all-of stops = tt
+all-of (yields p) = p
 
-    pub expand-deep : (c : Combinator) → Yields (λ d. levels d ≤ levels c + 63) (expand c ms)
-    expand-deep (plain i) = next (expand-deepI i) _ λ j w. yields {a = plain j} (omega arith)
-    expand-deep (chained i c) = next (expand-deep c) _ λ d w. next (expand-deepI i) _ λ j v. yields {a = chained j d} (omega arith)
+pub expand-deep : (ms : List Macro) → DeepM ms → (c d : Combinator) → expand c ms ≡ done d → levels d ≤ levels c + 63
+unfolding levels
+expand-deep ms h c d e = rw e at (grown ms 63 (λ n xs. all-of (macro-deep ms n xs h)) c)
 
-    expand-deepI : (i : Inner) → Yields (λ j. levelsI j ≤ levelsI i + 63) (expandI i ms)
-    expand-deepI (leaf k x) = yields {a = leaf k x} (omega arith)
-    expand-deepI (struct f) = next (expand-deepF f) _ λ g w. yields w
-    expand-deepI (choice s k f) = next (expand-deepC f) _ λ g w. yields w
-    expand-deepI (shell x c) = next (expand-deep c) _ λ d w. yields w
-    expand-deepI (bytes l) = yields {a = bytes l} (omega arith)
-    expand-deepI (invocation n xs) = yields {a = invocation n xs} (omega arith)
-    expand-deepI (macro-invocation n xs) = macro-deep ms n xs h
+-- and the arguments of a combinator's calls are no deeper than it
+mutual
+  unfolding pieces levels
 
-    expand-deepF : (f : Fields) → Yields (λ g. levelsF g ≤ levelsF f + 63) (expandF f ms)
-    expand-deepF no-field = yields {a = no-field} (omega arith)
-    expand-deepF (field k l c f) = next (expand-deep c) _ λ d w. next (expand-deepF f) _ λ g v. yields {a = field k l d g} (omega arith)
-    expand-deepF (const l x f) = next (expand-deepF f) _ λ g v. yields v
+  pub pieces-deep : (c : Combinator) (ps : List Piece) → levels c ≤ 64 → DeepP ps → DeepP (pieces c ps)
+  pieces-deep (plain i) ps h g = pieces-deepI i (raw (0 ∷ []) ∷ ps) (omega arith) g
+  pieces-deep (chained i c) ps h g = pieces-deepI i (raw (1 ∷ []) ∷ pieces c ps) (omega arith) (pieces-deep c ps (omega arith) g)
 
-    expand-deepC : (f : Cases) → Yields (λ g. levelsC g ≤ levelsC f + 63) (expandC f ms)
-    expand-deepC no-case = yields {a = no-case} (omega arith)
-    expand-deepC (case l c f) = next (expand-deep c) _ λ d w. next (expand-deepC f) _ λ g v. yields {a = case l d g} (omega arith)
+  pieces-deepI : (i : Inner) (ps : List Piece) → levelsI i ≤ 64 → DeepP ps → DeepP (piecesI i ps)
+  pieces-deepI (leaf k x) ps h g = g
+  pieces-deepI (struct f) ps h g = pieces-deepF f ps h g
+  pieces-deepI (choice s k f) ps h g = pieces-deepC f k ps h g
+  pieces-deepI (shell x c) ps h g = pieces-deep c (raw (wShut x []) ∷ ps) h g
+  pieces-deepI (bytes l) ps h g = g
+  pieces-deepI (invocation n a) ps h g = g
+  pieces-deepI (macro-invocation n a) ps h g = (h, g)
+
+  pieces-deepF : (f : Fields) (ps : List Piece) → levelsF f ≤ 64 → DeepP ps → DeepP (piecesF f ps)
+  pieces-deepF no-field ps h g = g
+  pieces-deepF (field k l c f) ps h g = pieces-deep c (piecesF f ps) (omega arith) (pieces-deepF f ps (omega arith) g)
+  pieces-deepF (const l x f) ps h g = pieces-deepF f ps h g
+
+  pieces-deepC : (f : Cases) (k : CaseKind) (ps : List Piece) → levelsC f ≤ 64 → DeepP ps → DeepP (piecesC f k ps)
+  pieces-deepC no-case k ps h g = g
+  pieces-deepC (case l c f) k ps h g = pieces-deep c (piecesC f k ps) (omega arith) (pieces-deepC f k ps (omega arith) g)

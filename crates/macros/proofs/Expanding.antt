@@ -21,10 +21,11 @@ use Rattle.laws.proofs.Splits.{s-inner}
 use Rattle.calls.proofs.Expanded.{onto}
 use Rattle.macros.specs.declared.table.Found.{Found}
 use Rattle.macros.specs.declared.table.Found.the-variants.{At, Unknown}
-use Rattle.macros.specs.Instance.{Areas}
+use Rattle.substitution.specs.Instance.{Areas}
 use Rattle.macros.specs.Table.{Rows, Finds, FindsMacro}
-use Rattle.macros.specs.Expand.{Puts, Called, IsCall, a-call, a-macro, Replaced, Becomes, MacroOf, front, Expanding}
-use Rattle.macros.proofs.Stands.{part-on, inner-here, step-here, call-tag, macro-tag, macro-name}
+use Rattle.substitution.specs.Call.{Puts, Called}
+use Rattle.macros.specs.Expand.{IsCall, a-call, a-macro, Replaced, Becomes, MacroOf, front, Expanding}
+use Rattle.substitution.proofs.Stands.{part-on, inner-here, step-here, call-tag, macro-tag, macro-name}
 use Rattle.macros.proofs.Next.{Next, next-of, front-none, front-front, puts-stays, puts-over, puts-most, puts-front}
 
 -- which calls are known

@@ -1,4 +1,4 @@
--- Parameters, and a format: its bytes up to its body, and its body expanded.
+-- How many definitions are kept, and a format: its bytes up to its body, and its body expanded.
 -- Assumes nothing.
 use mathlib.Core.Path.{_≡_, refl, ap, _∙_}
 use mathlib.Core.List.{List, [], _∷_, _++_, map, append-assoc}
@@ -12,67 +12,36 @@ use borrow.Author.Tests.{le-leb, lt-leb}
 use Rattle.definition.specs.Code.{macro-growth}
 use Rattle.definition.specs.Out.{Out, refused, done, _>>=_, given}
 use Rattle.definition.specs.Tree.{Name, Combinator, Param, Definition, format, constant, byte-order, macro}
-use Rattle.definition.specs.Write.{wU16, wName, wParam, wAll, wList, wInner, wCombinator, wDefinition, kindOf, kindByte, sizeOf, wEntries, entryOf}
+use Rattle.definition.specs.Write.{wU16, wName, wParam, wList, wCombinator, wDefinition, kindOf, kindByte, sizeOf, wEntries, entryOf}
 use Rattle.definition.specs.Size.{size, levels, levelsP}
 use Rattle.definition.specs.Macros.{Macro, expand}
-use Rattle.laws.proofs.Steps.{yielded}
 use Rattle.laws.proofs.Splits.{s-list, s-param, s-name}
 use Rattle.seek.specs.At.{byteAt, pastAt, numberAt, namePast}
 use Rattle.seek.specs.Here.{Here}
-use Rattle.seek.proofs.Here.{place, past-here, byte-here, number-here, number-past, name-here}
+use Rattle.seek.proofs.Here.{place, past-here, byte-here, name-here}
 use Rattle.writer.specs.Buf.{part, Wrote}
 use Rattle.writer.proofs.Put.{part-none, put-fits, take-written}
 use Rattle.writer.proofs.Wrote.{fitted, place-is, same-length, glue}
 use Rattle.calls.specs.declared.Walk.{Walk}
-use Rattle.calls.specs.Walk.{walk, combinatorAt, skipAt}
+use Rattle.calls.specs.Walk.{walk, combinatorAt}
 use Rattle.calls.specs.Walked.{Walked}
 use Rattle.calls.specs.Pieces.{pieces, places, written, expanded}
 use Rattle.laws.proofs.Splits.{s-comb}
 use Rattle.calls.proofs.Written.{written-is}
 use Rattle.calls.proofs.Expanded.{expansion}
-use Rattle.calls.proofs.Link.{walked, skipped}
+use Rattle.calls.proofs.Link.{walked}
 use Rattle.macros.specs.Deep.{DeepM}
 use Rattle.macros.specs.Table.{Rows}
-use Rattle.macros.specs.Expand.{Puts, front, Expanding}
-use Rattle.macros.specs.Left.{ParamPast, ParamsLeft, ParamsPast, Counting, KeptOf, keptOf, shallow, expandOne, Whole, Formatted}
-use Rattle.macros.proofs.Stands.{part-here}
-use Rattle.macros.proofs.Depth.{expand-deep}
-use Rattle.macros.proofs.Room.{pieces-deep}
-use Rattle.macros.proofs.Turns.{size-here, marks-room}
+use Rattle.contents.specs.Params.{ParamsPast}
+use Rattle.substitution.specs.Call.{Puts}
+use Rattle.macros.specs.Expand.{front, Expanding}
+use Rattle.macros.specs.Left.{Counting, KeptOf, keptOf, shallow, expandOne, Whole, Formatted}
+use Rattle.calls.proofs.Spliced.{part-here}
+use Rattle.calls.proofs.Room.{room-enough}
+use Rattle.macros.proofs.Depth.{expand-deep, pieces-deep}
+use Rattle.substitution.proofs.Turns.{size-here}
 use Rattle.macros.proofs.Next.{front-none}
-use Rattle.macros.proofs.Rows.{book-listed}
-
--- parameters
-pub param-past : {book : List ℕ} (marks : List ℕ) {at p : ℕ} → p ≡ namePast book at → (w : Walk) → w ≡ skipAt 64 book (walk p 0 64 true) marks .0 → ParamPast book at (w .at)
-unfolding wParam
-param-past {book} marks {at} {p} e w hw = record {
-  says = λ l q z h d.
-      let g : Here book p (wInner (q .type) z) = rw e (name-here (q .name) h) in
-      rw hw (skipped book (omega arith) (q .type) 64 d (walk p 0 64 true) marks z g .rest);
-}
-
-module _ {book : List ℕ} {at left : ℕ} where
-  pub params-none : left ≤ 0 → ParamsLeft book at left at
-  unfolding wAll
-  params-none k = record { says = λ l ps z h e d. none ps z h e }
-    where
-      none : (ps : List Param) (z : List ℕ) → Here book at (wAll wParam ps z) → left ≡ length ps → Here book at z
-      none [] z h e = h
-      none (p ∷ ps) z h e = absurd (omega arith)
-
-  pub params-step : 0 < left → {at₁ : ℕ} → ParamPast book at at₁ → {r : ℕ} → ParamsLeft book at₁ (left - 1) r → ParamsLeft book at left r
-  unfolding wAll levelsP
-  params-step k {at₁} v {r} next = record { says = λ l ps z h e d. step l ps z h e d }
-    where
-      step : length book ≤ 16384 → (ps : List Param) (z : List ℕ) → Here book at (wAll wParam ps z) → left ≡ length ps → levelsP ps ≤ 64 → Here book r z
-      step l [] z h e d = absurd (omega arith)
-      step l (p ∷ ps) z h e d = next .says l ps z (v .says l p (wAll wParam ps z) h (omega arith)) (omega arith) (omega arith)
-
-pub params-past : {book : List ℕ} {at left here r : ℕ} → left ≡ numberAt book at → here ≡ pastAt book at 2 → ParamsLeft book here left r → ParamsPast book at r
-unfolding wList
-params-past {book} {at} el eh v = record {
-  says = λ l ps z h d. v .says l ps z (rw eh (number-past (length ps) h)) (el ∙ number-here (length ps) (wAll wParam ps z) h) d;
-}
+use Rattle.contents.proofs.Listed.{book-listed}
 
 -- counting
 module _ {book : List ℕ} {entry : ℕ} (at : ℕ) (z : List ℕ) (d : Definition) (ds : List Definition) (h : Here book entry (wEntries at (map entryOf (d ∷ ds)) z)) where
@@ -162,10 +131,10 @@ module _ {macros pl hs : List ℕ} {rows : ℕ} {book : List ℕ} {at : ℕ} {a 
     head = part-upto (headBytes n ps) (wCombinator c z) (rw (format-apart n ps c z) at h) body-here
 
     over-body : Walked book c 64 z (walk body 0 64 true) m₁ w m₂
-    over-body = rw (hw, hm) (walked book (omega (arith, wh .areas .book-short)) c 64 dc (walk body 0 64 true) m₁ z body-here (omega (arith, marks-room body c, size-here c z body-here, wh .areas .book-short, wh .marks-long)))
+    over-body = rw (hw, hm) (walked book (omega (arith, wh .areas .book-short)) c 64 dc (walk body 0 64 true) m₁ z body-here (omega (arith, room-enough c body, size-here c z body-here, wh .areas .book-short, wh .marks-long)))
 
     marks-are : fm ≡ places body (pieces c [])
-    marks-are = ef ∙ rw (over-body .count, over-body .marks) (take-written m₁ 0 (places body (pieces c [])) (omega (arith, marks-room body c, size-here c z body-here, wh .areas .book-short, wh .marks-long)))
+    marks-are = ef ∙ rw (over-body .count, over-body .marks) (take-written m₁ 0 (places body (pieces c [])) (omega (arith, room-enough c body, size-here c z body-here, wh .areas .book-short, wh .marks-long)))
 
     got : Puts out₁ q (expand c ms >>= λ d. done (wCombinator d [])) out₂ r
     unfolding written size
@@ -178,7 +147,7 @@ module _ {macros pl hs : List ℕ} {rows : ℕ} {book : List ℕ} {at : ℕ} {a 
     both d v = rw (format-apart n ps d []) (glue (rw head at wo) v)
 
     deep : (d : Combinator) → expand c ms ≡ done d → levels d ≤ 127
-    deep d e = omega (arith, yielded (expand-deep ms (rows-deep macros pl hs rows ms (wh .table)) c) e)
+    deep d e = omega (arith, expand-deep ms (rows-deep macros pl hs rows ms (wh .table)) c d e)
 
     -- how many levels the walk over the finished body leaves
     left-is : (d : Combinator) → levels d ≤ 127 → Wrote out₁ q (wCombinator d []) out₂ r → r ≤ length out₂ → (m₃ : List ℕ) → length m₃ ≡ length marks
@@ -187,7 +156,7 @@ module _ {macros pl hs : List ℕ} {rows : ℕ} {book : List ℕ} {at : ℕ} {a 
         let l : length out₂ ≡ 16384 = lo ∙ same-length wo ∙ wh .out-long in
         let s : Here out₂ q (wCombinator d (drop (q + length (wCombinator d [])) out₁)) = rw (s-comb d [] (drop (q + length (wCombinator d [])) out₁)) (wrote-here wd (omega arith)) in
         rw hv (walked out₂ (omega arith) d 129 (omega arith) (walk q 0 129 true) m₃ (drop (q + length (wCombinator d [])) out₁) s
-        (omega (arith, marks-room q d, size-here d (drop (q + length (wCombinator d [])) out₁) s, wh .marks-long)) .deep)
+        (omega (arith, room-enough d q, size-here d (drop (q + length (wCombinator d [])) out₁) s, wh .marks-long)) .deep)
 
   -- by what the expansion of the body is
   by-body : (out′ : List ℕ) (r′ : ℕ) → (r ≡ suc (length out₁) → r′ ≡ suc (length out))

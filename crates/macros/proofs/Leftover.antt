@@ -22,12 +22,11 @@ use Rattle.seek.specs.Here.{Here}
 use Rattle.writer.specs.Buf.{put, part, Wrote}
 use Rattle.writer.proofs.Put.{put-nil, put-put, put-past, put-fits, length-put, within}
 use Rattle.writer.proofs.Wrote.{fitted, place-fits, place-is, same-length}
-use Rattle.macros.specs.Table.{Listed}
-use Rattle.macros.specs.Expand.{Puts}
+use Rattle.contents.specs.Listed.{Listed}
+use Rattle.substitution.specs.Call.{Puts}
 use Rattle.macros.specs.Left.{keptOf, shallow, expandOne, andOne, shallowAll, Whole, Formatted, Kept, WritesBy, Writes, Listing, Booked}
-use Rattle.macros.proofs.Stands.{part-here}
-use Rattle.macros.proofs.Listed.{past-is, listed-kind, listed-size, listed-body, listed-deep, listed-next, entries-size}
-use Rattle.macros.proofs.Rows.{book-listed}
+use Rattle.calls.proofs.Spliced.{part-here}
+use Rattle.contents.proofs.Listed.{past-is, listed-kind, listed-size, listed-body, listed-deep, listed-next, entries-size, book-listed}
 
 -- one definition
 module _ {kind size : ℕ} {macros pl hs : List ℕ} {rows : ℕ} {book : List ℕ} {at : ℕ} {a b marks row out : List ℕ} {o : ℕ} {out′ : List ℕ} {r : ℕ} where

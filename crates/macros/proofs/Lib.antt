@@ -1,13 +1,5 @@
-mod Copied
-mod Stands
-mod Subst
 mod Depth
-mod Room
-mod Marks
-mod Turns
-mod Listed
 mod Rows
-mod Opening
 mod Next
 mod Expanding
 mod Format

@@ -18,9 +18,11 @@ use Rattle.calls.specs.Pieces.{Piece, raw, call, macro-call, places, written, r
 use Rattle.laws.proofs.Splits.{s-inner}
 use Rattle.calls.proofs.Expanded.{onto}
 use Rattle.macros.specs.Deep.{DeepP}
-use Rattle.macros.specs.Expand.{Puts, IsCall, a-call, a-macro, front}
-use Rattle.macros.proofs.Copied.{drop-two}
-use Rattle.macros.proofs.Stands.{part-here, step-here}
+use Rattle.substitution.specs.Call.{Puts}
+use Rattle.macros.specs.Expand.{IsCall, a-call, a-macro, front}
+use Rattle.substitution.proofs.Copied.{drop-two}
+use Rattle.substitution.proofs.Stands.{step-here}
+use Rattle.calls.proofs.Spliced.{part-here}
 
 pub front-none : (t : Out (List ℕ)) → front [] t ≡ t
 front-none (refused k) = refl

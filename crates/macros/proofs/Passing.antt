@@ -26,7 +26,7 @@ use Rattle.macros.specs.declared.Expanded.the-variants.{Book, Grown}
 use Rattle.macros.specs.Table.{Tabled}
 use Rattle.macros.specs.Left.{keptOf, shallow, expandOne, andOne, shallowAll, KeptOf, WritesBy, Writes, Booked}
 use Rattle.macros.specs.Pass.{pass, answerOf, leaves, Passed}
-use Rattle.macros.proofs.Listed.{entries-apart, entries-size}
+use Rattle.contents.proofs.Listed.{entries-apart, entries-size}
 use Rattle.macros.proofs.Leftover.{kept-count}
 
 -- every refusal is code 6

@@ -1,30 +1,30 @@
 -- The table of macros: a row's test, the search from the last row, and filling.
 -- Assumes nothing.
 use mathlib.Core.Path.{_≡_, refl, sym, ap, _∙_}
-use mathlib.Core.List.{List, [], _∷_, _++_, map}
+use mathlib.Core.List.{List, [], _∷_}
 use mathlib.Core.Bool.{Bool, true, false}
-use Prim.Native.Nat.{ℕ, _+_, _-_, _*_, _/_, _%_, _≤_, _<_}
+use Prim.Native.Nat.{ℕ, _+_, _-_, _*_, _%_, _≤_, _<_}
 use native.Mathlib.Omega.{arith}
-use lib.ListN.{length, getD, set, length-set, length-map}
+use lib.ListN.{length, getD, set, length-set}
 use lib.Seq.{getD-set-same, getD-set-other}
 use Rattle.definition.specs.Out.{done}
 use Rattle.definition.specs.Tree.{Name, Inners, macro-invocation, Definition, format, constant, byte-order, macro}
 use Rattle.definition.specs.Names.{eqName}
-use Rattle.definition.specs.Write.{wU16, wName, wAll, wList, wDefinition, wCombinator, kindOf, kindByte, wEntries, wParts, entryOf, wBook}
+use Rattle.definition.specs.Write.{wName, wList, wDefinition, wCombinator, kindOf, kindByte}
 use Rattle.definition.specs.Size.{levelsBook, sizeBook}
 use Rattle.definition.specs.Macros.{Macro, macros, expandBy, expandMacro}
-use Rattle.laws.specs.Book.{IsBook}
 use Rattle.seek.specs.At.{byteAt, pastAt, numberAt}
 use Rattle.seek.specs.Here.{Here}
-use Rattle.seek.proofs.Here.{past-here, number-here, number-past}
 use Rattle.lookup.specs.Name.{nameAt}
 use Rattle.lookup.proofs.Names.{stands}
-use Rattle.names.specs.Taken.{hashOf}
-use Rattle.names.proofs.Rows.{hash-ne}
+use Rattle.fresh.specs.Taken.{hashOf}
+use Rattle.fresh.proofs.Rows.{hash-ne}
 use Rattle.macros.specs.declared.table.Found.{Found}
 use Rattle.macros.specs.declared.table.Found.the-variants.{At, Unknown}
-use Rattle.macros.specs.Table.{Defined, Row, Rows, SameRow, Known, Finds, FindsMacro, Listed, Taken, Tabling, Tabled}
-use Rattle.macros.proofs.Listed.{past-is, listed-kind, listed-size, listed-body, listed-deep, listed-next, entries-apart, entries-size}
+use Rattle.contents.specs.Listed.{Listed}
+use Rattle.substitution.specs.Call.{Defined}
+use Rattle.macros.specs.Table.{Row, Rows, SameRow, Known, Finds, FindsMacro, Taken, Tabling, Tabled}
+use Rattle.contents.proofs.Listed.{listed-kind, listed-size, listed-body, listed-deep, listed-next, book-listed}
 
 pub defined-name : {s : List ℕ} {at : ℕ} (m : Macro) → Defined s at m → nameAt s at ≡ m .name
 unfolding wDefinition
@@ -167,29 +167,6 @@ module _ {s pl hs : List ℕ} {n entry at left : ℕ} where
           rw (macros-step d ds ms)
           (next .says ds (macros (d ∷ []) ms) l (rw (ha, hz, he, listed-size w) (listed-next w)) (omega arith) (omega (arith, t .one)) (lp₁ ∙ lp) (lh₁ ∙ lh)
           (t .says d _ ms l (listed-body w) (hk ∙ listed-kind w) (listed-deep w) (omega arith) (omega arith) rs))
-
--- a book from its first definition on
-pub book-listed : (s : List ℕ) (ds : List Definition) → s ≡ wBook ds → IsBook ds → (numberAt s 0 ≡ length ds) × Listed s (pastAt s 0 2) (pastAt s 2 (6 * length ds)) ds
-unfolding wBook wParts
-book-listed s ds e b =
-    let es = map entryOf ds in
-    let n : length es ≡ length ds = length-map ds entryOf in
-    let all : List ℕ = wAll wDefinition ds [] in
-    let at : ℕ = 2 + 6 * length es in
-    let h₀ : Here s 0 (wU16 (length es) (wEntries at es all)) = record { is = e; reach = omega arith } in
-    let two : pastAt s 0 2 ≡ 0 + 2 = past-is {p = 0} (length es % 256 ∷ length es / 256 ∷ []) (wEntries at es all) h₀ in
-    let h₂ : Here s 2 (wEntries at es all) = rw two at (number-past (length es) h₀) in
-    let h₃ : Here s 2 (wEntries at es [] ++ all) = rw (entries-apart at ds all) at h₂ in
-    let l : length (wEntries at es []) ≡ 6 * length ds = entries-size at ds in
-    let p : pastAt s 2 (6 * length ds) ≡ 2 + 6 * length ds = rw (← l) (past-is {p = 2} (wEntries at es []) all h₃) in (
-      number-here (length es) (wEntries at es all) h₀ ∙ n,
-      record {
-        behind = all;
-        entries = rw (two, p, ← n) h₂;
-        bodies = rw (← l) (past-here (wEntries at es []) h₃);
-        deep = b .deep;
-      },
-    )
 
 pub tabled : {s pl hs pl′ hs′ : List ℕ} {r left entry at : ℕ} → left ≡ numberAt s 0 → entry ≡ pastAt s 0 2 → at ≡ pastAt s 2 (6 * left) → Tabling s pl hs 0 entry at left pl′ hs′ r → Tabled s pl hs pl′ hs′ r
 unfolding sizeBook

@@ -1,49 +1,21 @@
 -- What expansion says of the trees that stand in the bytes.
 use mathlib.Core.Path.{_≡_}
 use mathlib.Core.List.{List, [], _++_}
-use mathlib.Core.Bool.{true}
-use Prim.Native.Nat.{ℕ, suc, _+_, _≤_, min}
+use Prim.Native.Nat.{ℕ, _+_, _≤_}
 use lib.ListN.{length, drop}
-use Rattle.definition.specs.Out.{Out, refused, done, _>>=_}
+use Rattle.definition.specs.Out.{Out, done, _>>=_}
 use Rattle.definition.specs.Tree.{Name, Inner, Inners, invocation, macro-invocation}
-use Rattle.definition.specs.Write.{wName, wAll, wInner, wInners, countA}
-use Rattle.definition.specs.Size.{levelsA}
+use Rattle.definition.specs.Write.{wInner}
 use Rattle.definition.specs.Macros.{Macro, instance, innerOf, expandI}
 use Rattle.seek.specs.Here.{Here}
-use Rattle.writer.specs.Buf.{part, Wrote}
+use Rattle.writer.specs.Buf.{part}
 use Rattle.calls.specs.Pieces.{Piece, places, written, expanded}
-use Rattle.macros.specs.declared.Turn.{Turn}
-use Rattle.macros.specs.Instance.{Areas, Holds}
-use Rattle.macros.specs.Table.{Defined, Rows}
+use Rattle.substitution.specs.Instance.{Areas}
+use Rattle.substitution.specs.Call.{Defined, Puts}
+use Rattle.macros.specs.Table.{Rows}
 use Rattle.macros.specs.Deep.{DeepP}
 use Rattle.macros.specs.declared.table.Found.{Found}
 use Rattle.macros.specs.declared.table.Found.the-variants.{At, Unknown}
-
--- a write, or code 6: then the place after is past the end
-abbrev pub Puts : List ℕ → ℕ → Out (List ℕ) → List ℕ → ℕ → Type 0
-Puts d at (refused k) d′ r = r ≡ suc (length d)
-Puts d at (done l) d′ r = Wrote d at l d′ r
-
--- a macro and a call of it before the first turn: the body stands in a
-pub record Open (macros book a marks : List ℕ) (t : Turn) (m : Macro) (xs : Inners) (z : List ℕ) : Type 0 where
-  pub behind : List ℕ
-  pub params : Here macros (t .param) (wAll wName (m .params) behind)
-  pub args : Here book (t .arg) (wInners xs z)
-  pub holds : Holds a marks (t .len) (t .n) (m .body)
-
-pub record Opened (macros : List ℕ) (def : ℕ) (book : List ℕ) (call : ℕ) (a marks a′ marks′ : List ℕ) (t : Turn) : Type 0 where
-  pub good : t .good ≡ true
-  pub says : length macros ≤ 16384 → length a ≡ 16384 → length marks ≡ 8192 → (m : Macro) → Defined macros def m → (n : Name) (xs : Inners) (z : List ℕ) → Here book call (wInner (macro-invocation n xs) z)
-      → Open macros book a′ marks′ t m xs z
-
--- rule 4: "Parameters and arguments are paired from the front; extra ones on either side are ignored."
-pub record Paired (macros : List ℕ) (def : ℕ) (book : List ℕ) (call r : ℕ) : Type 0 where
-  pub says : (m : Macro) → Defined macros def m → (n : Name) (xs : Inners) (z : List ℕ) → Here book call (wInner (macro-invocation n xs) z) → r ≡ min (length (m .params)) (countA xs)
-
--- rule 3: "replaced by the macro body's inner"
-pub record Called (macros : List ℕ) (def : ℕ) (book : List ℕ) (call : ℕ) (a b marks out : List ℕ) (o : ℕ) (out′ : List ℕ) (r : ℕ) : Type 0 where
-  pub says : Areas macros book a b marks → (m : Macro) → Defined macros def m → (n : Name) (xs : Inners) (z : List ℕ) → Here book call (wInner (macro-invocation n xs) z) → levelsA xs ≤ 64
-      → Puts out o (instance (m .params) xs (m .body) >>= λ c. done (wInner (innerOf c) [])) out′ r
 
 -- what stands at a place where the walk met a call
 pub data IsCall : Inner → Type 0 where

@@ -8,25 +8,16 @@ use lib.ListN.{length}
 use Rattle.definition.specs.Code.{macro-growth}
 use Rattle.definition.specs.Out.{Out, refused, done, _>>=_, given}
 use Rattle.definition.specs.Tree.{Name, Combinator, Param, Definition, format, constant, byte-order, macro}
-use Rattle.definition.specs.Write.{wParam, wAll, wList, wDefinition, kindOf, kindByte, sizeOf, wEntries, entryOf, wBook}
-use Rattle.definition.specs.Size.{levels, levelsI, levelsP, levelsBook}
+use Rattle.definition.specs.Write.{wAll, wDefinition, kindOf, kindByte, sizeOf, wEntries, entryOf, wBook}
+use Rattle.definition.specs.Size.{levels, levelsP, levelsBook}
 use Rattle.definition.specs.Macros.{Macro, expand}
 use Rattle.laws.specs.Book.{IsBook}
 use Rattle.seek.specs.Here.{Here}
 use Rattle.writer.specs.Buf.{put}
-use Rattle.macros.specs.Instance.{Areas}
-use Rattle.macros.specs.Table.{Rows, Listed}
-use Rattle.macros.specs.Expand.{Puts}
-
--- parameters
-pub record ParamPast (book : List ℕ) (at r : ℕ) : Type 0 where
-  pub says : length book ≤ 16384 → (p : Param) (z : List ℕ) → Here book at (wParam p z) → levelsI (p .type) ≤ 64 → Here book r z
-
-pub record ParamsLeft (book : List ℕ) (at left r : ℕ) : Type 0 where
-  pub says : length book ≤ 16384 → (ps : List Param) (z : List ℕ) → Here book at (wAll wParam ps z) → left ≡ length ps → levelsP ps ≤ 64 → Here book r z
-
-pub record ParamsPast (book : List ℕ) (at r : ℕ) : Type 0 where
-  pub says : length book ≤ 16384 → (ps : List Param) (z : List ℕ) → Here book at (wList wParam ps z) → levelsP ps ≤ 64 → Here book r z
+use Rattle.contents.specs.Listed.{Listed}
+use Rattle.substitution.specs.Instance.{Areas}
+use Rattle.substitution.specs.Call.{Puts}
+use Rattle.macros.specs.Table.{Rows}
 
 -- rule 5: "or the book left when expansion is done .. is over either": the levels, body by body
 unfoldable pub shallow : Combinator → Out Combinator

@@ -1,6 +1,4 @@
-pub mod Substituted
 pub mod Deep
-pub mod Instance
 pub mod Table
 pub mod Expand
 pub mod Left

@@ -1,26 +1,22 @@
--- The table of macros, and the definitions of a book as they are listed in its contents.
+-- The table of macros.
 use mathlib.Core.Path.{_≡_}
-use mathlib.Core.List.{List, [], _∷_, map}
+use mathlib.Core.List.{List, [], _∷_}
 use mathlib.Core.Bool.{true, false}
 use Prim.Native.Nat.{ℕ, _+_, _-_, _≤_, _<_}
 use lib.ListN.{length, getD}
 use Rattle.definition.specs.Out.{done, _>>=_}
-use Rattle.definition.specs.Tree.{Name, Inners, macro-invocation, Definition, macro}
+use Rattle.definition.specs.Tree.{Name, Inners, macro-invocation, Definition}
 use Rattle.definition.specs.Names.{eqName}
-use Rattle.definition.specs.Write.{wAll, wDefinition, kindOf, kindByte, wEntries, entryOf, wBook}
-use Rattle.definition.specs.Size.{levels, levelsBook}
+use Rattle.definition.specs.Write.{wDefinition, kindOf, kindByte, wBook}
+use Rattle.definition.specs.Size.{levelsBook}
 use Rattle.definition.specs.Macros.{Macro, macros, instance, innerOf, expandMacro}
 use Rattle.laws.specs.Book.{IsBook}
 use Rattle.seek.specs.Here.{Here}
-use Rattle.names.specs.Taken.{hashOf}
+use Rattle.fresh.specs.Taken.{hashOf}
+use Rattle.contents.specs.Listed.{Listed}
+use Rattle.substitution.specs.Call.{Defined}
 use Rattle.macros.specs.declared.table.Found.{Found}
 use Rattle.macros.specs.declared.table.Found.the-variants.{At, Unknown}
-
--- the definition of a macro stands at a place
-pub record Defined (s : List ℕ) (at : ℕ) (m : Macro) : Type 0 where
-  pub rest : List ℕ
-  pub here : Here s at (wDefinition (macro (m .name) (m .params) (m .body)) rest)
-  pub deep : levels (m .body) ≤ 64
 
 pub record Row (s places hashes : List ℕ) (i : ℕ) (m : Macro) : Type 0 where
   pub places-long : i < length places
@@ -53,13 +49,6 @@ Finds s ms name xs Unknown = expandMacro ms name xs ≡ done (macro-invocation n
 
 pub record FindsMacro (name : Name) (s places hashes : List ℕ) (n : ℕ) (r : Found) : Type 0 where
   pub says : (ms : List Macro) → Rows s places hashes n ms → (xs : Inners) → Finds s ms name xs r
-
--- the definitions ds are listed from a place of the contents on, and their bodies stand from another on
-pub record Listed (s : List ℕ) (entry at : ℕ) (ds : List Definition) : Type 0 where
-  pub behind : List ℕ
-  pub entries : Here s entry (wEntries at (map entryOf ds) behind)
-  pub bodies : Here s at (wAll wDefinition ds [])
-  pub deep : levelsBook ds ≤ 64
 
 pub record Taken (s : List ℕ) (kind at : ℕ) (places hashes : List ℕ) (n : ℕ) (places′ hashes′ : List ℕ) (r : ℕ) : Type 0 where
   pub one : r ≤ n + 1

@@ -1,15 +1,13 @@
 // The book that is left: macros removed, order kept, contents made anew, and each format's body expanded.
 use crate::expand::expand_macros_in_combinator;
-use crate::first_marks;
-use crate::skip_over;
-use crate::walk_over;
 use calls::Walk;
-use calls::combinator;
-use calls::skip_inner;
+use calls::first_marks;
+use contents::params_past;
 use seek::byte;
 use seek::name_past;
 use seek::number;
 use seek::past;
+use substitution::walk_over;
 use writer::put_byte;
 use writer::put_part;
 use writer::put_u16;
@@ -18,7 +16,7 @@ ghost use mathlib.Core.List.{[], _∷_};
 ghost use Prim.Native.Nat.{_-_, _%_};
 ghost use Rattle.definition.specs.Write.{wU16};
 ghost use Rattle.writer.specs.Buf.{Wrote};
-ghost use Rattle.macros.specs.Left.{ParamPast, ParamsPast, KeptOf, Formatted, Kept, Booked};
+ghost use Rattle.macros.specs.Left.{KeptOf, Formatted, Kept, Booked};
 
 fn minus(x: usize, y: usize) -> usize
     ensures { λ r. ⌜ r ≡ x - y ⌝ }
@@ -27,28 +25,6 @@ fn minus(x: usize, y: usize) -> usize
         return 0;
     }
     x - y
-}
-
-// The place behind a parameter: a name and a type.
-fn param_past(book: &[u8], at: usize, marks: &mut [u16]) -> usize
-    ensures { λ r. ⌜ ParamPast (now (book .entry)) at r ⌝ }
-{
-    let p = name_past(book, at);
-    let w = skip_over(book, p, marks);
-    w.at
-}
-
-// The place behind a count and as many parameters.
-fn params_past(book: &[u8], at: usize, marks: &mut [u16]) -> usize
-    ensures { λ r. ⌜ ParamsPast (now (book .entry)) at r ⌝ }
-{
-    let mut left = number(book, at);
-    let mut here = past(book, at, 2);
-    while 0 < left {
-        here = param_past(book, here, marks);
-        left -= 1;
-    }
-    here
 }
 
 // A format: its name and its parameters are copied, and its body is expanded. Over 64 levels it is refused.

@@ -1,10 +1,10 @@
 // The calls of a combinator, one after the other: the bytes between are copied, and a known macro's call is expanded.
-use crate::call::expand_call;
 use crate::table::Found;
 use crate::table::find_macro;
 use lookup::name_at;
 use seek::byte;
 use seek::past;
+use substitution::call::expand_call;
 use writer::put_part;
 ghost use Rattle.macros.specs.Expand.{MacroOf, Expanding};
 

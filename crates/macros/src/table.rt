@@ -1,29 +1,16 @@
 // The macros of a book in a table: a row for each, with its place and the hash of its name, the last definition in the last row.
+use fresh::name_hash;
 use lookup::name_at;
 use lookup::same_name;
 use seek::byte;
 use seek::number;
 use seek::past;
-ghost use mathlib.Core.Path.{_≡_};
-ghost use Rattle.names.specs.Taken.{hashOf};
 ghost use Rattle.macros.specs.Table.{SameRow, FindsMacro, Taken, Tabled};
 
 // Where the definition of a macro stands, if there is one.
 pub enum Found {
     At { at: usize },
     Unknown,
-}
-
-fn name_hash(name: &[u8]) -> u16
-    ensures { λ r. ⌜ r ≡ hashOf (now (name .entry)) ⌝ }
-{
-    let mut h: usize = 0;
-    let mut i = 0;
-    while i < name.len() {
-        h = (h * 31 + name[i] as usize) % 65536;
-        i += 1;
-    }
-    h as u16
 }
 
 // Whether a row's name is this one, whose hash is given.

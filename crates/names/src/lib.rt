@@ -1,6 +1,5 @@
 // Generated names. One is kept in a buffer's first bytes, beside its length, and grows there: a child's name is its node's with more behind
 // it. The buffer is 255 bytes long, so a length past its end says that the name is too long, and stays so whatever is put behind.
-pub mod fresh;
 mod letters;
 
 use writer::put_byte;
@@ -79,7 +78,7 @@ pub fn choice_generated_name(i: usize, dst: &mut [u8], at: usize) -> usize
 }
 
 // A name with '_' and a number behind it.
-fn numbered_name(i: usize, dst: &mut [u8], at: usize) -> usize
+pub fn numbered_name(i: usize, dst: &mut [u8], at: usize) -> usize
     ensures { λ r. ⌜ Child (now (dst .entry)) at (decimal i) (now (dst .exit)) r ⌝ }
 {
     let o = put_byte(b'_', dst, at);

@@ -27,7 +27,7 @@ use Rattle.params.specs.declared.Params.the-variants.{Sorted, Leftover}
 use Rattle.params.specs.Params.{paramsAt}
 use Rattle.params.proofs.Parameters.{params-leftover, params-count, params-names}
 use Rattle.names.specs.Name.{Held}
-use Rattle.names.specs.Taken.{both, taken, Hints}
+use Rattle.fresh.specs.Taken.{both, taken, Hints}
 use Rattle.names.proofs.Held.{held-whole, held-length}
 use Rattle.lift.specs.declared.Counts.{Counts}
 use Rattle.lift.specs.declared.Lifted.{Lifted}
@@ -124,21 +124,22 @@ whole-within {c = c} w = omega (arith, w .ends, here-length (w .is), adds (wComb
 
 -- ---- the three ways
 module _ {s : List ℕ} {at end : ℕ} {path : List ℕ} {len : ℕ} {env : List Bound} {made places rows params number : List ℕ} {w : Counts} {path′ made′ places′ hashes′ hints′ rows′ params′ number′ : List ℕ} {n : ℕ}
-    (named : (base : Name) → Held path len base → Held path′ n (fresh base (taken (both s made) places (w .taken)))) (long : length path′ ≡ 255) where
+    (named : (base : Name) → Held path len base → Held path′ n (fresh base (taken (both s made) places (w .taken)))) (kept : take len path′ ≡ take len path) (long : length path′ ≡ 255) where
   pub refused-name : 255 < n → Lifts s at end path len env made places rows params number w path′ made′ places′ hashes′ hints′ rows′ params′ number′ (Refused 9)
   unfolding Answers starts sheetOf number
-  refused-name h = record { lifts = λ c base finished o held. rw (lt-leb (length (fresh base (taken (both s made) places (w .taken)))) 255 (name-over (named base held) long h)) refl }
+  refused-name h = record { kept = kept; lifts = λ c base finished o held. rw (lt-leb (length (fresh base (taken (both s made) places (w .taken)))) 255 (name-over (named base held) long h)) refl }
 
   module _ (short : n ≤ 255) where
     pub refused-macro : ((c : Combinator) → Whole s at end c → leftover c ≡ true) → Lifts s at end path len env made places rows params number w path′ made′ places′ hashes′ hints′ rows′ params′ number′ (Refused 7)
     unfolding Answers starts sheetOf number
-    refused-macro h = record { lifts = λ c base finished o held. rw (le-leb (length (fresh base (taken (both s made) places (w .taken)))) 255 (name-short (named base held) long short), h c o) refl }
+    refused-macro h = record { kept = kept; lifts = λ c base finished o held. rw (le-leb (length (fresh base (taken (both s made) places (w .taken)))) 255 (name-short (named base held) long short), h c o) refl }
 
     pub entered-lift : (ns : List Name) (r : Lifted) → ((c : Combinator) → Whole s at end c → (leftover c ≡ false) × (ns ≡ sorted (free c)))
         → Enters s at end (take n path′) ns env made places rows params number w made′ places′ hashes′ hints′ rows′ params′ number′ r
         → Lifts s at end path len env made places rows params number w path′ made′ places′ hashes′ hints′ rows′ params′ number′ (namedOf n r)
     unfolding starts sheetOf
     entered-lift ns r clear e = record {
+      kept = kept;
       lifts = λ c base finished o held.
           let name = fresh base (taken (both s made) places (w .taken)) in
           let q = clear c o in

@@ -235,6 +235,7 @@ module _ (at done : ℕ) (name : Name) (env : List Bound) (own : Own) where
             deep = g .deep;
             deep-link = g .deep-link;
           };
+          ahead = omega arith;
           same = λ ws t. passes-const l at done name env own a x h ws t;
         })
 

@@ -2,7 +2,7 @@
 use mathlib.Core.Bool.{Bool, true, false}
 use mathlib.Core.List.{List, [], _∷_}
 use mathlib.Core.Path.{_≡_}
-use Prim.Native.Nat.{ℕ, zero, suc, _+_, _-_, _*_, _≤_, min}
+use Prim.Native.Nat.{ℕ, zero, suc, _+_, _-_, _*_, _≤_, _<_, min}
 use lib.Dec.{eqb}
 use lib.ListN.{length}
 use Rattle.definition.specs.Tree.{Name, wrap, vec, ints, Combinator, Inner, shell}
@@ -167,6 +167,7 @@ passed f e = record {
 pub record Passing (s path binders : List ℕ) (k : ℕ) (f : Frame) (n : Node) (e : ℕ) : Type 0 where
   pub next : Node
   pub frame : FrameIs s path binders k (passed f e) next
+  pub ahead : f .here < e
   pub same : (ws : List Wait) (t : Sheet) → run n ws t ≡ run next ws t
 
 -- the child at a place is done: "A Dependent field binds its label for the fields after it"

@@ -2,7 +2,7 @@
 use mathlib.Core.List.{List}
 use mathlib.Core.Path.{_≡_}
 use Prim.Native.Nat.{ℕ, _+_, _≤_, _<_}
-use lib.ListN.{length, set}
+use lib.ListN.{length, take, set}
 use Rattle.definition.specs.Code.{number}
 use Rattle.definition.specs.Res.{Res, bad, ok}
 use Rattle.definition.specs.Tree.{Name, Combinator}
@@ -50,6 +50,7 @@ Answers (bad k t) (Lift n call w) path sheet good = ⊥
 Answers (ok b t) (Refused c) path sheet good = ⊥
 
 pub record Lifts (s : List ℕ) (at end : ℕ) (path : List ℕ) (len : ℕ) (env : List Bound) (made places rows params number : List ℕ) (w : Counts) (path′ made′ places′ hashes′ hints′ rows′ params′ number′ : List ℕ) (r : Named) : Type 0 where
+  pub kept : take len path′ ≡ take len path
   pub lifts : (c : Combinator) (base : Name) (finished : List ℕ) → Whole s at end c → Held path len base
       → Answers (starts c at base env (sheetOf s made places rows params finished w)) r path′ (λ v. sheetOf s made′ places′ rows′ params′ finished v)
       (λ v. Tables s made′ places′ hashes′ hints′ rows′ params′ v × (number′ ≡ set number at (w .lifts + 1)) × (v .lifts ≡ w .lifts + 1))

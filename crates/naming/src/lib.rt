@@ -165,7 +165,7 @@ pub fn children_of(s: &[u8], at: usize) -> Begin
     }
 }
 
-fn minus(a: usize, b: usize) -> usize
+pub fn minus(a: usize, b: usize) -> usize
     ensures { λ r. ⌜ r ≡ a - b ⌝ }
 {
     if a < b {
@@ -288,7 +288,7 @@ pub fn next_of(s: &[u8], f: Frame) -> Next
 }
 
 // A sum, or 65,535 where it is larger.
-fn plus(a: usize, b: usize) -> usize
+pub fn plus(a: usize, b: usize) -> usize
     ensures { λ r. ⌜ r ≡ plus a b ⌝ }
 {
     if 65535 < a {

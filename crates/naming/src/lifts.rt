@@ -1,9 +1,9 @@
 // A lift: its name, its parameters and their binders, its row.
 use crate::Named;
+use fresh::fresh_generated_name;
 use lift::Counts;
 use lift::Lifted;
 use lift::enter_lift;
-use names::fresh::fresh_generated_name;
 use params::Params;
 use params::lift_params;
 ghost use mathlib.Core.Path.{_≡_};

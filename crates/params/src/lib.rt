@@ -3,8 +3,9 @@ use collect::Collected;
 use collect::collect_params;
 use collect::name_of_use;
 use lookup::same_name;
+use writer::least;
 ghost use mathlib.Core.Path.{_≡_};
-ghost use Prim.Native.Nat.{_-_, _≤_, min};
+ghost use Prim.Native.Nat.{_-_, _≤_};
 ghost use lib.Dec.{eqb};
 ghost use lib.ListN.{length};
 ghost use Rattle.definition.specs.Names.{eqName, before};
@@ -17,15 +18,6 @@ ghost use Rattle.params.specs.Params.{paramsAt};
 pub enum Params {
     Sorted(usize),
     Leftover,
-}
-
-fn least(x: usize, y: usize) -> usize
-    ensures { λ r. ⌜ r ≡ min x y ⌝ }
-{
-    if x < y {
-        return x;
-    }
-    y
 }
 
 // Whether one name comes before another in byte order.

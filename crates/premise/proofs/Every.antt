@@ -4,12 +4,12 @@ use mathlib.Core.Path.{_≡_, refl, sym, ap, _∙_}
 use mathlib.Core.Logic.{⊎-elim}
 use mathlib.Core.List.{List, [], _∷_}
 use mathlib.Core.Bool.{Bool, true, false, _&&_}
-use Prim.Native.Nat.{ℕ, suc, _+_, _-_, _≤_, _<_, min}
+use Prim.Native.Nat.{ℕ, suc, _+_, _-_, _≤_, _<_}
 use native.Mathlib.Omega.{arith}
 use native.Mathlib.Numerals.{add-one}
 use lib.Dec.{eqb, ltb}
-use lib.ListN.{length, take, drop, getD, length-drop}
-use lib.Seq.{drop-cons, take-all}
+use lib.ListN.{length, drop, getD, length-drop}
+use lib.Seq.{drop-cons}
 use borrow.Author.Tests.{eq-eqb, ne-eqb, lt-ltb, le-ltb}
 use Rattle.definition.specs.Tree.{Name, Inners, invocation, macro-invocation}
 use Rattle.definition.specs.Names.{elem}
@@ -20,8 +20,8 @@ use Rattle.seek.proofs.Here.{byte-here, next-here}
 use Rattle.lookup.specs.Name.{nameAt}
 use Rattle.lookup.proofs.Names.{stands}
 use Rattle.writer.proofs.Put.{within}
-use Rattle.names.specs.Taken.{both, Found}
-use Rattle.names.proofs.Rows.{found-not, found-is}
+use Rattle.fresh.specs.Taken.{both, Found}
+use Rattle.fresh.proofs.Rows.{found-not, found-is}
 use Rattle.calls.specs.Splice.{everyPlace}
 use Rattle.premise.specs.Known.{rowNames, knownAt}
 
@@ -74,9 +74,3 @@ module _ (test : ℕ → Bool) (marks : List ℕ) (i : ℕ) (e : everyPlace test
       short [] k = refl
       short (a ∷ []) k = refl
       short (a ∷ b ∷ l) k = absurd (omega arith)
-
-pub take-least : (n : ℕ) (l : List ℕ) (m : ℕ) → m ≡ min n (length l) → take m l ≡ take n l
-take-least n l m e = ⊎-elim
-    (λ (h : n ≤ length l). let q : m ≡ n = omega arith in rw q)
-    (λ (h : length l < n). let q : m ≡ length l = omega arith in rw q (take-all (length l) l (omega arith) ∙ sym (take-all n l (omega arith))))
-    (within n (length l))

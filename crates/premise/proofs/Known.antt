@@ -16,7 +16,7 @@ use Rattle.seek.specs.At.{byteAt, pastAt, numberAt}
 use Rattle.seek.specs.Here.{Here}
 use Rattle.lookup.specs.Name.{nameAt}
 use Rattle.lookup.proofs.Names.{stands}
-use Rattle.names.specs.Taken.{both, taken, Table, Hints, Grown, Listed as Row}
+use Rattle.fresh.specs.Taken.{both, taken, Table, Hints, Grown, Listed as Row}
 use Rattle.contents.specs.Listed.{Listed}
 use Rattle.contents.proofs.Listed.{listed-kind, listed-size, listed-body, listed-next, book-listed}
 use Rattle.premise.specs.Known.{Rows, Hinted, rowNames, Room, Adds, Takes, Taking, Named}

@@ -1,17 +1,16 @@
 // The premise test over an expanded book, on validated bytes: document 01's "Premise test and listing".
 use calls::Walk;
 use calls::combinator;
+use calls::first_marks;
 use contents::params_past;
+use fresh::find_name;
+use fresh::take_source_name;
 use lookup::name_at;
-use names::fresh::find_name;
-use names::fresh::take_source_name;
 use seek::byte;
 use seek::name_past;
 use seek::number;
 use seek::past;
 ghost use mathlib.Core.Path.{_≡_};
-ghost use Prim.Native.Nat.{min};
-ghost use lib.ListN.{take};
 ghost use Rattle.calls.specs.Splice.{everyPlace};
 ghost use Rattle.premise.specs.Known.{Takes, Named, Rows, knownAt};
 ghost use Rattle.premise.specs.Holds.{DefinitionHolds, FormatHolds, BodiesHold, Holds};
@@ -98,23 +97,6 @@ fn all_known(s: &[u8], marks: &[u16], places: &[u16], hashes: &[u16], n: usize) 
         }
     }
     true
-}
-
-fn least(x: usize, y: usize) -> usize
-    ensures { λ r. ⌜ r ≡ min x y ⌝ }
-{
-    if x < y {
-        return x;
-    }
-    y
-}
-
-// The first n marks.
-fn first_marks(marks: &[u16], n: usize) -> &[u16]
-    ensures { λ r. ⌜ now r ≡ take n (now (marks .entry)) ⌝ }
-{
-    let end = least(n, marks.len());
-    &marks[..end]
 }
 
 // The format at a place: its body, behind its name and its parameters.

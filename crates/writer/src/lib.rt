@@ -54,7 +54,7 @@ pub fn put_bytes(src: &[u8], dst: &mut [u8], at: usize) -> usize
     at + src.len()
 }
 
-fn least(x: usize, y: usize) -> usize
+pub fn least(x: usize, y: usize) -> usize
     ensures { λ r. ⌜ r ≡ min x y ⌝ }
 {
     if x < y {

@@ -6,7 +6,7 @@ use Rattle.calls.proofs.entered.Statement.{statement}
 use Rattle.calls.proofs.entered.Tie as tie
 use Rattle.calls.proofs.entered.Reads as reads
 use Rattle.calls.proofs.entered.Lts as lts
-use Rattle.calls.proofs.least.Reads as least-reads
+use Rattle.writer.proofs.least.Reads as least-reads
 
 least-requires : tie.Need-least-requires
 least-requires c κs = search needs

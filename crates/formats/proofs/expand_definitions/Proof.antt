@@ -1,10 +1,46 @@
+-- `formats::expand_definitions` meets its contract.
+-- Assumes nothing.
+use Prim.Native.Nat.{ℕ}
+use native.Mathlib.Omega.{arith}
+use lib.ListN.{length-replicate}
+use borrow.Author.Needs.{needs}
+use Rattle.formats.proofs.Start.{space, the-book, good, expands}
 use Rattle.formats.proofs.expand_definitions.Statement.{statement}
 use Rattle.formats.proofs.expand_definitions.Tie as tie
-use Rattle.formats.proofs.expand_definitions.Reads as reads
-use Rattle.formats.proofs.expand_definitions.Lts as lts
+
+expand-in-order-requires : tie.Need-expand-in-order-requires
+expand-in-order-requires c κs =
+    let p = c .before .before .before .before .before .before .before .before .before .before .before .before .before .before .before .before .before .before .before .before .before .before .before .before .before .before .before .pre in (
+      good p (c .before .before .before .before .before .before .before .before .before .before .before .before .before .before .before .before .before .take-at-start .ensures) (c .before .before .before .before .before .before .before .before .before .before .before .before .before .number .ensures) (omega (arith, c .before .before .before .before .before .before .before .before .before .before .before .before .before .before .before .before .places2 .given)) (omega (arith, c .before .before .before .before .before .before .before .before .before .before .before .before .before .before .before .hashes2 .given)) (omega (arith, c .before .before .before .before .before .before .before .before .before .before .before .before .before .before .hints2 .given)),
+      space (the-book p) (λ i. omega (arith, c .before .before .before .before .before .before .before .before .before .before .before .before .before .before .before .before .before .before .before .before .before .before .before .before .before .before .shared-slice-known .given i)) (length-replicate {0} {A = ℕ} 255 0) (length-replicate {0} {A = ℕ} 16384 0) (length-replicate {0} {A = ℕ} 16384 0) (length-replicate {0} {A = ℕ} 16384 0) (length-replicate {0} {A = ℕ} 16384 0),
+      the-book p,
+    )
 
 returns : tie.Need-returns
-returns c = c .pre .0 _ _ _ _ _ _ _
+returns c = expands (c .before .before .before .before .before .before .before .before .before .before .before .before .before .before .before .before .before .before .before .before .before .before .before .before .before .before .before .before .before .before .before .before .before .before .before .before .before .before .before .before .before .before .before .before .before .before .pre) (c .before .before .before .before .before .before .before .before .before .before .before .before .before .before .before .before .before .before .before .before .before .before .before .before .before .before .before .before .before .before .before .before .before .before .before .before .take-at-start .ensures) (c .before .before .before .before .before .before .before .before .before .before .before .before .before .before .before .before .before .before .before .before .before .before .before .before .before .before .before .before .before .before .before .before .number .ensures) (c .before .before .before .before .before .before .before .before .before .before .before .before .before .before .before .before .before .before .expand-in-order .ensures)
 
 pub expand-definitions-spec : {M : Type 1} → statement M
-expand-definitions-spec = tie.close (tie.spec returns)
+expand-definitions-spec =
+    tie.close
+    (tie.spec
+    (λ c. search needs)
+    (λ c. search needs)
+    (λ c. search needs)
+    (λ c κs. search needs)
+    (λ c κs. search needs)
+    (λ c. search needs)
+    (λ c. search needs)
+    (λ c. search needs)
+    (λ c. search needs)
+    (λ c. search needs)
+    (λ c. search needs)
+    (λ c. search needs)
+    (λ c. search needs)
+    (λ c. search needs)
+    expand-in-order-requires
+    (λ c. search needs)
+    (λ c. search needs)
+    (λ c. search needs)
+    (λ c. search needs)
+    (λ c. search needs)
+    returns)

@@ -11,7 +11,7 @@ use Rattle.macros.proofs.expand_macros.Reads as reads
 use Rattle.macros.proofs.expand_macros.Lts as lts
 use Rattle.macros.proofs.book.count_kept.Reads as count-kept-reads
 use Rattle.macros.proofs.book.expand_all.Reads as expand-all-reads
-use Rattle.macros.proofs.least.Reads as least-reads
+use Rattle.writer.proofs.least.Reads as least-reads
 use Rattle.macros.proofs.table.table.Reads as table-reads
 use Rattle.writer.proofs.put_u16.Reads as put-u16-reads
 

@@ -6,7 +6,7 @@ use Rattle.premise.proofs.take_defined.Statement.{statement}
 use Rattle.premise.proofs.take_defined.Tie as tie
 use Rattle.premise.proofs.take_defined.Reads as reads
 use Rattle.premise.proofs.take_defined.Lts as lts
-use Rattle.names.proofs.fresh.take_source_name.Reads as take-source-name-reads
+use Rattle.fresh.proofs.take_source_name.Reads as take-source-name-reads
 
 returns : tie.Need-returns
 returns c = takes-low (c .if1 .taken)

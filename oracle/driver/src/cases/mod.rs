@@ -14,11 +14,12 @@ mod scope;
 pub mod short;
 pub mod sweep;
 
+pub use damage::seal;
 pub use exact::both_sides;
 pub use place::{along, STEPS, TAGS};
+pub use rng::Rng;
 
 use plain::Size;
-use rng::Rng;
 
 /// What a case was made to try.
 #[derive(Debug, Clone, Copy, PartialEq, Eq, Hash, PartialOrd, Ord)]

@@ -28,7 +28,7 @@ slice-aggregate-lift-book : tie.Need-slice-aggregate-lift-book
 slice-aggregate-lift-book c = simp length-take (omega (arith, (rw (c .before .before .opened2 .given .1) at (c .before .before .before .before .before .before .open-book .ensures)) .by .fits, c .before .before .before .before .before .work .given))
 
 lift-book-requires : tie.Need-lift-book-requires
-lift-book-requires c κs = (c .before .before .before .before .before .before .before .before .before .before .before .before .pre, opened-book (rw (c .before .before .before .opened2 .given .1) at (c .before .before .before .before .before .before .before .open-book .ensures)))
+lift-book-requires c κs = opened-book (rw (c .before .before .before .opened2 .given .1) at (c .before .before .before .before .before .before .before .open-book .ensures))
 
 same-length : tie.Need-same-length
 same-length c = search needs

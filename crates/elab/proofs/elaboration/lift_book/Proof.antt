@@ -28,7 +28,7 @@ slice-aggregate-expand-definitions-5 : tie.Need-slice-aggregate-expand-definitio
 slice-aggregate-expand-definitions-5 c = search needs
 
 expand-definitions-requires : tie.Need-expand-definitions-requires
-expand-definitions-requires c κs = (c .before .before .before .before .before .before .before .pre .0, starts (c .before .before .before .before .before .before .before .pre .1) (length-replicate {0} {A = ℕ} 8192 0) (length-replicate {0} {A = ℕ} 2560 0) (length-replicate {0} {A = ℕ} 13108 0) (length-replicate {0} {A = ℕ} 16384 0) (length-replicate {0} {A = ℕ} 512 0) (λ p. zero-at 16384 p))
+expand-definitions-requires c κs = starts (c .before .before .before .before .before .before .before .pre) (length-replicate {0} {A = ℕ} 8192 0) (length-replicate {0} {A = ℕ} 2560 0) (length-replicate {0} {A = ℕ} 13108 0) (length-replicate {0} {A = ℕ} 16384 0) (length-replicate {0} {A = ℕ} 512 0) (λ p. zero-at 16384 p)
 
 enum-known-body : tie.Need-enum-known-body
 enum-known-body c = search needs
@@ -40,13 +40,13 @@ returns : tie.Need-returns
 returns c = lifts-short (rw (c .before .before .before .body2 .given .1) at (c .before .before .before .before .before .before .before .before .before .before .expand-definitions .ensures)) (c .if1 .taken)
 
 cast-length : tie.Need-cast-length
-cast-length c = let p = c .before .before .before .before .before .before .before .before .before .before .before .before .before .before .before .before .before .before .before .pre in omega (arith, small (rw (c .before .before .before .before .body2 .given .1) at (c .before .before .before .before .before .before .before .before .before .before .before .expand-definitions .ensures)) (p .1) .bytes)
+cast-length c = let p = c .before .before .before .before .before .before .before .before .before .before .before .before .before .before .before .before .before .before .before .pre in omega (arith, small (rw (c .before .before .before .before .body2 .given .1) at (c .before .before .before .before .before .before .before .before .before .before .before .expand-definitions .ensures)) p .bytes)
 
 cast-definitions : tie.Need-cast-definitions
-cast-definitions c = let p = c .before .before .before .before .before .before .before .before .before .before .before .before .before .before .before .before .before .before .before .before .pre in omega (arith, small (rw (c .before .before .before .before .before .body2 .given .1) at (c .before .before .before .before .before .before .before .before .before .before .before .before .expand-definitions .ensures)) (p .1) .defns)
+cast-definitions c = let p = c .before .before .before .before .before .before .before .before .before .before .before .before .before .before .before .before .before .before .before .before .pre in omega (arith, small (rw (c .before .before .before .before .before .body2 .given .1) at (c .before .before .before .before .before .before .before .before .before .before .before .before .expand-definitions .ensures)) p .defns)
 
 cast-lifted : tie.Need-cast-lifted
-cast-lifted c = let p = c .before .before .before .before .before .before .before .before .before .before .before .before .before .before .before .before .before .before .before .before .pre in omega (arith, small (rw (c .before .before .before .before .before .body2 .given .1) at (c .before .before .before .before .before .before .before .before .before .before .before .before .expand-definitions .ensures)) (p .1) .lifts)
+cast-lifted c = let p = c .before .before .before .before .before .before .before .before .before .before .before .before .before .before .before .before .before .before .before .before .pre in omega (arith, small (rw (c .before .before .before .before .before .body2 .given .1) at (c .before .before .before .before .before .before .before .before .before .before .before .before .expand-definitions .ensures)) p .lifts)
 
 slice-aggregate-write-result : tie.Need-slice-aggregate-write-result
 slice-aggregate-write-result c = search needs

@@ -1,7 +1,6 @@
 -- `macros::book/count_kept` meets its contract.
 -- Assumes nothing.
 use borrow.Author.Needs.{needs}
-use mathlib.Core.Path.{refl}
 use Prim.Native.Nat.{ℕ, _+_, _≤_}
 use native.Mathlib.Omega.{arith}
 use Rattle.macros.specs.Left.{Counting}
@@ -20,55 +19,42 @@ Inv-loop book left₀ entry₀ n₀ left entry n = (n + left ≤ 65535) × ((r :
 abbrev μ-loop : tie.MeasureT-loop
 μ-loop book left₀ entry₀ n₀ left entry n = left
 
--- src/book.rt:127:20
 number-requires : tie.Need-number-requires Inv-loop μ-loop
 number-requires c κs = search needs
 
--- src/book.rt:127:20
 cast-left : tie.Need-cast-left Inv-loop μ-loop
 cast-left c = search needs
 
--- src/book.rt:128:9
 past-requires : tie.Need-past-requires Inv-loop μ-loop
 past-requires c κs = search needs
 
--- src/book.rt:130:5
 loop-holds : tie.Need-loop-holds Inv-loop μ-loop
 loop-holds c = (omega arith, λ r p. p)
 
--- src/book.rt:131:13
 byte-requires : tie.Need-byte-requires Inv-loop μ-loop
 byte-requires c κs = search needs
 
--- src/book.rt:132:9
 past-requires-2 : tie.Need-past-requires-2 Inv-loop μ-loop
 past-requires-2 c κs = search needs
 
--- src/book.rt:133:9
 sub-left : tie.Need-sub-left Inv-loop μ-loop
 sub-left c = search needs
 
--- src/book.rt:135:13
 add-n : tie.Need-add-n Inv-loop μ-loop
 add-n c = search needs
 
--- src/book.rt:130:5
 loop-less : tie.Need-loop-less Inv-loop μ-loop
 loop-less c = search needs
 
--- src/book.rt:130:5
 loop-again : tie.Need-loop-again Inv-loop μ-loop
 loop-again c = (omega arith, λ r p. c .before .before .before .before .loop .inv .1 r (counting-kept (c .before .before .before .loop-test .taken) (c .before .before .byte .ensures) (c .before .past2 .ensures) (c .if1 .taken) p))
 
--- src/book.rt:130:5
 loop-less-2 : tie.Need-loop-less-2 Inv-loop μ-loop
 loop-less-2 c = search needs
 
--- src/book.rt:130:5
 loop-again-2 : tie.Need-loop-again-2 Inv-loop μ-loop
 loop-again-2 c = (omega arith, λ r p. c .before .before .before .before .loop .inv .1 r (counting-macro (c .before .before .before .loop-test .taken) (c .before .before .byte .ensures) (c .before .past2 .ensures) (c .if1 .left) p))
 
--- src/book.rt:124:1
 returns : tie.Need-returns Inv-loop μ-loop
 returns c = counted (c .before .before .before .number .ensures) (c .before .before .past .ensures) (c .before .loop .inv .1 _ (counting-none (omega arith)))
 

@@ -23,63 +23,48 @@ abbrev μ-loop : tie.MeasureT-loop
 μ-loop macros places hashes rows book a₀ b₀ marks₀ row₀ out₀ bodies left₀ entry₀ at₀ e₀ o₀ a b marks row out left entry at e o =
     left
 
--- src/book.rt:157:20
 number-requires : tie.Need-number-requires Inv-loop μ-loop
 number-requires c κs = search needs
 
--- src/book.rt:157:20
 cast-left : tie.Need-cast-left Inv-loop μ-loop
 cast-left c = search needs
 
--- src/book.rt:158:9
 past-requires : tie.Need-past-requires Inv-loop μ-loop
 past-requires c κs = search needs
 
--- src/book.rt:159:32
 mul-past : tie.Need-mul-past Inv-loop μ-loop
 mul-past c = search needs
 
--- src/book.rt:159:9
 past-requires-2 : tie.Need-past-requires-2 Inv-loop μ-loop
 past-requires-2 c κs = search needs
 
--- src/book.rt:162:5
 loop-holds : tie.Need-loop-holds Inv-loop μ-loop
 loop-holds c = record { a-long = refl; b-long = refl; marks-long = refl; row-long = refl; out-long = refl; goes = λ d r l. l }
 
--- src/book.rt:163:13
 byte-requires : tie.Need-byte-requires Inv-loop μ-loop
 byte-requires c κs = search needs
 
--- src/book.rt:164:13
 past-requires-3 : tie.Need-past-requires-3 Inv-loop μ-loop
 past-requires-3 c κs = search needs
 
--- src/book.rt:165:20
 number-requires-2 : tie.Need-number-requires-2 Inv-loop μ-loop
 number-requires-2 c κs = search needs
 
--- src/book.rt:165:20
 cast-size : tie.Need-cast-size Inv-loop μ-loop
 cast-size c = search needs
 
--- src/book.rt:166:13
 past-requires-4 : tie.Need-past-requires-4 Inv-loop μ-loop
 past-requires-4 c κs = search needs
 
--- src/book.rt:167:9
 past-requires-5 : tie.Need-past-requires-5 Inv-loop μ-loop
 past-requires-5 c κs = search needs
 
--- src/book.rt:168:9
 sub-left : tie.Need-sub-left Inv-loop μ-loop
 sub-left c = search needs
 
--- src/book.rt:162:5
 loop-less : tie.Need-loop-less Inv-loop μ-loop
 loop-less c = search needs
 
--- src/book.rt:162:5
 loop-again : tie.Need-loop-again Inv-loop μ-loop
 loop-again c =
     let l = c .before .before .before .before .before .before .before .loop .inv in
@@ -92,50 +77,39 @@ loop-again c =
       goes = λ d r x. l .goes d r (listing-macro (c .before .before .before .before .before .before .loop-test .taken) (c .before .before .before .before .before .byte .ensures) (c .before .before .before .number2 .ensures ∙ rw (c .before .before .before .before .past3 .ensures)) (c .before .before .past4 .ensures) (c .before .past5 .ensures) (c .if1 .taken) x);
     }
 
--- src/book.rt:173:13
 expand-definition-requires : tie.Need-expand-definition-requires Inv-loop μ-loop
 expand-definition-requires c κs = search needs
 
--- src/book.rt:175:13
 same-length : tie.Need-same-length Inv-loop μ-loop
 same-length c = c .before .before .before .before .before .before .before .before .before .before .a .given ∙ c .before .before .before .before .before .before .before .before .before .before .before .before .before .before .before .before .before .before .before .before .before .before .before .before .loop .inv .a-long
 
--- src/book.rt:175:13
 same-length-2 : tie.Need-same-length-2 Inv-loop μ-loop
 same-length-2 c = c .before .before .before .before .before .before .before .before .b .given ∙ c .before .before .before .before .before .before .before .before .before .before .before .before .before .before .before .before .before .before .before .before .before .before .before .before .loop .inv .b-long
 
--- src/book.rt:175:13
 same-length-3 : tie.Need-same-length-3 Inv-loop μ-loop
 same-length-3 c = c .before .before .before .before .before .before .marks .given ∙ c .before .before .before .before .before .before .before .before .before .before .before .before .before .before .before .before .before .before .before .before .before .before .before .before .loop .inv .marks-long
 
--- src/book.rt:175:13
 same-length-4 : tie.Need-same-length-4 Inv-loop μ-loop
 same-length-4 c = c .before .before .before .before .row .given ∙ c .before .before .before .before .before .before .before .before .before .before .before .before .before .before .before .before .before .before .before .before .before .before .before .before .loop .inv .row-long
 
--- src/book.rt:175:13
 same-length-5 : tie.Need-same-length-5 Inv-loop μ-loop
 same-length-5 c = c .before .before .out .given ∙ c .before .before .before .before .before .before .before .before .before .before .before .before .before .before .before .before .before .before .before .before .before .before .before .before .loop .inv .out-long
 
--- src/book.rt:175:13
 returns : tie.Need-returns Inv-loop μ-loop
 returns c =
     booked (c .before .before .before .before .before .before .before .before .before .before .before .before .before .before .before .before .before .before .before .before .before .before .before .before .before .before .before .number .ensures) (c .before .before .before .before .before .before .before .before .before .before .before .before .before .before .before .before .before .before .before .before .before .before .before .before .before .before .past .ensures) (c .before .before .before .before .before .before .before .before .before .before .before .before .before .before .before .before .before .before .before .before .before .before .before .before .before .past2 .ensures)
     (c .before .before .before .before .before .before .before .before .before .before .before .before .before .before .before .before .before .before .before .before .before .before .before .before .loop .inv .goes _ _
     (listing-stop (c .before .before .before .before .before .before .before .before .before .before .before .before .before .before .before .before .before .before .before .before .before .before .before .loop-test .taken) (c .before .before .before .before .before .before .before .before .before .before .before .before .before .before .before .before .before .before .before .before .before .before .byte .ensures) (c .before .before .before .before .before .before .before .before .before .before .before .before .before .before .before .before .before .before .before .before .number2 .ensures ∙ rw (c .before .before .before .before .before .before .before .before .before .before .before .before .before .before .before .before .before .before .before .before .before .past3 .ensures)) (c .before .before .before .before .before .before .before .before .before .before .before .before .before .before .before .before .before .before .before .past4 .ensures) (c .before .before .before .before .before .before .before .before .before .before .before .before .before .before .before .before .before .before .past5 .ensures) (c .before .before .before .before .before .before .before .before .before .before .before .before .before .before .before .before .before .if1 .left) (c .before .before .before .before .before .before .before .before .before .before .before .expand-definition .ensures) (c .before .before .out .given) (c .if2 .taken)))
 
--- src/book.rt:177:13
 minus-requires : tie.Need-minus-requires Inv-loop μ-loop
 minus-requires c κs = search needs
 
--- src/book.rt:178:9
 put-entry-requires : tie.Need-put-entry-requires Inv-loop μ-loop
 put-entry-requires c κs = search needs
 
--- src/book.rt:162:5
 loop-less-2 : tie.Need-loop-less-2 Inv-loop μ-loop
 loop-less-2 c = omega (arith, c .before .before .before .before .before .before .before .before .before .before .before .before .before .before .before .before .before .before .before .before .before .before .before .before .before .before .before .before .loop-test .taken)
 
--- src/book.rt:162:5
 loop-again-2 : tie.Need-loop-again-2 Inv-loop μ-loop
 loop-again-2 c =
     let l = c .before .before .before .before .before .before .before .before .before .before .before .before .before .before .before .before .before .before .before .before .before .before .before .before .before .before .before .before .before .loop .inv in
@@ -150,27 +124,21 @@ loop-again-2 c =
           (c .before .before .before .before .before .if2 .left) (c .before .before .before .before .minus .ensures) (c .before .before .put-entry .ensures) (c .before .before .before .before .before .before .before .before .before .before .before .before .before .before .before .a .given) (c .before .before .before .before .before .before .before .before .before .before .before .before .before .b .given) (c .before .before .before .before .before .before .before .before .before .before .before .marks .given) (c .before .before .before .before .before .before .before .before .before .row .given) x);
     }
 
--- src/book.rt:142:1
 same-length-6 : tie.Need-same-length-6 Inv-loop μ-loop
 same-length-6 c = c .before .loop .inv .a-long
 
--- src/book.rt:142:1
 same-length-7 : tie.Need-same-length-7 Inv-loop μ-loop
 same-length-7 c = c .before .loop .inv .b-long
 
--- src/book.rt:142:1
 same-length-8 : tie.Need-same-length-8 Inv-loop μ-loop
 same-length-8 c = c .before .loop .inv .marks-long
 
--- src/book.rt:142:1
 same-length-9 : tie.Need-same-length-9 Inv-loop μ-loop
 same-length-9 c = c .before .loop .inv .row-long
 
--- src/book.rt:142:1
 same-length-10 : tie.Need-same-length-10 Inv-loop μ-loop
 same-length-10 c = c .before .loop .inv .out-long
 
--- src/book.rt:142:1
 returns-2 : tie.Need-returns-2 Inv-loop μ-loop
 returns-2 c = booked (c .before .before .before .before .number .ensures) (c .before .before .before .past .ensures) (c .before .before .past2 .ensures) (c .before .loop .inv .goes _ _ (listing-none (omega arith)))
 

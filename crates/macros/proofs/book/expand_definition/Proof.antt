@@ -10,47 +10,36 @@ use Rattle.macros.proofs.book.expand_format.Reads as expand-format-read
 use Rattle.seek.proofs.past.Reads as past-reads
 use Rattle.writer.proofs.put_part.Reads as put-part-reads
 
--- src/book.rt:107:9
 expand-format-requires : tie.Need-expand-format-requires
 expand-format-requires c κs = search needs
 
--- src/book.rt:107:9
 same-length : tie.Need-same-length
 same-length c = search needs
 
--- src/book.rt:107:9
 same-length-2 : tie.Need-same-length-2
 same-length-2 c = search needs
 
--- src/book.rt:107:9
 same-length-3 : tie.Need-same-length-3
 same-length-3 c = search needs
 
--- src/book.rt:107:9
 same-length-4 : tie.Need-same-length-4
 same-length-4 c = search needs
 
--- src/book.rt:107:9
 same-length-5 : tie.Need-same-length-5
 same-length-5 c = search needs
 
--- src/book.rt:107:9
 returns : tie.Need-returns
 returns c = kept-format (c .before .before .before .before .before .before .before .before .before .before .before .before .before .before .before .before .if1 .taken) (c .before .before .before .before .before .before .before .before .before .before .expand-format .ensures)
 
--- src/book.rt:109:9
 past-requires : tie.Need-past-requires
 past-requires c κs = search needs
 
--- src/book.rt:110:5
 put-part-requires : tie.Need-put-part-requires
 put-part-requires c κs = search needs
 
--- src/book.rt:88:1
 same-length-6 : tie.Need-same-length-6
 same-length-6 c = search needs
 
--- src/book.rt:88:1
 returns-2 : tie.Need-returns-2
 returns-2 c = kept-copied (c .before .before .before .before .before .if1 .left) (c .before .before .before .before .past .ensures) (c .before .before .put-part .ensures)
 

@@ -10,35 +10,27 @@ use Rattle.macros.proofs.book.put_entry.Lts as lts
 use Rattle.writer.proofs.put_byte.Reads as put-byte-reads
 use Rattle.writer.proofs.put_u16.Reads as put-u16-reads
 
--- src/book.rt:117:9
 put-byte-requires : tie.Need-put-byte-requires
 put-byte-requires c κs = search needs
 
--- src/book.rt:118:9
 put-byte-requires-2 : tie.Need-put-byte-requires-2
 put-byte-requires-2 c κs = search needs
 
--- src/book.rt:119:21
 cast-put-u16 : tie.Need-cast-put-u16
 cast-put-u16 c = search needs
 
--- src/book.rt:119:9
 put-u16-requires : tie.Need-put-u16-requires
 put-u16-requires c κs = search needs
 
--- src/book.rt:120:13
 cast-put-u16-2 : tie.Need-cast-put-u16-2
 cast-put-u16-2 c = search needs
 
--- src/book.rt:120:5
 put-u16-requires-2 : tie.Need-put-u16-requires-2
 put-u16-requires-2 c κs = search needs
 
--- src/book.rt:114:1
 same-length : tie.Need-same-length
 same-length c = search needs
 
--- src/book.rt:114:1
 returns : tie.Need-returns
 unfolding wU16
 returns c = glue (c .before .before .before .before .before .before .before .before .before .before .before .before .before .before .put-byte .ensures) (glue (c .before .before .before .before .before .before .before .before .before .before .put-byte2 .ensures) (glue (c .before .before .before .before .before .before .put-u16 .ensures) (c .before .before .put-u162 .ensures)))

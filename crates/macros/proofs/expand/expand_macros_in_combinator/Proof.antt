@@ -10,7 +10,7 @@ use Rattle.macros.proofs.expand.expand_macros_in_combinator.Statement.{
 use Rattle.macros.proofs.expand.expand_macros_in_combinator.Tie as tie
 use Rattle.macros.proofs.expand.expand_macros_in_combinator.Reads as reads
 use Rattle.macros.proofs.expand.expand_macros_in_combinator.Lts as lts
-use Rattle.macros.proofs.call.expand_call.Reads as expand-call-reads
+use Rattle.substitution.proofs.call.expand_call.Reads as expand-call-reads
 use Rattle.macros.proofs.expand.macro_of.Reads as macro-of-reads
 use Rattle.writer.proofs.put_part.Reads as put-part-reads
 
@@ -22,87 +22,66 @@ abbrev μ-loop : tie.MeasureT-loop
 μ-loop macros places hashes rows book from to marks a₀ b₀ row₀ out₀ start copied₀ o₀ i₀ a b row out copied o i =
     length marks - i
 
--- src/expand.rt:45:5
 loop-holds : tie.Need-loop-holds Inv-loop μ-loop
 loop-holds c = record { low = omega arith; a-long = refl; b-long = refl; row-long = refl; out-long = refl; goes = λ d r e. e }
 
--- src/expand.rt:45:11
 add-loop : tie.Need-add-loop Inv-loop μ-loop
 add-loop c = search needs
 
--- src/expand.rt:46:20
 mul-call : tie.Need-mul-call Inv-loop μ-loop
 mul-call c = search needs
 
--- src/expand.rt:46:20
 shared-slice-read-call : tie.Need-shared-slice-read-call Inv-loop μ-loop
 shared-slice-read-call c = search needs
 
--- src/expand.rt:46:20
 cast-call : tie.Need-cast-call Inv-loop μ-loop
 cast-call c = omega (arith, c .shared-slice-known6 .given (c .before .before .loop .i))
 
--- src/expand.rt:47:25
 add-end : tie.Need-add-end Inv-loop μ-loop
 add-end c = search needs
 
--- src/expand.rt:47:19
 mul-end : tie.Need-mul-end Inv-loop μ-loop
 mul-end c = search needs
 
--- src/expand.rt:47:19
 shared-slice-read-end : tie.Need-shared-slice-read-end Inv-loop μ-loop
 shared-slice-read-end c = search needs
 
--- src/expand.rt:47:19
 cast-end : tie.Need-cast-end Inv-loop μ-loop
 cast-end c = omega (arith, c .shared-slice-known7 .given (c .before .before .before .loop .i + 1))
 
--- src/expand.rt:48:9
 add-i : tie.Need-add-i Inv-loop μ-loop
 add-i c = search needs
 
--- src/expand.rt:49:13
 macro-of-requires : tie.Need-macro-of-requires Inv-loop μ-loop
 macro-of-requires c κs = search needs
 
--- src/expand.rt:51:25
 enum-known-found : tie.Need-enum-known-found Inv-loop μ-loop
 enum-known-found c = search needs
 
--- src/expand.rt:52:21
 put-part-requires : tie.Need-put-part-requires Inv-loop μ-loop
 put-part-requires c κs = search needs
 
--- src/expand.rt:53:17
 expand-call-requires : tie.Need-expand-call-requires Inv-loop μ-loop
 expand-call-requires c κs = search needs
 
--- src/expand.rt:56:21
 same-length : tie.Need-same-length Inv-loop μ-loop
 same-length c = c .before .before .before .before .before .before .before .before .a .given ∙ c .before .before .before .before .before .before .before .before .before .before .before .before .before .before .before .before .before .before .before .before .before .before .before .before .before .loop .inv .a-long
 
--- src/expand.rt:56:21
 same-length-2 : tie.Need-same-length-2 Inv-loop μ-loop
 same-length-2 c = c .before .before .before .before .before .before .b .given ∙ c .before .before .before .before .before .before .before .before .before .before .before .before .before .before .before .before .before .before .before .before .before .before .before .before .before .loop .inv .b-long
 
--- src/expand.rt:56:21
 same-length-3 : tie.Need-same-length-3 Inv-loop μ-loop
 same-length-3 c = c .before .before .before .before .row .given ∙ c .before .before .before .before .before .before .before .before .before .before .before .before .before .before .before .before .before .before .before .before .before .before .before .before .before .loop .inv .row-long
 
--- src/expand.rt:56:21
 same-length-4 : tie.Need-same-length-4 Inv-loop μ-loop
 same-length-4 c = c .before .before .out2 .given ∙ c .before .before .before .before .before .before .before .before .before .before .before .before .before .before .before .out .given ∙ c .before .before .before .before .before .before .before .before .before .before .before .before .before .before .before .before .before .before .before .before .before .before .before .before .before .loop .inv .out-long
 
--- src/expand.rt:56:21
 returns : tie.Need-returns Inv-loop μ-loop
 returns c = c .before .before .before .before .before .before .before .before .before .before .before .before .before .before .before .before .before .before .before .before .before .before .before .before .before .loop .inv .goes _ _ (expanding-stop (c .before .before .before .before .before .before .before .before .before .before .before .before .before .before .before .before .before .before .before .before .before .before .before .before .loop-test .taken) (rw (c .before .before .before .before .before .before .before .before .before .before .before .before .before .before .before .before .before .before .before .found .given .1) at (c .before .before .before .before .before .before .before .before .before .before .before .before .before .before .before .before .before .before .before .before .before .macro-of .ensures)) (c .before .before .before .before .before .before .before .before .before .before .before .before .before .before .before .before .put-part .ensures) (c .before .before .before .before .before .before .before .before .before .expand-call .ensures) (c .before .before .out2 .given) (c .if1 .taken))
 
--- src/expand.rt:45:5
 loop-less : tie.Need-loop-less Inv-loop μ-loop
 loop-less c = search needs
 
--- src/expand.rt:45:5
 loop-again : tie.Need-loop-again Inv-loop μ-loop
 loop-again c =
     let l = c .before .before .before .before .before .before .before .before .before .before .before .before .before .before .before .before .before .before .before .before .before .before .before .before .before .loop .inv in
@@ -119,38 +98,30 @@ loop-again c =
 enum-told : tie.Need-enum-told Inv-loop μ-loop
 enum-told c = search needs
 
--- src/expand.rt:45:5
 loop-less-2 : tie.Need-loop-less-2 Inv-loop μ-loop
 loop-less-2 c = search needs
 
--- src/expand.rt:45:5
 loop-again-2 : tie.Need-loop-again-2 Inv-loop μ-loop
 loop-again-2 c =
     let l = c .before .before .before .before .before .before .loop .inv in
     let t = c .before .before .before .before .before .loop-test .taken in
     record { low = omega arith; a-long = l .a-long; b-long = l .b-long; row-long = l .row-long; out-long = l .out-long; goes = λ d r e. l .goes d r (expanding-on t (rw (c .enum-told .given .1) at (c .before .before .macro-of .ensures)) e) }
 
--- src/expand.rt:62:5
 put-part-requires-2 : tie.Need-put-part-requires-2 Inv-loop μ-loop
 put-part-requires-2 c κs = search needs
 
--- src/expand.rt:25:1
 same-length-5 : tie.Need-same-length-5 Inv-loop μ-loop
 same-length-5 c = c .before .before .before .before .before .loop .inv .a-long
 
--- src/expand.rt:25:1
 same-length-6 : tie.Need-same-length-6 Inv-loop μ-loop
 same-length-6 c = c .before .before .before .before .before .loop .inv .b-long
 
--- src/expand.rt:25:1
 same-length-7 : tie.Need-same-length-7 Inv-loop μ-loop
 same-length-7 c = c .before .before .before .before .before .loop .inv .row-long
 
--- src/expand.rt:25:1
 same-length-8 : tie.Need-same-length-8 Inv-loop μ-loop
 same-length-8 c = c .before .out3 .given ∙ c .before .before .before .before .before .loop .inv .out-long
 
--- src/expand.rt:25:1
 returns-2 : tie.Need-returns-2 Inv-loop μ-loop
 returns-2 c = c .before .before .before .before .before .loop .inv .goes _ _ (expanding-all (omega arith) (c .before .before .put-part2 .ensures))
 

@@ -12,27 +12,21 @@ use Rattle.macros.proofs.table.find_macro.Reads as find-macro-reads
 use Rattle.seek.proofs.byte.Reads as byte-reads
 use Rattle.seek.proofs.past.Reads as past-reads
 
--- src/expand.rt:15:9
 byte-requires : tie.Need-byte-requires
 byte-requires c κs = search needs
 
--- src/expand.rt:16:9
 past-requires : tie.Need-past-requires
 past-requires c κs = search needs
 
--- src/expand.rt:18:27
 name-at-requires : tie.Need-name-at-requires
 name-at-requires c κs = search needs
 
--- src/expand.rt:18:9
 find-macro-requires : tie.Need-find-macro-requires
 find-macro-requires c κs = search needs
 
--- src/expand.rt:18:9
 returns : tie.Need-returns
 returns c = found-macro (sym (c .before .before .before .before .byte .ensures) ∙ c .before .before .if1 .taken) (c .before .name-at .ensures ∙ rw (c .before .before .before .past .ensures)) (c .find-macro .ensures)
 
--- src/expand.rt:12:1
 returns-2 : tie.Need-returns-2
 returns-2 c = no-macro (λ e. c .if1 .left (c .before .before .byte .ensures ∙ e))
 

@@ -2,9 +2,9 @@
 -- Assumes nothing.
 use borrow.Author.Needs.{needs}
 use mathlib.Core.Path.{_≡_}
-use Prim.Native.Nat.{ℕ, _≤_}
+use Prim.Native.Nat.{_≤_}
 use native.Mathlib.Omega.{arith}
-use Rattle.names.specs.Taken.{hashOf}
+use Rattle.fresh.specs.Taken.{hashOf}
 use Rattle.macros.specs.declared.table.Found.{Found}
 use Rattle.macros.specs.Table.{FindsMacro}
 use Rattle.macros.proofs.Rows.{found-none, found-here, found-on}
@@ -12,7 +12,7 @@ use Rattle.macros.proofs.table.find_macro.Statement.{statement}
 use Rattle.macros.proofs.table.find_macro.Tie as tie
 use Rattle.macros.proofs.table.find_macro.Reads as reads
 use Rattle.macros.proofs.table.find_macro.Lts as lts
-use Rattle.macros.proofs.table.name_hash.Reads as name-hash-reads
+use Rattle.fresh.proofs.name_hash.Reads as name-hash-reads
 use Rattle.macros.proofs.table.same_row.Reads as same-row-reads
 
 abbrev Inv-loop : tie.InvT-loop
@@ -21,47 +21,36 @@ Inv-loop name macros places hashes n hash i₀ i = (i ≤ n) × (hash ≡ hashOf
 abbrev μ-loop : tie.MeasureT-loop
 μ-loop name macros places hashes n hash i₀ i = i
 
--- src/table.rt:53:9
 name-hash-requires : tie.Need-name-hash-requires Inv-loop μ-loop
 name-hash-requires c κs = search needs
 
--- src/table.rt:55:5
 loop-holds : tie.Need-loop-holds Inv-loop μ-loop
 loop-holds c = (omega arith, c .name-hash .ensures, λ r f. f)
 
--- src/table.rt:56:66
 sub-same-row : tie.Need-sub-same-row Inv-loop μ-loop
 sub-same-row c = search needs
 
--- src/table.rt:56:13
 same-row-requires : tie.Need-same-row-requires Inv-loop μ-loop
 same-row-requires c κs = search needs
 
--- src/table.rt:58:25
 enum-known-found : tie.Need-enum-known-found Inv-loop μ-loop
 enum-known-found c = search needs
 
--- src/table.rt:59:17
 returns : tie.Need-returns Inv-loop μ-loop
 returns c = c .before .before .before .before .before .loop .inv .2 _ (found-here (c .before .before .before .before .loop-test .taken) (c .before .before .before .before .before .loop .inv .1) (rw (c .before .found .given .1) at (c .before .before .before .same-row .ensures)))
 
--- src/table.rt:62:17
 enum-told : tie.Need-enum-told Inv-loop μ-loop
 enum-told c = search needs
 
--- src/table.rt:62:17
 sub-i : tie.Need-sub-i Inv-loop μ-loop
 sub-i c = search needs
 
--- src/table.rt:55:5
 loop-less : tie.Need-loop-less Inv-loop μ-loop
 loop-less c = search needs
 
--- src/table.rt:55:5
 loop-again : tie.Need-loop-again Inv-loop μ-loop
 loop-again c = (omega arith, c .before .before .before .before .loop .inv .1, λ r f. c .before .before .before .before .loop .inv .2 r (found-on (c .before .before .before .loop-test .taken) (c .before .before .before .before .loop .inv .1) (rw (c .enum-told .given .1) at (c .before .before .same-row .ensures)) f))
 
--- src/table.rt:50:1
 returns-2 : tie.Need-returns-2 Inv-loop μ-loop
 returns-2 c = c .before .loop .inv .2 _ (found-none (omega arith))
 

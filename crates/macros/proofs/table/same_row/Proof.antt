@@ -10,51 +10,39 @@ use Rattle.macros.proofs.table.same_row.Lts as lts
 use Rattle.lookup.proofs.name_at.Reads as name-at-reads
 use Rattle.lookup.proofs.same_name.Reads as same-name-reads
 
--- src/table.rt:34:9
 returns : tie.Need-returns
 returns c = row-past-places (c .if1 .taken)
 
--- src/table.rt:37:9
 returns-2 : tie.Need-returns-2
 returns-2 c = row-past-hashes (c .if2 .taken)
 
--- src/table.rt:39:8
 mul-if3 : tie.Need-mul-if3
 mul-if3 c = search needs
 
--- src/table.rt:39:8
 shared-slice-read-if3 : tie.Need-shared-slice-read-if3
 shared-slice-read-if3 c = search needs
 
--- src/table.rt:40:9
 returns-3 : tie.Need-returns-3
 returns-3 c = row-other-hash (c .if3 .taken)
 
--- src/table.rt:42:14
 mul-at : tie.Need-mul-at
 mul-at c = search needs
 
--- src/table.rt:42:14
 shared-slice-read-at : tie.Need-shared-slice-read-at
 shared-slice-read-at c = search needs
 
--- src/table.rt:42:14
 cast-at : tie.Need-cast-at
 cast-at c = omega (arith, c .shared-slice-known6 .given (c .before .before .before .before .before .before .before .before .before .args .i))
 
--- src/table.rt:43:18
 name-at-requires : tie.Need-name-at-requires
 name-at-requires c κs = search needs
 
--- src/table.rt:43:8
 same-name-requires : tie.Need-same-name-requires
 same-name-requires c κs = search needs
 
--- src/table.rt:44:9
 returns-4 : tie.Need-returns-4
 returns-4 c = row-is (c .before .before .name-at .ensures) (c .before .same-name .ensures) (c .if4 .taken)
 
--- src/table.rt:30:1
 returns-5 : tie.Need-returns-5
 returns-5 c = row-not (c .before .before .name-at .ensures) (c .before .same-name .ensures) (c .if4 .left)
 

@@ -19,67 +19,51 @@ Inv-loop macros places₀ hashes₀ left₀ entry₀ at₀ n₀ places hashes le
 abbrev μ-loop : tie.MeasureT-loop
 μ-loop macros places₀ hashes₀ left₀ entry₀ at₀ n₀ places hashes left entry at n = left
 
--- src/table.rt:91:20
 number-requires : tie.Need-number-requires Inv-loop μ-loop
 number-requires c κs = search needs
 
--- src/table.rt:91:20
 cast-left : tie.Need-cast-left Inv-loop μ-loop
 cast-left c = search needs
 
--- src/table.rt:92:9
 past-requires : tie.Need-past-requires Inv-loop μ-loop
 past-requires c κs = search needs
 
--- src/table.rt:93:34
 mul-past : tie.Need-mul-past Inv-loop μ-loop
 mul-past c = search needs
 
--- src/table.rt:93:9
 past-requires-2 : tie.Need-past-requires-2 Inv-loop μ-loop
 past-requires-2 c κs = search needs
 
--- src/table.rt:95:5
 loop-holds : tie.Need-loop-holds Inv-loop μ-loop
 loop-holds c = record { places-long = refl; hashes-long = refl; goes = λ p h r t. t }
 
--- src/table.rt:96:13
 byte-requires : tie.Need-byte-requires Inv-loop μ-loop
 byte-requires c κs = search needs
 
--- src/table.rt:97:13
 past-requires-3 : tie.Need-past-requires-3 Inv-loop μ-loop
 past-requires-3 c κs = search needs
 
--- src/table.rt:98:20
 number-requires-2 : tie.Need-number-requires-2 Inv-loop μ-loop
 number-requires-2 c κs = search needs
 
--- src/table.rt:98:20
 cast-size : tie.Need-cast-size Inv-loop μ-loop
 cast-size c = search needs
 
--- src/table.rt:99:9
 take-macro-requires : tie.Need-take-macro-requires Inv-loop μ-loop
 take-macro-requires c κs = search needs
 
--- src/table.rt:100:9
 past-requires-4 : tie.Need-past-requires-4 Inv-loop μ-loop
 past-requires-4 c κs = search needs
 
--- src/table.rt:101:9
 past-requires-5 : tie.Need-past-requires-5 Inv-loop μ-loop
 past-requires-5 c κs = search needs
 
--- src/table.rt:102:9
 sub-left : tie.Need-sub-left Inv-loop μ-loop
 sub-left c = search needs
 
--- src/table.rt:95:5
 loop-less : tie.Need-loop-less Inv-loop μ-loop
 loop-less c = search needs
 
--- src/table.rt:95:5
 loop-again : tie.Need-loop-again Inv-loop μ-loop
 loop-again c =
     let l = c .before .before .before .before .before .before .before .before .before .before .before .before .before .loop .inv in
@@ -89,15 +73,12 @@ loop-again c =
       goes = λ p h r t. l .goes p h r (tabling-step (c .before .before .before .before .before .before .before .before .before .before .before .before .loop-test .taken) (c .before .before .before .before .before .before .before .before .before .before .before .byte .ensures) (c .before .before .before .before .before .before .before .before .before .number2 .ensures ∙ rw (c .before .before .before .before .before .before .before .before .before .before .past3 .ensures)) (c .before .before .before .before .before .before .take-macro .ensures) (c .before .past4 .ensures) (c .past5 .ensures) (c .before .before .before .before .before .places .given) (c .before .before .before .hashes .given) t);
     }
 
--- src/table.rt:88:1
 same-length : tie.Need-same-length Inv-loop μ-loop
 same-length c = search needs
 
--- src/table.rt:88:1
 same-length-2 : tie.Need-same-length-2 Inv-loop μ-loop
 same-length-2 c = search needs
 
--- src/table.rt:88:1
 returns : tie.Need-returns Inv-loop μ-loop
 returns c = tabled (c .before .before .before .before .number .ensures) (c .before .before .before .past .ensures) (c .before .before .past2 .ensures) (c .before .loop .inv .goes _ _ _ (tabling-none (omega arith)))
 

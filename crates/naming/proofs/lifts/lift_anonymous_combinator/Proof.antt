@@ -13,7 +13,7 @@ fresh-requires : tie.Need-fresh-generated-name-requires
 fresh-requires c κs = let t = c .before .before .before .before .before .before .before .before .before .before .before .before .before .before .before .before .before .before .pre .0 in (t .table, t .hinted, omega (arith, c .before .before .before .before .before .before .before .before .before .before .before .before .before .before .before .before .before .before .pre .3), omega (arith, t .few .1, t .defns-most))
 
 returns : tie.Need-returns
-returns c = refused-name (c .before .before .before .before .before .fresh-generated-name .ensures .0 .named) (omega (arith, c .before .before .before .before .before .before .before .before .before .before .before .before .before .before .before .before .before .before .before .before .before .before .before .before .pre .3, c .before .before .before .before .path .given)) (omega (arith, c .before .before .before .before .before .before .before .before .before .before .before .before .before .before .before .before .before .before .before .before .before .before .before .before .pre .3, c .before .before .before .before .path .given, c .if1 .taken))
+returns c = refused-name (c .before .before .before .before .before .fresh-generated-name .ensures .0 .named) (c .before .before .before .before .before .fresh-generated-name .ensures .0 .kept) (omega (arith, c .before .before .before .before .before .before .before .before .before .before .before .before .before .before .before .before .before .before .before .before .before .before .before .before .pre .3, c .before .before .before .before .path .given)) (omega (arith, c .before .before .before .before .before .before .before .before .before .before .before .before .before .before .before .before .before .before .before .before .before .before .before .before .pre .3, c .before .before .before .before .path .given, c .if1 .taken))
 
 enter-requires : tie.Need-enter-lift-requires
 enter-requires c κs =
@@ -39,7 +39,7 @@ returns-2 c =
     let s = c .before .before .before .before .before .before .before .before .before .before .before .before .before .before .before .before .before .before .before .before .before .before .before .before .before .before .before .before .before .before .before .before .before .before .before .before in
     let p = s .pre in
     let e = c .before .before .before .before .before .before .before .before .lift-params .ensures .0 in
-    refused-macro (c .before .before .before .before .before .before .before .before .before .before .before .before .before .before .before .before .before .fresh-generated-name .ensures .0 .named) (omega (arith, p .3, c .before .before .before .before .before .before .before .before .before .before .before .before .before .before .before .before .path .given)) (omega (arith, p .3, c .before .before .before .before .before .before .before .before .before .before .before .before .before .before .before .before .path .given, c .before .before .before .before .before .before .before .before .before .before .before .before .if1 .left)) (λ a w. left-over w (s .args .bound .now) (s .args .uses .now) (s .args .spare .now) (p .2) (p .0 .source) (sym e ∙ c .enum-told .given .1))
+    refused-macro (c .before .before .before .before .before .before .before .before .before .before .before .before .before .before .before .before .before .fresh-generated-name .ensures .0 .named) (c .before .before .before .before .before .before .before .before .before .before .before .before .before .before .before .before .before .fresh-generated-name .ensures .0 .kept) (omega (arith, p .3, c .before .before .before .before .before .before .before .before .before .before .before .before .before .before .before .before .path .given)) (omega (arith, p .3, c .before .before .before .before .before .before .before .before .before .before .before .before .before .before .before .before .path .given, c .before .before .before .before .before .before .before .before .before .before .before .before .if1 .left)) (λ a w. left-over w (s .args .bound .now) (s .args .uses .now) (s .args .spare .now) (p .2) (p .0 .source) (sym e ∙ c .enum-told .given .1))
 
 same-14 : tie.Need-same-length-14
 same-14 c = omega (arith, c .before .before .before .before .before .before .before .before .before .before .before .before .before .before .before .before .before .before .before .before .before .before .before .before .before .before .before .before .before .before .before .before .before .before .before .before .before .before .before .before .before .before .path .given)
@@ -54,7 +54,7 @@ returns-3 c =
     let g = c .before .before .before .before .before .before .before .before .before .before .before .before .before .before .before .before .before .before .before .before .before .before .before .before .before .before .before .before .before .before .before .before .before .before .lift-params .ensures in
     let e = sym (g .0) ∙ c .before .before .before .before .before .before .before .before .before .before .before .before .before .before .before .before .before .before .before .before .before .before .before .before .before .before .found .given .1 in
     rw (c .named-of .ensures)
-    (entered-lift (c .before .before .before .before .before .before .before .before .before .before .before .before .before .before .before .before .before .before .before .before .before .before .before .before .before .before .before .before .before .before .before .before .before .before .before .before .before .before .before .before .before .before .before .fresh-generated-name .ensures .0 .named) (omega (arith, p .3, c .before .before .before .before .before .before .before .before .before .before .before .before .before .before .before .before .before .before .before .before .before .before .before .before .before .before .before .before .before .before .before .before .before .before .before .before .before .before .before .before .before .before .path .given)) (omega (arith, p .3, c .before .before .before .before .before .before .before .before .before .before .before .before .before .before .before .before .before .before .before .before .before .before .before .before .before .before .before .before .before .before .before .before .before .before .before .before .before .before .before .before .before .before .path .given, c .before .before .before .before .before .before .before .before .before .before .before .before .before .before .before .before .before .before .before .before .before .before .before .before .before .before .before .before .before .before .before .before .before .before .before .before .before .before .if1 .left)) _ _
+    (entered-lift (c .before .before .before .before .before .before .before .before .before .before .before .before .before .before .before .before .before .before .before .before .before .before .before .before .before .before .before .before .before .before .before .before .before .before .before .before .before .before .before .before .before .before .before .fresh-generated-name .ensures .0 .named) (c .before .before .before .before .before .before .before .before .before .before .before .before .before .before .before .before .before .before .before .before .before .before .before .before .before .before .before .before .before .before .before .before .before .before .before .before .before .before .before .before .before .before .before .fresh-generated-name .ensures .0 .kept) (omega (arith, p .3, c .before .before .before .before .before .before .before .before .before .before .before .before .before .before .before .before .before .before .before .before .before .before .before .before .before .before .before .before .before .before .before .before .before .before .before .before .before .before .before .before .before .before .path .given)) (omega (arith, p .3, c .before .before .before .before .before .before .before .before .before .before .before .before .before .before .before .before .before .before .before .before .before .before .before .before .before .before .before .before .before .before .before .before .before .before .before .before .before .before .before .before .before .before .path .given, c .before .before .before .before .before .before .before .before .before .before .before .before .before .before .before .before .before .before .before .before .before .before .before .before .before .before .before .before .before .before .before .before .before .before .before .before .before .before .if1 .left)) _ _
     (λ a w. (clear w (s .args .bound .now) (s .args .uses .now) (s .args .spare .now) (p .2) (p .0 .source) e, rw (g .2) (are-sorted w (s .args .bound .now) (s .args .uses .now) (s .args .spare .now) (p .2) (p .0 .source) e)))
     (c .before .before .before .before .before .before .before .before .before .before .before .before .before .before .before .enter-lift .ensures))
 

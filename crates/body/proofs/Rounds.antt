@@ -1,0 +1,264 @@
+-- The loop over a body: for every tree that may stand there and every name that the path may hold.
+-- Assumes nothing.
+use mathlib.Core.Path.{_≡_, refl, sym, ap, _∙_}
+use mathlib.Core.Logic.{⊎-elim}
+use mathlib.Core.List.{List, [], _∷_, _++_}
+use Prim.Native.Nat.{ℕ, zero, suc, _+_, _-_, _*_, _≤_, _<_, min}
+use native.Mathlib.Omega.{arith}
+use lib.ListN.{length, take, getD, set, length-append}
+use lib.Seq.{take-all, take-append-le}
+use Rattle.definition.specs.Res.{Res, bad, ok}
+use Rattle.definition.specs.Tree.{Name, Combinator}
+use Rattle.definition.specs.Size.{size, levels}
+use Rattle.seek.proofs.Here.{here-length}
+use Rattle.writer.proofs.Put.{within}
+use Rattle.names.specs.Name.{Held}
+use Rattle.lift.specs.declared.Counts.{Counts}
+use Rattle.lift.specs.Bound.{boundFrom, Sized}
+use Rattle.lift.specs.Sheet.{Sheet, sheetOf, Tables}
+use Rattle.lift.proofs.Entered.{cut-length}
+use Rattle.naming.specs.declared.Frame.{Frame}
+use Rattle.naming.specs.Walk.{Extent, walk}
+use Rattle.naming.specs.Nodes.{walked, Node, nodeOf, Wait, run}
+use Rattle.naming.specs.Frames.{OwnIs, frameAt, FrameIs, Closing, passed, Passing, bindBy, boundAfter, delivered}
+use Rattle.naming.specs.Lifts.{Whole, Some, Scratch}
+use Rattle.naming.proofs.Machine.{run-root}
+use Rattle.naming.proofs.Opened.{frame-opens}
+use Rattle.body.specs.Walks.{Good, Ready, Ends, Walks}
+use Rattle.body.specs.Steps.{Reached, Reaches, StepIs, Sound, weight, SomeChild, Refuses, Opened, ChildIs, Comes, closedOf, orderOf}
+use Rattle.body.specs.declared.Body.{Body}
+use Rattle.body.specs.declared.Body.the-variants.{Named, Refused}
+use Rattle.body.specs.declared.steps.Step.{Step}
+use Rattle.body.specs.declared.steps.Step.the-variants as step
+use Rattle.body.specs.declared.steps.Child.{Child}
+use Rattle.body.specs.declared.steps.Child.the-variants as comes
+use Rattle.body.specs.declared.steps.Closed.{Closed}
+use Rattle.body.proofs.Children.{frame-sound}
+use Rattle.body.proofs.Stack.{no-frame, Waits, Stack, waiting, lifting, Going}
+use Rattle.body.proofs.Turns.{less-pass, goes-pass, child-levels, child-few, goes-open, less-open, ends-refused, good-closed, ends-last, goes-back, less-back}
+
+-- a tree that stands there, and a name that the path holds
+pub record Root (s : List ℕ) (at end : ℕ) (path : List ℕ) (len : ℕ) : Type 0 where
+  pub tree : Combinator
+  pub name : Name
+  pub whole : Whole s at end tree
+  pub held : Held path len name
+
+record Holds (path : List ℕ) (len : ℕ) : Type 0 where
+  name : Name
+  held : Held path len name
+
+holds : (path : List ℕ) (len : ℕ) → length path ≡ 255 → len ≤ 256 → Holds path len
+holds path len l h = ⊎-elim short long (within len 255)
+  where
+    short : len ≤ 255 → Holds path len
+    short k =
+        let e : length (take len path) ≡ len = cut-length path len (omega arith) in
+        record { name = take len path; held = record { place = omega arith; bytes = sym (take-all (length path) (take len path) (omega arith)) } }
+
+    long : 255 < len → Holds path len
+    long k =
+        let e = length-append path (0 ∷ []) in
+        record { name = path ++ (0 ∷ []); held = record { place = omega arith; bytes = take-all len path (omega arith) ∙ sym (take-append-le (length path) path (0 ∷ []) (omega arith) ∙ take-all (length path) path (omega arith)) } }
+
+pub record Round (s : List ℕ) (at end : ℕ) (path₀ : List ℕ) (len : ℕ) (binders₀ : List ℕ) (b : ℕ) (made₀ places₀ rows₀ params₀ order₀ : List ℕ) (w₀ : Counts) (n₀ : ℕ)
+    (path binders bound uses spare made places hashes hints rows params number order : List ℕ) (frames : List Frame) (f : Frame) (d : ℕ) (w : Counts) (n : ℕ) : Type 0 where
+  pub root : Root s at end path₀ len
+  pub goes : (x : Root s at end path₀ len) → Going s path binders bound uses spare made places hashes hints rows params number order frames f d w n
+      (walk (x .tree) at (x .name) (boundFrom s binders₀ 0 b) (sheetOf s made₀ places₀ rows₀ params₀ (take n₀ order₀) w₀))
+
+-- what is left to walk
+abbrev pub left : List ℕ → List Frame → Frame → ℕ → ℕ
+left s frames f d = weight s f + waiting frames d (f .last)
+
+-- ---- the start
+module _ {s : List ℕ} {at end : ℕ} {path : List ℕ} {len : ℕ} {binders : List ℕ} {b : ℕ} {bound uses spare made places hashes hints rows params number order : List ℕ} {w : Counts} {n : ℕ} where
+  pub round-start : {frames : List Frame} {f : Frame} → len ≤ 256 → Good s made places hashes hints rows params number order w n → Ready s at end path binders b bound uses spare → f ≡ frameAt s at end len b 0 0 → length frames ≡ 64
+      → Round s at end path len binders b made places rows params order w n path binders bound uses spare made places hashes hints rows params number order frames f 0 w n
+  unfolding frameAt OwnIs Stack lifting
+  round-start h good r ef l = rw ef (record {
+    root = let y = holds path len (r .path-long) h in record { tree = r .stands .what; name = y .name; whole = r .stands .whole; held = y .held };
+    goes = λ x.
+        let c = x .tree in
+        let e = x .whole in
+        let small = good .tables .source in
+        record {
+          node = nodeOf c at (x .name) (boundFrom s binders 0 b) walked;
+          waits = [];
+          top = frame-opens (omega arith) c (e .after) 63 at end len b 0 0 (x .name) (boundFrom s binders 0 b) walked (e .is) (omega (arith, e .deep)) (omega arith) (x .held) refl refl (r .few);
+          stack = refl;
+          same = run-root c at (x .name) (boundFrom s binders 0 b) (sheetOf s made places rows params (take n order) w);
+          good = good;
+          scratch = r .scratch;
+          path-long = r .path-long;
+          binders-long = r .binders-long;
+          frames-long = l;
+          sized = r .sized;
+          sound = frame-sound small c (e .after) end len b 0 0 (e .deep) (e .is) (omega arith) (λ k. absurd (omega arith));
+          deep = omega arith;
+          open-lifts = omega (arith, good .finished);
+        };
+  })
+
+module _ {s : List ℕ} {at end : ℕ} {path₀ : List ℕ} {len : ℕ} {binders₀ : List ℕ} {b : ℕ} {made₀ places₀ rows₀ params₀ order₀ : List ℕ} {w₀ : Counts} {n₀ : ℕ}
+    {path binders bound uses spare made places hashes hints rows params number order : List ℕ} {frames : List Frame} {f : Frame} {d : ℕ} {w : Counts} {n : ℕ}
+    (R : Round s at end path₀ len binders₀ b made₀ places₀ rows₀ params₀ order₀ w₀ n₀ path binders bound uses spare made places hashes hints rows params number order frames f d w n) where
+  source : length s ≤ 16384
+  source = R .goes (R .root) .good .tables .source
+
+  pub frames-long : length frames ≡ 64
+  frames-long = R .goes (R .root) .frames-long
+
+  pub round-deep : d ≤ 63
+  round-deep = R .goes (R .root) .deep
+
+  pub pass-safe : f .child ≤ 65536
+  pass-safe = let g = R .goes (R .root) in omega (arith, source, g .sound .child, g .sound .ends, g .top .ends)
+
+  pub close-safe : n ≤ 65536
+  close-safe = let g = R .goes (R .root) in let t = g .good .tables in omega (arith, g .good .finished, t .few .0, t .defns-most)
+
+  abbrev p : Frame
+  p = getD frames (d - 1) no-frame
+
+  resume-by : (ws : List Wait) → 0 < d → Stack s path binders frames d (f .place) (f .last) (f .len) (f .bound) ws → (p .bound ≤ 65535) × (p .child ≤ 65536)
+  unfolding Stack
+  resume-by [] h x = absurd (omega arith)
+  resume-by (y ∷ ws) h x = let v = x .1 in let e = v .sound in let z = v .frame .ends in (omega (arith, v .frame .few, e .ends, source), omega (arith, e .child, e .ends, source))
+
+  pub resume-safe : 0 < d → (p .bound ≤ 65535) × (p .child ≤ 65536)
+  resume-safe h = let g = R .goes (R .root) in resume-by (g .waits) h (g .stack)
+
+  module _ (path′ : List ℕ) {r : Step} (st : StepIs s f path path′ r) where
+    -- ---- a Const field
+    pass-path : {e : ℕ} → r ≡ step.Pass e → path′ ≡ path
+    unfolding StepIs
+    pass-path q = (rw q at st) .0
+
+    passing : {e : ℕ} → r ≡ step.Pass e → (x : Root s at end path₀ len) → Passing s path binders (63 - d) f (R .goes x .node) e
+    unfolding StepIs
+    passing q x = (rw q at st) .1 binders (63 - d) (R .goes x .node) source (R .goes x .top)
+
+    pub round-pass : {e : ℕ} {h : Frame} → r ≡ step.Pass e → h ≡ passed f e
+        → Round s at end path₀ len binders₀ b made₀ places₀ rows₀ params₀ order₀ w₀ n₀ path′ binders bound uses spare made places hashes hints rows params number order frames h d w n
+    round-pass q eh = rw (pass-path q, eh) (record { root = R .root; goes = λ x. goes-pass (R .goes x) (passing q x) })
+
+    pub round-less-pass : {e : ℕ} {h : Frame} → r ≡ step.Pass e → h ≡ passed f e → left s frames h d < left s frames f d
+    unfolding passed
+    round-less-pass q eh = rw eh (omega (arith, less-pass (passing q (R .root))))
+
+    -- ---- the end of a node
+    module _ (q : r ≡ step.Done) {z : Closed} {order′ : List ℕ} (ez : z ≡ closedOf f n) (eo : order′ ≡ orderOf f order n) where
+      done-path : path′ ≡ path
+      unfolding StepIs
+      done-path = (rw q at st) .0
+
+      closing : (x : Root s at end path₀ len) → Closing f (R .goes x .node)
+      unfolding StepIs
+      closing x = (rw q at st) .1 binders (63 - d) (R .goes x .node) source (R .goes x .top)
+
+      pub walks-last : d ≡ 0 → Walks s at end path₀ len binders₀ b made₀ places₀ rows₀ params₀ order₀ w₀ n₀ made places hashes hints rows params number order′ (Named w (z .finished))
+      unfolding Ends
+      walks-last e = rw (ez, eo) (record {
+        walks = λ c name wh held.
+            let x : Root s at end path₀ len = record { tree = c; name = name; whole = wh; held = held } in
+            rw (← (ends-last (R .goes x) (closing x) e)) (refl, good-closed (R .goes x));
+      })
+
+      module _ (some : 0 < d) {h : Frame} {binders′ : List ℕ} (eh : h ≡ delivered p (f .place) (f .last) (z .whole) (boundAfter s p)) (eb : binders′ ≡ bindBy s p (f .place) (z .inner) binders) where
+        pub round-back : Round s at end path₀ len binders₀ b made₀ places₀ rows₀ params₀ order₀ w₀ n₀ path′ binders′ bound uses spare made places hashes hints rows params number order′ frames h (d - 1) w (z .finished)
+        round-back = rw (done-path, eb, eo, eh, ez) (record { root = R .root; goes = λ x. goes-back (R .goes x) (closing x) some })
+
+        pub round-less-back : left s frames h (d - 1) < left s frames f d
+        round-less-back = rw (eh, ez) (less-back (R .goes (R .root)) some)
+
+    -- ---- a child
+    module _ {place l : ℕ} (q : r ≡ step.Child place l) (long : length path′ ≡ length path) where
+      reached : (x : Root s at end path₀ len) → Reached s (63 - d) f (R .goes x .node) path′ place l
+      unfolding StepIs
+      reached x = (rw q at st) .reaches binders (63 - d) (R .goes x .node) source (R .goes x .top)
+
+      step-kept : take (f .len) path′ ≡ take (f .len) path
+      unfolding StepIs
+      step-kept = (rw q at st) .kept
+
+      pub open-safe : Tables s made places hashes hints rows params w × SomeChild s place × Scratch s bound uses spare × (length path′ ≡ 255) × (f .bound ≤ 65536) × Sized binders (f .bound)
+      open-safe =
+          let g = R .goes (R .root) in
+          let o = reached (R .root) .opening in (
+            g .good .tables,
+            record { what = o .child; stands = o .stands; deep = omega (arith, o .deep) },
+            g .scratch,
+            long ∙ g .path-long,
+            omega (arith, g .top .few, o .behind, o .stands .is .reach, source),
+            g .sized,
+          )
+
+      module _ {path₂ made′ places′ hashes′ hints′ rows′ params′ number′ : List ℕ} {t : Child} (come : Comes s place path′ l binders (f .bound) made places hashes hints rows params number w path₂ made′ places′ hashes′ hints′ rows′ params′ number′ t) where
+        child-is : (x : Root s at end path₀ len) → ChildIs s path₂ binders (63 - (d + 1)) place l (f .bound) (reached x .opening .child) (R .goes x .node) (reached x .opening .wait) (sheetOf s made places rows params (take n order) w) (w .lifts)
+            (λ v. sheetOf s made′ places′ rows′ params′ (take n order) v) (λ v. Good s made′ places′ hashes′ hints′ rows′ params′ number′ order v n) t
+        child-is x =
+            let g = R .goes x in
+            let y = reached x in
+            come .comes (y .opening .child) (y .base) (63 - (d + 1)) (g .node) (y .opening .wait) order n (y .opening .stands) (child-levels g y) (omega arith) (y .held) (y .opening .opens) (g .top .env) (child-few g y) (g .good)
+
+        pub walks-refused : {e : ℕ} → t ≡ comes.Refused e → Walks s at end path₀ len binders₀ b made₀ places₀ rows₀ params₀ order₀ w₀ n₀ made′ places′ hashes′ hints′ rows′ params′ number′ order (Refused e)
+        unfolding ChildIs
+        walks-refused et = record {
+          walks = λ c name wh held.
+              let x : Root s at end path₀ len = record { tree = c; name = name; whole = wh; held = held } in
+              ends-refused (R .goes x) (reached x) _ _ ((rw et at (child-is x)) (R .goes x .waits));
+        }
+
+        module _ {h : Frame} {v : Counts} (et : t ≡ comes.Opened h v) where
+          opened : (x : Root s at end path₀ len) → Opened s path₂ binders (63 - (d + 1)) place l (f .bound) (reached x .opening .child) (R .goes x .node) (reached x .opening .wait) (sheetOf s made places rows params (take n order) w) (sheetOf s made′ places′ rows′ params′ (take n order) v) (w .lifts) h v
+          unfolding ChildIs
+          opened x = (rw et at (child-is x)) .0
+
+          good-opened : (x : Root s at end path₀ len) → Good s made′ places′ hashes′ hints′ rows′ params′ number′ order v n
+          unfolding ChildIs
+          good-opened x = (rw et at (child-is x)) .1
+
+          pub round-open : {bound′ uses′ spare′ : List ℕ} → length path₂ ≡ length path′ → length bound′ ≡ length bound → length uses′ ≡ length uses → length spare′ ≡ length spare
+              → Round s at end path₀ len binders₀ b made₀ places₀ rows₀ params₀ order₀ w₀ n₀ path₂ binders bound′ uses′ spare′ made′ places′ hashes′ hints′ rows′ params′ number′ order (set frames d f) h (d + 1) v n
+          round-open l₂ lb lu ls = record { root = R .root; goes = λ x. goes-open (R .goes x) (reached x) (opened x) refl (good-opened x) long (l₂ ∙ long) step-kept (come .kept) lb lu ls }
+
+          pub round-less-open : left s (set frames d f) h (d + 1) < left s frames f d
+          round-less-open = less-open (R .goes (R .root)) (reached (R .root)) (opened (R .root))
+
+pub some : (a : ℕ) → (a ≡ 0 → ⊥) → 0 < a
+some zero h = absurd (h refl)
+some (suc a) h = omega arith
+
+-- ---- what is lent keeps its length
+pub record Lengths (path₀ binders₀ bound₀ uses₀ spare₀ made₀ places₀ hashes₀ hints₀ rows₀ params₀ number₀ order₀ path₁ binders₁ bound₁ uses₁ spare₁ made₁ places₁ hashes₁ hints₁ rows₁ params₁ number₁ order₁ : List ℕ) : Type 0 where
+  pub path : length path₁ ≡ length path₀
+  pub binders : length binders₁ ≡ length binders₀
+  pub bound : length bound₁ ≡ length bound₀
+  pub uses : length uses₁ ≡ length uses₀
+  pub spare : length spare₁ ≡ length spare₀
+  pub made : length made₁ ≡ length made₀
+  pub places : length places₁ ≡ length places₀
+  pub hashes : length hashes₁ ≡ length hashes₀
+  pub hints : length hints₁ ≡ length hints₀
+  pub rows : length rows₁ ≡ length rows₀
+  pub params : length params₁ ≡ length params₀
+  pub number : length number₁ ≡ length number₀
+  pub order : length order₁ ≡ length order₀
+
+pub lengths-on : {path₀ binders₀ bound₀ uses₀ spare₀ made₀ places₀ hashes₀ hints₀ rows₀ params₀ number₀ order₀ path binders bound uses spare made places hashes hints rows params number order path′ binders′ bound′ uses′ spare′ made′ places′ hashes′ hints′ rows′ params′ number′ order′ : List ℕ} → Lengths path₀ binders₀ bound₀ uses₀ spare₀ made₀ places₀ hashes₀ hints₀ rows₀ params₀ number₀ order₀ path binders bound uses spare made places hashes hints rows params number order → Lengths path binders bound uses spare made places hashes hints rows params number order path′ binders′ bound′ uses′ spare′ made′ places′ hashes′ hints′ rows′ params′ number′ order′ → Lengths path₀ binders₀ bound₀ uses₀ spare₀ made₀ places₀ hashes₀ hints₀ rows₀ params₀ number₀ order₀ path′ binders′ bound′ uses′ spare′ made′ places′ hashes′ hints′ rows′ params′ number′ order′
+lengths-on x y = record {
+  path = y .path ∙ x .path;
+  binders = y .binders ∙ x .binders;
+  bound = y .bound ∙ x .bound;
+  uses = y .uses ∙ x .uses;
+  spare = y .spare ∙ x .spare;
+  made = y .made ∙ x .made;
+  places = y .places ∙ x .places;
+  hashes = y .hashes ∙ x .hashes;
+  hints = y .hints ∙ x .hints;
+  rows = y .rows ∙ x .rows;
+  params = y .params ∙ x .params;
+  number = y .number ∙ x .number;
+  order = y .order ∙ x .order;
+}

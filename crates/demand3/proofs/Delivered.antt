@@ -1,0 +1,75 @@
+-- Demand 3 about the bytes that are written, and about the premise test's answer.
+use mathlib.Core.Path.{_≡_, refl}
+use mathlib.Core.List.{List, [], _++_}
+use mathlib.Core.Bool.{Bool, true, false, _&&_}
+use Prim.Native.Nat.{ℕ, _+_, _-_, _≤_}
+use native.Mathlib.Omega.{arith}
+use lib.Dec.{leb}
+use lib.ListN.{length, drop, length-append}
+use lib.Seq.{take-append-seam, drop-append-seam}
+use borrow.Author.Tests.{leb-true, le-leb}
+use Rattle.definition.specs.Res.{ok}
+use Rattle.definition.specs.Code.{work-short}
+use Rattle.definition.specs.Out.{Out, refused, done, given}
+use Rattle.definition.specs.Contents.{readBook}
+use Rattle.definition.specs.Write.{wBook}
+use Rattle.definition.specs.Answer.{expanded, Result, all, answered, attempt, answer}
+use Rattle.definition.specs.Premise.{callsKnown, chainsPlain, tested, told, premise}
+use Rattle.laws.proofs.Tests.{both-true}
+use Rattle.laws.proofs.Steps.{yielded, did-out, did-given}
+use Rattle.laws.proofs.Results.{attempt-yields, result-is-book}
+use Rattle.demand3.specs.Delivered.{Delivered, AcceptedIsDelivered, Premises, YesIsPremises}
+use Rattle.demand3.proofs.Agree.{calls-known, known-calls, chains-plain, plain-chains}
+use Rattle.demand3.proofs.Demand3.{Comes, comes}
+
+-- the lifted ones are the last
+module _ (book : List ℕ) (r : Result) (c : Comes book r) (out : List ℕ) where
+  abbrev bytesOf : List ℕ
+  bytesOf = wBook (all r)
+
+  delivered : readBook bytesOf ≡ ok (all r) [] → Delivered book (answered (done r)) (bytesOf ++ drop (length bytesOf) out)
+  unfolding answered
+  delivered e =
+      let n : length (all r) - length (r .lifted) ≡ length (r .kept) = simp length-append (omega arith) in
+      record {
+        list = c .list;
+        expands = c .expands;
+        result = all r;
+        reads = rw (take-append-seam bytesOf (drop (length bytesOf) out)) e;
+        counted = refl;
+        lifts = simp length-append (omega arith);
+        meets = rw (n, take-append-seam (r .kept) (r .lifted), drop-append-seam (r .kept) (r .lifted)) (c .meets);
+      }
+
+pub accepted-is-delivered : AcceptedIsDelivered
+unfolding answer
+accepted-is-delivered book out w b a after e f z =
+    let k = result-is-book book out w b (rw e at z) in
+    let c = yielded (attempt-yields (Comes book) book (comes book b) (length out) w) (k .attempted) .0 in
+    rw (e, f, k .fills, k .attempted) (delivered book (k .result) c out (k .reads))
+
+-- the premise test
+told-yes : (m : Out Bool) → told m .holds ≡ 1 → m ≡ done true
+unfolding told
+told-yes (refused k) h = absurd (omega arith)
+told-yes (done true) h = refl
+told-yes (done false) h = absurd (omega arith)
+
+yes-premises : (book : List ℕ) (w : ℕ) → tested book w ≡ done true → (65536 ≤ w) × Premises book
+unfolding tested
+yes-premises book w e = did-out (given (leb 65536 w) work-short book) _ true e λ b g e₁. did-out (expanded b) _ true e₁ λ ds x e₂.
+    let p = did-given (leb 65536 w) work-short book b g in
+    let q : callsKnown ds && chainsPlain ds ≡ true = cc in
+    let r = both-true (callsKnown ds) (chainsPlain ds) q in
+    (leb-true 65536 w (p .0), record { list = ds; expands = rw (p .1) x; calls = known-calls ds (r .0); chains = plain-chains ds (r .1) })
+
+premises-yes : (book : List ℕ) (w : ℕ) → 65536 ≤ w → Premises book → tested book w ≡ done true
+unfolding tested
+premises-yes book w h p = rw (le-leb 65536 w h, p .expands, calls-known (p .list) (p .calls), chains-plain (p .list) (p .chains))
+
+pub yes-is-premises : YesIsPremises
+unfolding premise told
+yes-is-premises book w = (
+  (λ h. yes-premises book w (told-yes (tested book w) (h .1))),
+  (λ h. rw (premises-yes book w (h .0) (h .1)) (refl, refl)),
+)

@@ -1,0 +1,197 @@
+-- The right result of the trial meets demand 3, and each wrong one does not.
+use mathlib.Core.Path.{_≡_, refl, sym, _∙_}
+use mathlib.Core.Logic.{_⊎_, inl, inr, ⊎-elim}
+use mathlib.Core.List.{List, [], _∷_, List·Memᴰ, List·Memᴰ·head, List·Memᴰ·not-nil, List·Memᴰ·cases-cons, List·Memᴰ·eq-of-singleton}
+use mathlib.Core.Bool.{Bool, true, not, _&&_}
+use native.Mathlib.Omega.{arith}
+use lib.ListN.{length, drop}
+use Rattle.definition.specs.Tree.{Name, Combinator, plain, Param, Definition}
+use Rattle.definition.specs.Notation.{Enum, Bits, Vec}
+use Rattle.definition.specs.Utf8.{utf8}
+use Rattle.definition.specs.Names.{eqName, elem, root}
+use Rattle.definition.specs.Contents.{readBook}
+use Rattle.definition.specs.Macros.{expandBook}
+use Rattle.definition.specs.Write.{wBook}
+use Rattle.definition.specs.Lift.{names, liftBook}
+use Rattle.definition.specs.Answer.{elaborated}
+use Rattle.laws.specs.Lists.{paramNames}
+use Rattle.laws.proofs.Tests.{not-both, both-true, not-true}
+use Rattle.laws.proofs.Members.{elem-in, in-elem}
+use Rattle.demand3.specs.Words.{Named, Root, Unbound}
+use Rattle.demand3.specs.PutBack.{wholeOf, putAt, put, putAll, times, NoneLeft}
+use Rattle.demand3.specs.Shortest.{NoneTwice, Shortest}
+use Rattle.demand3.specs.Demand3.{CallsKnown, ChainsPlain, Apart, Tight, AllTight}
+use Rattle.demand3.specs.Trial.{list, kept, lifted, right, Meets, Trial, inBytes, inArray, inSelector, inCall}
+use Rattle.demand3.proofs.Agree.{unnamed}
+use Rattle.demand3.proofs.Rounds.{times-still, standing, back-ended, all-back-ended}
+use Rattle.demand3.proofs.Uses.{root-of, of-root, shortest-by}
+
+-- the premises hold
+calls : CallsKnown list
+calls = ((tt, (tt, (tt, ((tt, tt), ((tt, tt), ((tt, tt), ((inl refl, tt), tt))))))), tt)
+
+chains : ChainsPlain list
+chains = ((tt, (tt, (tt, ((tt, tt), ((tt, tt), ((tt, tt), ((tt, tt), tt))))))), tt)
+
+-- the uses of each body
+abbrev U : Name
+U = utf8 "n"
+
+dot-root : (u : Name) → Root (utf8 "n.k") u → List·Memᴰ u (U ∷ [])
+unfolding utf8 root
+dot-root u w = List·Memᴰ·head (sym (root-of (utf8 "n.k") u w))
+
+root-dot : (u : Name) → List·Memᴰ u (U ∷ []) → Root (utf8 "n.k") u
+unfolding utf8 root
+root-dot u w = rw (List·Memᴰ·eq-of-singleton w) (of-root (utf8 "n.k"))
+
+-- the names of the uses that have no binder in it
+record Uses (us : List Name) (c : Combinator) : Type 0 where
+  found : (u : Name) → Unbound c u → List·Memᴰ u us
+  stand : (u : Name) → List·Memᴰ u us → Unbound c u
+
+uses-enum : Uses [] (plain Enum)
+uses-enum = record { found = λ u w. absurd w; stand = λ u w. List·Memᴰ·not-nil w }
+
+uses-vec : Uses [] (plain (Vec (plain Enum)))
+uses-vec = record { found = λ u w. ⊎-elim (λ x. absurd x) (λ x. absurd x) w; stand = λ u w. absurd (List·Memᴰ·not-nil w) }
+
+uses-bits : Uses [] (plain Bits)
+uses-bits = record { found = λ u w. absurd w; stand = λ u w. List·Memᴰ·not-nil w }
+
+uses-bytes : Uses (U ∷ []) inBytes
+uses-bytes = record { found = λ u w. ⊎-elim (λ a. a) (λ x. absurd x) w; stand = λ u w. inl w }
+
+uses-array : Uses (U ∷ []) inArray
+uses-array = record { found = λ u w. ⊎-elim (λ a. ⊎-elim (λ b. b) (λ x. absurd x) a) (λ x. absurd x) w; stand = λ u w. inl (inl w) }
+
+uses-selector : Uses (U ∷ []) inSelector
+uses-selector = record { found = λ u w. ⊎-elim (λ a. dot-root u a) (λ x. ⊎-elim (λ y. absurd y) (λ y. absurd y) x) w; stand = λ u w. inl (root-dot u w) }
+
+uses-call : Uses (U ∷ []) inCall
+uses-call = record { found = λ u w. ⊎-elim (λ a. ⊎-elim (λ b. dot-root u b) (λ x. absurd x) a) (λ x. absurd x) w; stand = λ u w. inl (inl (root-dot u w)) }
+
+-- by tests on names: none twice, each use a parameter, each parameter a use
+abbrev within : List Name → List Name → Bool
+within [] ns = true
+within (u ∷ us) ns = elem u ns && within us ns
+
+abbrev once : List Name → Bool
+once [] = true
+once (n ∷ ns) = not (elem n ns) && once ns
+
+within-has : (us ns : List Name) → within us ns ≡ true → (u : Name) → List·Memᴰ u us → List·Memᴰ u ns
+within-has [] ns e u w = absurd (List·Memᴰ·not-nil w)
+within-has (v ∷ us) ns e u w =
+    let p = both-true (elem v ns) (within us ns) e in
+    ⊎-elim (λ q. rw q (elem-in v ns (p .0))) (λ t. within-has us ns (p .1) u t) (List·Memᴰ·cases-cons w)
+
+once-none : (ns : List Name) → once ns ≡ true → NoneTwice ns
+once-none [] e = tt
+once-none (n ∷ ns) e =
+    let p = both-true (not (elem n ns)) (once ns) e in
+    ((λ w. not-both (elem n ns) (in-elem n ns w) (not-true (elem n ns) (p .0))), once-none ns (p .1))
+
+shortest-of : (us ns : List Name) (c : Combinator) → Uses us c → once ns ≡ true → within us ns ≡ true → within ns us ≡ true → Shortest ns c
+shortest-of us ns c w a b d = shortest-by ns c (once-none ns a) (λ u p. within-has us ns b u (w .found u p)) (λ u p. w .stand u (within-has ns us d u p))
+
+-- the right one
+abbrev M : List Definition
+M = lifted right
+
+apart-right : Apart M
+unfolding utf8 eqName elem names
+apart-right = (
+  (λ w. unnamed (utf8 "m_e_item") (drop 1 M) refl w),
+  (
+    (λ w. unnamed (utf8 "m_e") (drop 2 M) refl w),
+    (
+      (λ w. unnamed (utf8 "m_b") (drop 3 M) refl w),
+      (
+        (λ w. unnamed (utf8 "m_h") (drop 4 M) refl w),
+        (
+          (λ w. unnamed (utf8 (right .second)) (drop 5 M) refl w),
+          (
+            (λ w. unnamed (utf8 "m_s") (drop 6 M) refl w),
+            (
+              (λ w. unnamed (utf8 "m_c") [] refl w),
+              tt,
+            ),
+          ),
+        ),
+      ),
+    ),
+  ),
+)
+
+fresh-right : (n : Name) → Named n list → Named n M → ⊥
+unfolding utf8 eqName elem names
+fresh-right n w v = ⊎-elim (λ e. unnamed (utf8 "m") M refl (rw e at v)) (λ x. x) w
+
+not-lifted : Named (utf8 "m") M → ⊥
+unfolding utf8 eqName elem names
+not-lifted w = unnamed (utf8 "m") M refl w
+
+-- a body that holds no lifted call
+stands : (ps : List Param) (c : Combinator) → NoneLeft M c → Shortest (paramNames ps) c → Tight M ps c
+stands ps c h s = record { body = c; back = standing M c h; shortest = s }
+
+vec-tight : Tight M [] (plain (Vec (right .item)))
+unfolding utf8 eqName elem wholeOf putAt put times
+vec-tight = record {
+  body = plain (Vec (plain Enum));
+  back = back-ended M (plain (Vec (right .item))) (plain (Vec (plain Enum))) refl tt;
+  shortest = shortest-of [] [] (plain (Vec (plain Enum))) uses-vec refl refl refl;
+}
+
+bytes-tight : Tight M (right .ofBytes) inBytes
+unfolding utf8 eqName elem
+bytes-tight = stands (right .ofBytes) inBytes (tt, tt) (shortest-of (U ∷ []) (paramNames (right .ofBytes)) inBytes uses-bytes refl refl refl)
+
+array-tight : Tight M (right .ofArray) inArray
+unfolding utf8 eqName elem
+array-tight = stands (right .ofArray) inArray (tt, tt) (shortest-of (U ∷ []) (paramNames (right .ofArray)) inArray uses-array refl refl refl)
+
+selector-tight : Tight M (right .ofSelector) inSelector
+unfolding utf8 eqName elem
+selector-tight = stands (right .ofSelector) inSelector (tt, tt) (shortest-of (U ∷ []) (paramNames (right .ofSelector)) inSelector uses-selector refl refl refl)
+
+call-tight : Tight M (right .ofCall) inCall
+unfolding utf8 eqName elem
+call-tight = stands (right .ofCall) inCall (not-lifted, tt) (shortest-of (U ∷ []) (paramNames (right .ofCall)) inCall uses-call refl refl refl)
+
+tight-right : AllTight M M
+unfolding elem
+tight-right = (stands [] (plain Enum) tt (shortest-of [] [] (plain Enum) uses-enum refl refl refl), (vec-tight, (stands [] (plain Bits) tt (shortest-of [] [] (plain Bits) uses-bits refl refl refl), (bytes-tight, (array-tight, (selector-tight, (call-tight, tt)))))))
+
+met : Meets right
+unfolding utf8 eqName elem names wholeOf putAt put putAll times
+met = record {
+  flat = ((tt, (tt, (tt, (tt, (tt, (tt, (tt, tt))))))), (tt, (tt, (tt, ((tt, tt), ((tt, tt), ((tt, tt), ((tt, tt), tt))))))));
+  apart = apart-right;
+  fresh = fresh-right;
+  restored = λ p. all-back-ended M (kept right) list refl ((tt, (tt, (tt, ((tt, tt), ((tt, tt), ((tt, tt), ((not-lifted, tt), tt))))))), tt);
+  shortest = λ p q. tight-right;
+}
+
+-- a body whose parameters are not the shortest: it holds no lifted call, so that it is its own put-back
+module _ (lifts : List Definition) (ps : List Param) (c : Combinator) (e : put c lifts ≡ c) (t : Tight lifts ps c) where
+  own : Shortest (paramNames ps) c
+  own = rw (sym (t .back .ends (length lifts) (omega arith)) ∙ times-still (λ d. put d lifts) (length lifts) c e) at (t .shortest)
+
+pub trial : Trial
+unfolding utf8 eqName elem names wholeOf putAt put wBook readBook expandBook elaborated liftBook
+trial = record {
+  met = met;
+  given = refl;
+  enum-kept-in-a-vec = λ d. d .flat .1 .1 .0;
+  bits-not-lifted = λ d. d .flat .0 .1 .1 .0;
+  name-taken-twice = λ d. d .apart .1 .1 .1 .0 (inl refl);
+  name-of-a-format = λ d. d .fresh (utf8 "m") (inl refl) (inr (inr (inr (inr (inl refl)))));
+  parameter-too-many = λ d. let s = own _ _ inBytes refl (d .shortest calls chains .1 .1 .1 .0) in let l = s .needed (U ∷ []) (utf8 "e") [] refl in ⊎-elim (λ a. l .none a) (λ x. x) (l .stands);
+  parameter-twice = λ d. own _ _ inBytes refl (d .shortest calls chains .1 .1 .1 .0) .once .0 (List·Memᴰ·head refl);
+  bytes-forgotten = λ d. List·Memᴰ·not-nil (own _ _ inBytes refl (d .shortest calls chains .1 .1 .1 .0) .enough U (inl (List·Memᴰ·head refl)));
+  array-forgotten = λ d. List·Memᴰ·not-nil (own _ _ inArray refl (d .shortest calls chains .1 .1 .1 .1 .0) .enough U (inl (inl (List·Memᴰ·head refl))));
+  selector-forgotten = λ d. List·Memᴰ·not-nil (own _ _ inSelector refl (d .shortest calls chains .1 .1 .1 .1 .1 .0) .enough U (inl (root-dot U (List·Memᴰ·head refl))));
+  argument-forgotten = λ d. List·Memᴰ·not-nil (own _ _ inCall refl (d .shortest calls chains .1 .1 .1 .1 .1 .1 .0) .enough U (inl (inl (root-dot U (List·Memᴰ·head refl)))));
+}

@@ -1,0 +1,109 @@
+-- One book, the result that it should have, and results that demand 3 rules out: each is what a lift with one error would leave.
+use mathlib.Core.Path.{_≡_}
+use mathlib.Core.List.{List, [], _∷_}
+use Prim.Native.String.{String}
+use Rattle.definition.specs.Tree.{Combinator, plain, struct, choice, by, enums, no-field, no-case, Param, Definition}
+use Rattle.definition.specs.Utf8.{utf8}
+use Rattle.definition.specs.Out.{done}
+use Rattle.definition.specs.Write.{wBook}
+use Rattle.definition.specs.Answer.{elaborated}
+use Rattle.definition.specs.Notation.{Int, Enum, Bits, Nothing, Bytes, Vec, Array, Call, ord, dep, on, one, param, fmt}
+use Rattle.demand3.specs.Demand3.{Demand3}
+
+abbrev call : String → List String → Combinator
+call n xs = plain (Call n xs)
+
+-- one body for each place of a use: a length of Bytes, a length of Array, a selector, an argument of a call
+abbrev pub inBytes : Combinator
+inBytes = one "x" (plain (Bytes ("n" ∷ [])))
+
+abbrev pub inArray : Combinator
+inArray = one "x" (plain (Array ("n" ∷ []) (plain Nothing)))
+
+abbrev pub inSelector : Combinator
+inSelector = plain (choice (by (utf8 "n.k")) enums (on "A" (plain Nothing) no-case))
+
+abbrev pub inCall : Combinator
+inCall = one "x" (call "m" ("n.k" ∷ []))
+
+-- the list after expansion: a format with a Vec of an Enum, a Bits, two structs under one label, a choice and a struct with a call
+abbrev pub list : List Definition
+list = fmt "m" [] (plain (struct (
+    dep "n" (plain (Int "i")) (
+    ord "e" (plain (Vec (plain Enum))) (
+    ord "b" (plain Bits) (
+    ord "h" inBytes (
+    ord "h" inArray (
+    ord "s" inSelector (
+    ord "c" inCall no-field))))))))) ∷ []
+
+-- what a result may have right or wrong
+pub record Result : Type 0 where
+  -- what stands in the Vec, and what stands at `b`
+  pub item : Combinator
+  pub bits : Combinator
+  -- the second name made of `m_h`
+  pub second : String
+  -- the parameters of the last four
+  pub ofBytes : List Param
+  pub ofArray : List Param
+  pub ofSelector : List Param
+  pub ofCall : List Param
+
+abbrev pub kept : Result → List Definition
+kept r = fmt "m" [] (plain (struct (
+    dep "n" (plain (Int "i")) (
+    ord "e" (call "m_e" []) (
+    ord "b" (r .bits) (
+    ord "h" (call "m_h" ("n" ∷ [])) (
+    ord "h" (call (r .second) ("n" ∷ [])) (
+    ord "s" (call "m_s" ("n" ∷ [])) (
+    ord "c" (call "m_c" ("n" ∷ [])) no-field))))))))) ∷ []
+
+abbrev pub lifted : Result → List Definition
+lifted r = fmt "m_e_item" [] (plain Enum)
+    ∷ fmt "m_e" [] (plain (Vec (r .item)))
+    ∷ fmt "m_b" [] (plain Bits)
+    ∷ fmt "m_h" (r .ofBytes) inBytes
+    ∷ fmt (r .second) (r .ofArray) inArray
+    ∷ fmt "m_s" (r .ofSelector) inSelector
+    ∷ fmt "m_c" (r .ofCall) inCall ∷ []
+
+abbrev n : Param
+n = param "n" (Int "i")
+
+abbrev pub right : Result
+right = record {
+  item = call "m_e_item" [];
+  bits = call "m_b" [];
+  second = "m_h_0";
+  ofBytes = n ∷ [];
+  ofArray = n ∷ [];
+  ofSelector = n ∷ [];
+  ofCall = n ∷ [];
+}
+
+abbrev pub Meets : Result → Type 0
+Meets r = Demand3 list (kept r) (lifted r)
+
+abbrev from : Combinator → Combinator → String → Result
+from item bits second = record { item = item; bits = bits; second = second; ofArray = n ∷ []; ofSelector = n ∷ []; ofCall = n ∷ []; ofBytes = n ∷ [] }
+
+abbrev with : List Param → List Param → List Param → List Param → Result
+with b a s c = record { item = right .item; bits = right .bits; second = right .second; ofBytes = b; ofArray = a; ofSelector = s; ofCall = c }
+
+-- the right one meets demand 3 and is given, and each wrong one does not meet it
+pub record Trial : Type 0 where
+  pub met : Meets right
+  pub given : elaborated (wBook list) ≡ done (record { kept = kept right; lifted = lifted right })
+  pub enum-kept-in-a-vec : Meets (from (plain Enum) (right .bits) (right .second)) → ⊥
+  pub bits-not-lifted : Meets (from (right .item) (plain Bits) (right .second)) → ⊥
+  pub name-taken-twice : Meets (from (right .item) (right .bits) "m_h") → ⊥
+  pub name-of-a-format : Meets (from (right .item) (right .bits) "m") → ⊥
+  pub parameter-too-many : Meets (with (n ∷ param "e" Nothing ∷ []) (n ∷ []) (n ∷ []) (n ∷ [])) → ⊥
+  pub parameter-twice : Meets (with (n ∷ n ∷ []) (n ∷ []) (n ∷ []) (n ∷ [])) → ⊥
+  -- one too few, for each place of a use
+  pub bytes-forgotten : Meets (with [] (n ∷ []) (n ∷ []) (n ∷ [])) → ⊥
+  pub array-forgotten : Meets (with (n ∷ []) [] (n ∷ []) (n ∷ [])) → ⊥
+  pub selector-forgotten : Meets (with (n ∷ []) (n ∷ []) [] (n ∷ [])) → ⊥
+  pub argument-forgotten : Meets (with (n ∷ []) (n ∷ []) (n ∷ []) []) → ⊥

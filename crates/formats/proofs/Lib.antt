@@ -1,0 +1,5 @@
+mod Rows
+mod Own
+mod Formats
+mod Order
+mod Start

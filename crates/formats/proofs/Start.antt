@@ -1,0 +1,82 @@
+-- The tables before the first definition.
+-- Assumes nothing.
+use mathlib.Core.Path.{_≡_, ap, _∙_}
+use mathlib.Core.List.{List}
+use Prim.Native.Nat.{ℕ, _≤_, _<_}
+use native.Mathlib.Omega.{arith}
+use lib.ListN.{length, take, getD}
+use Rattle.definition.specs.Tree.{Definition}
+use Rattle.definition.specs.Write.{wBook}
+use Rattle.definition.specs.Size.{sizeBook}
+use Rattle.laws.specs.Book.{IsBook}
+use Rattle.seek.specs.At.{byteAt, numberAt}
+use Rattle.contents.proofs.Listed.{book-listed}
+use Rattle.tables.specs.Rows.{rowsOf, lastFrom}
+use Rattle.lift.specs.declared.Counts.{Counts}
+use Rattle.lift.specs.Sheet.{sheetOf}
+use Rattle.walked.specs.Book.{blank, walkBook}
+use Rattle.body.specs.declared.Body.{Body}
+use Rattle.body.specs.Walks.{Good}
+use Rattle.formats.specs.Rows.{Book, AtStart}
+use Rattle.formats.specs.Formats.{Space, InOrder}
+use Rattle.formats.specs.Expands.{Starts, Expands}
+use Rattle.formats.proofs.Rows.{book-short}
+
+abbrev pub counts : ℕ → ℕ → ℕ → Counts
+counts taken bytes defns = record { taken = taken; end = 0; lifts = 0; params = 0; bytes = bytes; defns = defns }
+
+pub space : {s path binders bound uses spare : List ℕ} → Book s → ((i : ℕ) → getD s i 0 < 256) → length path ≡ 255 → length binders ≡ 16384 → length bound ≡ 16384 → length uses ≡ 16384 → length spare ≡ 16384 → Space s path binders bound uses spare
+unfolding byteAt
+space k b p n o u v = let l = book-short k in record { scratch = record { small = b; labels = omega arith; uses-long = omega arith; spare-long = omega arith }; path-long = p; binders-long = omega arith }
+
+module _ {s made rows params number order : List ℕ} (x : Starts s made rows params number order) where
+  pub the-book : Book s
+  the-book = record { of = x .of; book = x .book; isBook = x .isBook }
+
+  module _ {places hashes hints : List ℕ} {taken : ℕ} (t : AtStart s places hashes hints taken) {defns : ℕ} (ed : defns ≡ numberAt s 0) where
+    pub good : 512 ≤ length places → 512 ≤ length hashes → 512 ≤ length hints → Good s made places hashes hints rows params number order (counts taken (length s) defns) 0
+    unfolding rowsOf lastFrom
+    good lp lh li =
+        let r = t .says (x .of) (x .book) (x .isBook) in
+        let d : defns ≡ length (x .of) = ed ∙ book-listed s (x .of) (x .book) (x .isBook) .0 in
+        let l = book-short the-book in
+        record {
+          tables = record {
+            source = l;
+            made-long = x .made-long;
+            places-long = lp;
+            hashes-long = lh;
+            hints-long = li;
+            rows-long = x .rows-long;
+            params-long = x .params-long;
+            table = r .0 .table made;
+            hinted = r .0 .hinted made;
+            packed = r .0 .packed made;
+            rows-in = λ i h. absurd (omega arith);
+            room = omega arith;
+            few = (omega arith, omega (arith, r .1));
+            bytes-most = l;
+            defns-most = omega (arith, x .isBook .few);
+          };
+          number-long = omega (arith, x .number-long);
+          numbered = λ p h. x .blank p;
+          order-long = x .order-long;
+          finished = omega arith;
+        }
+
+    sheet-is : (ds : List Definition) → s ≡ wBook ds → IsBook ds → sheetOf s made places rows params (take 0 order) (counts taken (length s) defns) ≡ blank ds
+    unfolding sheetOf rowsOf blank sizeBook
+    sheet-is ds e b =
+        let l : length s ≡ length (wBook ds) = ap length e in
+        let d : defns ≡ length ds = ed ∙ book-listed s ds e b .0 in
+        rw (t .says ds e b .0 .names made, l, d)
+
+    pub expands : {made′ places′ hashes′ hints′ rows′ params′ number′ order′ : List ℕ} {r : Body} → InOrder s made places rows params order (counts taken (length s) defns) made′ places′ hashes′ hints′ rows′ params′ number′ order′ r
+        → Expands s made′ rows′ params′ number′ order′ r
+    unfolding walkBook
+    expands {made′} {places′} {hashes′} {hints′} {rows′} {params′} {number′} {order′} {r} o = record {
+      places = places′;
+      hashes = hashes′;
+      hints = hints′;
+      expands = λ ds e b. rw (← (sheet-is ds e b)) (o .says ds e b);
+    }

@@ -1,0 +1,115 @@
+-- The names taken so far. Each has a row that keeps its place, a hash, and a number below which all of its numbered names are known to be taken. A row only remembers: what it says is right.
+-- Assumes nothing.
+use mathlib.Core.Path.{_≡_}
+use mathlib.Core.List.{List, [], _∷_}
+use mathlib.Core.Bool.{Bool, true, false, not}
+use Prim.Native.Nat.{ℕ, zero, suc, _+_, _*_, _%_, _≤_, _<_}
+use lib.ListN.{length, take, getD, set}
+use Rattle.definition.specs.Tree.{Name}
+use Rattle.definition.specs.Names.{eqName, elem, decimal, numbered, fresh}
+use Rattle.lookup.specs.declared.Place.{Place}
+use Rattle.lookup.specs.declared.Place.the-variants.{Source, Made}
+use Rattle.lookup.specs.Name.{nameAt, nameOf, placeOf}
+use Rattle.writer.specs.Buf.{put, Wrote, nameBytes}
+use Rattle.names.specs.Name.{Held}
+
+-- "source names from the book, generated names from the work area"
+pub record Store : Type 0 where
+  pub book : List ℕ
+  pub made : List ℕ
+
+abbrev pub both : List ℕ → List ℕ → Store
+both b m = record { book = b; made = m }
+
+-- a row's name, and the names of the first n rows, the last taken first as in the definition
+unfoldable pub row : Store → List ℕ → ℕ → Name
+row names places i = nameOf (placeOf (getD places i 0)) (names .book) (names .made)
+
+unfoldable pub taken : Store → List ℕ → ℕ → List Name
+taken names places zero = []
+taken names places (suc n) = row names places n ∷ taken names places n
+
+-- a number of 16 bits for a name: where two differ, so do the names
+unfoldable pub hashFrom : ℕ → Name → ℕ
+hashFrom h [] = h
+hashFrom h (b ∷ s) = hashFrom ((h * 31 + b) % 65536) s
+
+abbrev pub hashOf : Name → ℕ
+hashOf n = hashFrom 0 n
+
+-- each row has its hash, and no name is longer than 255 bytes
+pub record Table (names : Store) (places hashes : List ℕ) (n : ℕ) : Type 0 where
+  pub places-long : n ≤ length places
+  pub hashes-long : n ≤ length hashes
+  pub hash : (i : ℕ) → i < n → getD hashes i 0 ≡ hashOf (row names places i)
+  pub short : (i : ℕ) → i < n → length (row names places i) ≤ 255
+
+-- of each name the numbered ones below its hint are taken
+pub record Hints (names : Store) (places hints : List ℕ) (n : ℕ) : Type 0 where
+  pub hints-long : n ≤ length hints
+  pub low : (i : ℕ) → i < n → getD hints i 0 ≤ n
+  pub tried : (i j : ℕ) → i < n → j < getD hints i 0 → elem (numbered (row names places i) j) (taken names places n) ≡ true
+
+-- the generated names stand before the place where the next one goes
+unfoldable pub Inside : Place → List ℕ → ℕ → Type 0
+Inside (Source at) made end = Unit
+Inside (Made at) made end = at + 1 + getD made at 0 ≤ end
+
+pub record Packed (made places : List ℕ) (n end : ℕ) : Type 0 where
+  pub room : end ≤ length made
+  pub inside : (i : ℕ) → i < n → Inside (placeOf (getD places i 0)) made end
+
+-- where the answer is no, none of the first n rows has the hash
+pub record Hashed (hashes : List ℕ) (n hash : ℕ) (r : Bool) : Type 0 where
+  pub none : r ≡ false → (j : ℕ) → j < n → getD hashes j 0 ≡ hash → ⊥
+
+-- the first row of a name, or n
+pub record Found (name : Name) (names : Store) (places : List ℕ) (n r : ℕ) : Type 0 where
+  pub bound : r ≤ n
+  pub before : (j : ℕ) → j < r → eqName name (row names places j) ≡ false
+  pub here : r < n → eqName name (row names places r) ≡ true
+
+-- whether the name that d holds is free
+pub record Tells (d : List ℕ) (at : ℕ) (names : List Name) (r : Bool) : Type 0 where
+  pub says : (name : Name) → Held d at name → elem name names ≡ not r
+
+-- k is the first number from some number on, and below n, whose numbered name is free, or n; that name was written
+pub record FirstFree (d : List ℕ) (at : ℕ) (names : Store) (places : List ℕ) (n first : ℕ) (d′ : List ℕ) (k r : ℕ) : Type 0 where
+  pub from : first ≤ k
+  pub last : k ≤ n
+  pub passed : (j : ℕ) → first ≤ j → j < k → elem (numbered (take at d) j) (taken names places n) ≡ true
+  pub free : k < n → elem (numbered (take at d) k) (taken names places n) ≡ false
+  pub wrote : Wrote d at (95 ∷ decimal k) d′ r
+
+-- "The name is the base if free, else base_0, base_1.. first free." A base that has no room is longer than any name that is taken, and stays
+pub record Fresh (d : List ℕ) (at : ℕ) (names : Store) (places : List ℕ) (n : ℕ) (d′ : List ℕ) (r : ℕ) : Type 0 where
+  pub within : at ≤ length d → Wrote d 0 (fresh (take at d) (taken names places n)) d′ r
+  pub beyond : length d < at → (r ≡ suc (length d)) × (d′ ≡ d)
+  pub named : (base : Name) → Held d at base → Held d′ r (fresh base (taken names places n))
+  pub kept : take at d′ ≡ take at d
+
+-- a name more
+pub record Grown (name : Name) (names : Store) (places hashes hints : List ℕ) (n : ℕ) (names′ : Store) (places′ hashes′ hints′ : List ℕ) : Type 0 where
+  pub taken-is : taken names′ places′ (n + 1) ≡ name ∷ taken names places n
+  pub table : Table names′ places′ hashes′ (n + 1)
+  pub hinted : Hints names′ places′ hints′ (n + 1)
+
+-- "A lifted name is taken": what the buffers hold then
+pub record Took (name : Name) (made : List ℕ) (end : ℕ) (places hashes hints : List ℕ) (n : ℕ) (made′ places′ hashes′ hints′ : List ℕ) (r : ℕ) : Type 0 where
+  pub next : r ≡ end + 1 + length name
+  pub made-holds : made′ ≡ put made end (nameBytes name)
+  pub places-hold : places′ ≡ set places n (32768 + end)
+  pub hashes-hold : hashes′ ≡ set hashes n (hashOf name)
+  pub hints-hold : hints′ ≡ set hints n 0
+  pub packed : Packed made places n end → Packed made′ places′ (n + 1) r
+  pub grown : (book : List ℕ) → Table (both book made) places hashes n → Hints (both book made) places hints n → Packed made places n end
+      → Grown name (both book made) places hashes hints n (both book made′) places′ hashes′ hints′
+
+-- "Taken at the start: all kind 1 and 2 names": one of them, where it stands in the book
+pub record Listed (book : List ℕ) (at : ℕ) (places hashes hints : List ℕ) (n : ℕ) (places′ hashes′ hints′ : List ℕ) : Type 0 where
+  pub places-hold : places′ ≡ set places n at
+  pub hashes-hold : hashes′ ≡ set hashes n (hashOf (nameAt book at))
+  pub hints-hold : hints′ ≡ set hints n 0
+  pub packed : (made : List ℕ) (end : ℕ) → Packed made places n end → Packed made places′ (n + 1) end
+  pub grown : (made : List ℕ) → Table (both book made) places hashes n → Hints (both book made) places hints n
+      → Grown (nameAt book at) (both book made) places hashes hints n (both book made) places′ hashes′ hints′

@@ -1,0 +1,5 @@
+pub mod Copied
+pub mod Stands
+mod Subst
+pub mod Turns
+pub mod Opening

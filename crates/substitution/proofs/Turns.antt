@@ -1,0 +1,191 @@
+-- A parameter's turn, and turns one after the other.
+-- Assumes nothing.
+use mathlib.Core.Path.{_≡_, refl, sym, ap, _∙_}
+use mathlib.Core.Logic.{_⊎_, ⊎-elim}
+use mathlib.Core.List.{List, [], _∷_}
+use mathlib.Core.Bool.{true, false}
+use Prim.Native.Nat.{ℕ, _+_, _-_, _≤_, _<_, min}
+use native.Mathlib.Omega.{arith}
+use lib.Dec.{leb}
+use lib.ListN.{length, take, drop}
+use borrow.Author.Tests.{le-leb, lt-leb, leb-true, leb-false}
+use Rattle.definition.specs.Code.{macro-growth}
+use Rattle.definition.specs.Out.{Out, refused, done, given, _>>=_}
+use Rattle.definition.specs.Tree.{Name, Combinator, Inner, Inners, no-inner, inner}
+use Rattle.definition.specs.Write.{wName, wAll, wInner, wInners, wCombinator, countA}
+use Rattle.definition.specs.Size.{size, levels, levelsI, levelsA}
+use Rattle.definition.specs.Macros.{subst, limited, instance}
+use Rattle.seek.specs.At.{namePast}
+use Rattle.seek.specs.Here.{Here}
+use Rattle.seek.proofs.Here.{here-length, name-here}
+use Rattle.lookup.specs.Name.{nameAt}
+use Rattle.lookup.proofs.Names.{stands, yes-no, clash}
+use Rattle.writer.specs.Buf.{put, part, Wrote}
+use Rattle.writer.proofs.Put.{put-fits, part-written, take-written, length-put}
+use Rattle.writer.proofs.Wrote.{fitted, place-is}
+use Rattle.calls.specs.declared.Walk.{Walk}
+use Rattle.calls.specs.Walk.{walk, combinatorAt, skipAt}
+use Rattle.calls.specs.Walked.{Walked, Skipped}
+use Rattle.calls.specs.Pieces.{pieces, places}
+use Rattle.laws.proofs.Splits.{s-comb}
+use Rattle.calls.proofs.Link.{walked, skipped}
+use Rattle.calls.proofs.Spliced.{part-here}
+use Rattle.calls.proofs.Deeper.{deeper}
+use Rattle.calls.proofs.Room.{room-enough}
+use Rattle.substitution.specs.declared.Turn.{Turn}
+use Rattle.substitution.specs.Substituted.{substituted}
+use Rattle.substitution.specs.Instance.{Areas, Holds, Went, Turned, Made, Instanced}
+use Rattle.substitution.proofs.Stands.{inner-here}
+use Rattle.substitution.proofs.Subst.{substitution}
+
+pub size-here : {s : List ℕ} {p : ℕ} (c : Combinator) (z : List ℕ) → Here s p (wCombinator c z) → p + size c ≤ length s
+unfolding size
+size-here {s} {p} c z h = omega (arith, here-length (rw (s-comb c [] z) at h), simp lib.ListN.length-append at (here-length (rw (s-comb c [] z) at h)))
+
+-- what was written at the front stands there
+pub front-here : (a : List ℕ) (c : Combinator) → size c ≤ length a → Here (put a 0 (wCombinator c [])) 0 (wCombinator c (drop (size c) a))
+unfolding size
+front-here a c h =
+    let z : 0 + length (wCombinator c []) ≡ length (wCombinator c []) = omega arith in
+    record { is = put-fits a 0 (wCombinator c []) (omega arith) ∙ rw z (sym (s-comb c [] (drop (length (wCombinator c [])) a))); reach = omega arith }
+
+long-size : (d : Combinator) → length (wCombinator d []) ≡ size d
+unfolding size
+long-size d = refl
+
+pub from-zero : (n : ℕ) → n ≡ 0 + n
+from-zero n = omega arith
+
+module _ (d : Combinator) where
+  over-size : 16384 < size d → limited d ≡ refused macro-growth
+  unfolding limited
+  over-size h = rw (lt-leb (size d) 16384 h)
+
+  within-size : size d ≤ 16384 → limited d ≡ given (leb (levels d) 64) macro-growth d
+  unfolding limited
+  within-size h = rw (le-leb (size d) 16384 h)
+
+-- a combinator that was written at the front of a, and walked over
+module _ (d : Combinator) (dd : levels d ≤ 127) (fits : size d ≤ 16384) (a m : List ℕ) {a₁ m₂ : List ℕ} (la : length a ≡ 16384) (lm : length m ≡ 8192) (w : Walk) (ha : a₁ ≡ put a 0 (wCombinator d []))
+    (hw : w ≡ combinatorAt 129 a₁ (walk 0 0 129 true) m .0) (hm₂ : m₂ ≡ combinatorAt 129 a₁ (walk 0 0 129 true) m .1) where
+  front : Here a₁ 0 (wCombinator d (drop (size d) a))
+  front = rw ha (front-here a d (omega arith))
+
+  over-made : Walked a₁ d 129 (drop (size d) a) (walk 0 0 129 true) m w m₂
+  over-made = rw (hw, hm₂) (walked a₁ (omega (arith, length-put a 0 (wCombinator d []), ap length ha)) d 129 (omega arith) (walk 0 0 129 true) m (drop (size d) a) front (omega (arith, room-enough d 0)))
+
+  pub holds : levels d ≤ 64 → Holds a₁ m₂ (w .at) (w .n) d
+  holds h = record {
+    rest = drop (size d) a;
+    here = front;
+    end = over-made .place ∙ sym (from-zero (size d));
+    marked = rw (over-made .count, over-made .marks) (take-written m 0 (places 0 (pieces d [])) (omega (arith, room-enough d 0)));
+    deep = h;
+  }
+
+-- the test of the levels: of 129 at least 65 are left
+deep-test : (n l : ℕ) → l ≡ min 129 (129 - n) → leb 65 l ≡ leb n 64
+deep-test n l e = ⊎-elim (λ (h : leb n 64 ≡ true). rw h (le-leb 65 l (omega (arith, leb-true n 64 h)))) (λ (h : leb n 64 ≡ false). rw h (lt-leb 65 l (omega (arith, leb-false n 64 h)))) (yes-no (leb n 64))
+
+module _ {macros book a b marks : List ℕ} (t : Turn) where
+  module _ (ar : Areas macros book a b marks) (p : Name) (x : Inner) (c : Combinator) (z y : List ℕ)
+      (hp : Here macros (t .param) (wName p z)) (hx : Here book (t .arg) (wInner x y)) (dx : levelsI x ≤ 63) (hc : Holds a marks (t .len) (t .n) c) where
+    over-arg : Skipped book x 64 y (walk (t .arg) 0 64 true) marks (skipAt 64 book (walk (t .arg) 0 64 true) marks .0) (skipAt 64 book (walk (t .arg) 0 64 true) marks .1)
+    over-arg = skipped book (omega (arith, ar .book-short)) x 64 (omega arith) (walk (t .arg) 0 64 true) marks y hx
+
+    bytes-are : {nm bt fm : List ℕ} (u : Walk) (m : List ℕ) → u ≡ skipAt 64 book (walk (t .arg) 0 64 true) marks .0 → m ≡ skipAt 64 book (walk (t .arg) 0 64 true) marks .1
+        → nm ≡ nameAt macros (t .param) → bt ≡ part (t .arg) (u .at) book → fm ≡ take (t .n) m → substituted a nm bt (t .len) fm 0 ≡ wCombinator (subst c p x) []
+    bytes-are u m hu hm e f g =
+        rw (e, f, g, hu, hm, over-arg .place, over-arg .marks, stands macros (t .param) p z (hp .is), part-here (wInner x []) y (inner-here x y hx), hc .marked)
+        (substitution a p x (t .len) c 0 (hc .rest) (hc .here) (hc .end ∙ from-zero (size c)))
+
+    -- the combinator d that was written into b, and copied back to a
+    module _ (d : Combinator) (dd : levels d ≤ 127) (r : Turn) (a₁ m : List ℕ) (w : Walk) (m₂ : List ℕ) (fits : size d ≤ 16384) (ha : a₁ ≡ put a 0 (wCombinator d [])) (hm : m ≡ marks)
+        (hw : w ≡ combinatorAt 129 a₁ (walk 0 0 129 true) m .0) (hm₂ : m₂ ≡ combinatorAt 129 a₁ (walk 0 0 129 true) m .1) where
+      -- the test tells what `limited` says
+      went : r .good ≡ leb 65 (w .left) → r .len ≡ w .at → r .n ≡ w .n → Here macros (r .param) z → Here book (r .arg) y → Went macros book a₁ m₂ r z y (limited d)
+      went e₁ e₂ e₃ g₁ g₂ =
+          let lm = ap length hm ∙ ar .marks-long in
+          let q : leb 65 (w .left) ≡ leb (levels d) 64 = deep-test (levels d) (w .left) (over-made d dd fits a m (ar .a-long) lm w ha hw hm₂ .deep) in
+          ⊎-elim
+          (λ (h : leb (levels d) 64 ≡ true). rw (within-size d fits, h) (e₁ ∙ q ∙ h, g₁, g₂, rw (e₂, e₃) (holds d dd fits a m (ar .a-long) lm w ha hw hm₂ (leb-true (levels d) 64 h))))
+          (λ (h : leb (levels d) 64 ≡ false). rw (within-size d fits, h) (e₁ ∙ q ∙ h))
+          (yes-no (leb (levels d) 64))
+
+  module _ (u : Walk) (m : List ℕ) (hu : u ≡ skipAt 64 book (walk (t .arg) 0 64 true) marks .0) (hm : m ≡ skipAt 64 book (walk (t .arg) 0 64 true) marks .1)
+      {nm bt fm b₁ : List ℕ} {o : ℕ} (e : nm ≡ nameAt macros (t .param)) (f : bt ≡ part (t .arg) (u .at) book) (g : fm ≡ take (t .n) m)
+      (wb : Wrote b 0 (substituted a nm bt (t .len) fm 0) b₁ o) where
+    pub turned-cut : length b < o → (a′ m′ : List ℕ) (r : Turn) → r .good ≡ false → Turned macros book a b marks t a′ m′ r
+    turned-cut k a′ m′ r q = record {
+      says = λ ar p x c z y hp hx dx hc.
+          let v = ap length (sym (bytes-are ar p x c z y hp hx dx hc u m hu hm e f g)) in
+          rw (over-size (subst c p x) (omega (arith, place-is wb, ar .b-long, long-size (subst c p x)))) q;
+    }
+
+    pub turned-whole : o ≤ length b → {a₁ m₂ : List ℕ} {q : ℕ} → Wrote a 0 (part 0 o b₁) a₁ q → (w : Walk) → w ≡ combinatorAt 129 a₁ (walk 0 0 129 true) m .0 → m₂ ≡ combinatorAt 129 a₁ (walk 0 0 129 true) m .1
+        → (r : Turn) → r .param ≡ namePast macros (t .param) → r .arg ≡ u .at → r .len ≡ w .at → r .n ≡ w .n → r .good ≡ leb 65 (w .left) → Turned macros book a b marks t a₁ m₂ r
+    turned-whole k {a₁} {m₂} wa w hw hm₂ r r₁ r₂ r₃ r₄ r₅ = record {
+      says = λ ar p x c z y hp hx dx hc.
+          let d = subst c p x in
+          let is = bytes-are ar p x c z y hp hx dx hc u m hu hm e f g in
+          let sk = over-arg ar p x c z y hp hx dx hc in
+          let fits : 0 + length (wCombinator d []) ≤ length b = omega (arith, fitted wb k, ap length is) in
+          let oo : o ≡ 0 + length (wCombinator d []) = omega (arith, place-is wb, ap length is) in
+          let back : part 0 o b₁ ≡ wCombinator d [] = rw (oo, wb .holds, is) (part-written b 0 (wCombinator d []) fits) in
+          went ar p x c z y hp hx dx hc d (omega (arith, deeper p x c, hc .deep)) r a₁ m w m₂ (omega (arith, long-size d, ar .b-long)) (wa .holds ∙ rw back) (hm ∙ sk .marks) hw hm₂
+          r₅ r₃ r₄ (rw r₁ (name-here p hp)) (rw (r₂, hu) (sk .rest));
+    }
+
+-- turns one after the other
+module _ {macros book a b marks : List ℕ} {t : Turn} where
+  pub instanced-none : (left : ℕ) → left ≤ 0 → t .good ≡ true → Instanced macros book a b marks t left a marks t
+  unfolding instance countA
+  instanced-none left k g = record { says = λ ar ps xs c z y hp hx dx e hc. none ps xs c e hc }
+    where
+      none : (ps : List Name) (xs : Inners) (c : Combinator) → left ≡ min (length ps) (countA xs) → Holds a marks (t .len) (t .n) c → Made a marks t (instance ps xs c)
+      none [] xs c e hc = (g, hc)
+      none (p ∷ ps) no-inner c e hc = (g, hc)
+      none (p ∷ ps) (inner x xs) c e hc = absurd (omega arith)
+
+  module _ {a₁ m₁ : List ℕ} {t₁ : Turn} {left : ℕ} (v : Turned macros book a b marks t a₁ m₁ t₁) where
+    pub instanced-stop : 0 < left → t₁ .good ≡ false → Instanced macros book a b marks t left a₁ m₁ t₁
+    unfolding instance countA wAll wInners levelsA
+    instanced-stop k g = record { says = λ ar ps xs c z y hp hx dx e hc. stop ar ps xs c z y hp hx dx e hc }
+      where
+        refusal : (o : Out Combinator) (ps : List Name) (xs : Inners) (z y : List ℕ) → Went macros book a₁ m₁ t₁ z y o → Made a₁ m₁ t₁ (o >>= instance ps xs)
+        refusal (refused k) ps xs z y w = w
+        refusal (done d) ps xs z y w = clash (w .0) g
+
+        stop : Areas macros book a b marks → (ps : List Name) (xs : Inners) (c : Combinator) (z y : List ℕ) → Here macros (t .param) (wAll wName ps z) → Here book (t .arg) (wInners xs y) → levelsA xs ≤ 64
+            → left ≡ min (length ps) (countA xs) → Holds a marks (t .len) (t .n) c → Made a₁ m₁ t₁ (instance ps xs c)
+        stop ar [] xs c z y hp hx dx e hc = absurd (omega arith)
+        stop ar (p ∷ ps) no-inner c z y hp hx dx e hc = absurd (omega arith)
+        stop ar (p ∷ ps) (inner x xs) c z y hp hx dx e hc =
+            refusal (limited (subst c p x)) ps xs (wAll wName ps z) (wInners xs y) (v .says ar p x c (wAll wName ps z) (wInners xs y) hp hx (omega arith) hc)
+
+    pub instanced-step : 0 < left → t₁ .good ≡ true → length a₁ ≡ length a → length m₁ ≡ length marks → {b₁ : List ℕ} → length b₁ ≡ length b
+        → {a₂ m₂ : List ℕ} {r : Turn} → Instanced macros book a₁ b₁ m₁ t₁ (left - 1) a₂ m₂ r → Instanced macros book a b marks t left a₂ m₂ r
+    unfolding instance countA wAll wInners levelsA
+    instanced-step k g la lm {b₁} lb {a₂} {m₂} {r} next = record { says = λ ar ps xs c z y hp hx dx e hc. step ar ps xs c z y hp hx dx e hc }
+      where
+        go : Areas macros book a b marks → (o : Out Combinator) (ps : List Name) (xs : Inners) (z y : List ℕ) → levelsA xs ≤ 64 → left - 1 ≡ min (length ps) (countA xs)
+            → Went macros book a₁ m₁ t₁ (wAll wName ps z) (wInners xs y) o → Made a₂ m₂ r (o >>= instance ps xs)
+        go ar (refused k) ps xs z y dx e w = clash g w
+        go ar (done d) ps xs z y dx e w =
+            next .says (record { macros-short = ar .macros-short; book-short = ar .book-short; a-long = la ∙ ar .a-long; b-long = lb ∙ ar .b-long; marks-long = lm ∙ ar .marks-long })
+            ps xs d z y (w .1) (w .2) dx e (w .3)
+
+        step : Areas macros book a b marks → (ps : List Name) (xs : Inners) (c : Combinator) (z y : List ℕ) → Here macros (t .param) (wAll wName ps z) → Here book (t .arg) (wInners xs y) → levelsA xs ≤ 64
+            → left ≡ min (length ps) (countA xs) → Holds a marks (t .len) (t .n) c → Made a₂ m₂ r (instance ps xs c)
+        step ar [] xs c z y hp hx dx e hc = absurd (omega arith)
+        step ar (p ∷ ps) no-inner c z y hp hx dx e hc = absurd (omega arith)
+        step ar (p ∷ ps) (inner x xs) c z y hp hx dx e hc =
+            go ar (limited (subst c p x)) ps xs z y (omega arith) (omega arith) (v .says ar p x c (wAll wName ps z) (wInners xs y) hp hx (omega arith) hc)
+
+-- the loop of turns: whoever goes on from here has gone from the start
+pub record Making (macros book a₀ b₀ marks₀ : List ℕ) (t₀ : Turn) (left₀ : ℕ) (a b marks : List ℕ) (t : Turn) (left : ℕ) : Type 0 where
+  pub good : t .good ≡ true
+  pub a-long : length a ≡ length a₀
+  pub b-long : length b ≡ length b₀
+  pub marks-long : length marks ≡ length marks₀
+  pub goes : (a′ m′ : List ℕ) (r : Turn) → Instanced macros book a b marks t left a′ m′ r → Instanced macros book a₀ b₀ marks₀ t₀ left₀ a′ m′ r

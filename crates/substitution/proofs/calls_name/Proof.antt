@@ -1,0 +1,38 @@
+-- `substitution::calls_name` meets its contract.
+-- Assumes nothing.
+use borrow.Author.Tests.{eq-eqb, ne-eqb}
+use Rattle.substitution.specs.Substituted.{callsName}
+use borrow.Author.Needs.{needs}
+use Rattle.substitution.proofs.calls_name.Statement.{statement}
+use Rattle.substitution.proofs.calls_name.Tie as tie
+use Rattle.substitution.proofs.calls_name.Reads as reads
+use Rattle.substitution.proofs.calls_name.Lts as lts
+use Rattle.lookup.proofs.name_at.Reads as name-at-reads
+use Rattle.lookup.proofs.same_name.Reads as same-name-reads
+use Rattle.seek.proofs.byte.Reads as byte-reads
+use Rattle.seek.proofs.past.Reads as past-reads
+
+byte-requires : tie.Need-byte-requires
+byte-requires c κs = search needs
+
+past-requires : tie.Need-past-requires
+past-requires c κs = search needs
+
+name-at-requires : tie.Need-name-at-requires
+name-at-requires c κs = search needs
+
+same-name-requires : tie.Need-same-name-requires
+same-name-requires c κs = search needs
+
+returns : tie.Need-returns
+unfolding callsName
+returns c = rw (← (c .before .before .before .before .byte .ensures), eq-eqb _ _ (c .before .before .if1 .taken), ← (c .before .before .before .past .ensures), ← (c .before .name-at .ensures)) (c .same-name .ensures)
+
+returns-2 : tie.Need-returns-2
+unfolding callsName
+returns-2 c = rw (← (c .before .before .byte .ensures), ne-eqb _ _ (c .if1 .left))
+
+pub calls-name-spec : {M : Type 1} → statement M
+calls-name-spec =
+    tie.close
+    (tie.spec byte-requires past-requires name-at-requires same-name-requires returns returns-2)

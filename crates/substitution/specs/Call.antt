@@ -1,0 +1,47 @@
+-- What an instance of a macro says of the trees that stand in the bytes: its call, its inner.
+use mathlib.Core.Path.{_≡_}
+use mathlib.Core.List.{List, []}
+use mathlib.Core.Bool.{true}
+use Prim.Native.Nat.{ℕ, suc, _≤_, min}
+use lib.ListN.{length}
+use Rattle.definition.specs.Out.{Out, refused, done, _>>=_}
+use Rattle.definition.specs.Tree.{Name, Inners, macro-invocation, macro}
+use Rattle.definition.specs.Write.{wName, wAll, wInner, wInners, wDefinition, countA}
+use Rattle.definition.specs.Size.{levels, levelsA}
+use Rattle.definition.specs.Macros.{Macro, instance, innerOf}
+use Rattle.seek.specs.Here.{Here}
+use Rattle.writer.specs.Buf.{Wrote}
+use Rattle.substitution.specs.declared.Turn.{Turn}
+use Rattle.substitution.specs.Instance.{Areas, Holds}
+
+-- the definition of a macro stands at a place
+pub record Defined (s : List ℕ) (at : ℕ) (m : Macro) : Type 0 where
+  pub rest : List ℕ
+  pub here : Here s at (wDefinition (macro (m .name) (m .params) (m .body)) rest)
+  pub deep : levels (m .body) ≤ 64
+
+-- a write, or code 6: then the place after is past the end
+abbrev pub Puts : List ℕ → ℕ → Out (List ℕ) → List ℕ → ℕ → Type 0
+Puts d at (refused k) d′ r = r ≡ suc (length d)
+Puts d at (done l) d′ r = Wrote d at l d′ r
+
+-- a macro and a call of it before the first turn: the body stands in a
+pub record Open (macros book a marks : List ℕ) (t : Turn) (m : Macro) (xs : Inners) (z : List ℕ) : Type 0 where
+  pub behind : List ℕ
+  pub params : Here macros (t .param) (wAll wName (m .params) behind)
+  pub args : Here book (t .arg) (wInners xs z)
+  pub holds : Holds a marks (t .len) (t .n) (m .body)
+
+pub record Opened (macros : List ℕ) (def : ℕ) (book : List ℕ) (call : ℕ) (a marks a′ marks′ : List ℕ) (t : Turn) : Type 0 where
+  pub good : t .good ≡ true
+  pub says : length macros ≤ 16384 → length a ≡ 16384 → length marks ≡ 8192 → (m : Macro) → Defined macros def m → (n : Name) (xs : Inners) (z : List ℕ) → Here book call (wInner (macro-invocation n xs) z)
+      → Open macros book a′ marks′ t m xs z
+
+-- rule 4: "Parameters and arguments are paired from the front; extra ones on either side are ignored."
+pub record Paired (macros : List ℕ) (def : ℕ) (book : List ℕ) (call r : ℕ) : Type 0 where
+  pub says : (m : Macro) → Defined macros def m → (n : Name) (xs : Inners) (z : List ℕ) → Here book call (wInner (macro-invocation n xs) z) → r ≡ min (length (m .params)) (countA xs)
+
+-- rule 3: "replaced by the macro body's inner"
+pub record Called (macros : List ℕ) (def : ℕ) (book : List ℕ) (call : ℕ) (a b marks out : List ℕ) (o : ℕ) (out′ : List ℕ) (r : ℕ) : Type 0 where
+  pub says : Areas macros book a b marks → (m : Macro) → Defined macros def m → (n : Name) (xs : Inners) (z : List ℕ) → Here book call (wInner (macro-invocation n xs) z) → levelsA xs ≤ 64
+      → Puts out o (instance (m .params) xs (m .body) >>= λ c. done (wInner (innerOf c) [])) out′ r

@@ -1,0 +1,3 @@
+pub mod Substituted
+pub mod Instance
+pub mod Call

@@ -1,0 +1,198 @@
+// Substitution on validated bytes, and a macro's instance at a call of it: document 01's "Macro rules", 3 and 4.
+pub mod call;
+
+use calls::Walk;
+use calls::combinator;
+use calls::first_marks;
+use calls::skip_inner;
+use lookup::name_at;
+use lookup::same_name;
+use seek::byte;
+use seek::name_past;
+use seek::past;
+use writer::least;
+use writer::put_bytes;
+use writer::put_part;
+ghost use mathlib.Core.Path.{_≡_};
+ghost use mathlib.Core.Bool.{true, false};
+ghost use Rattle.writer.specs.Buf.{part, Wrote};
+ghost use Rattle.calls.specs.Walk.{walk, combinatorAt, skipAt};
+ghost use Rattle.substitution.specs.Instance.{Turned, Instanced};
+ghost use Rattle.substitution.specs.Substituted.{callsName, substituted};
+
+// Whether what stands at a place is an Invocation of this name.
+fn calls_name(s: &[u8], at: usize, name: &[u8]) -> bool
+    ensures { λ r. ⌜ r ≡ callsName (now (s .entry)) at (now (name .entry)) ⌝ }
+{
+    let tag = byte(s, at);
+    let a = past(s, at, 1);
+    if tag == 15 {
+        return same_name(name_at(s, a), name);
+    }
+    false
+}
+
+// The combinator that stands in s from `from` up to `to`, with the argument for each call of the parameter. The marks are the place and the end
+// of each of its calls. The argument goes into dst as it is, so it is not looked into.
+fn substitute_in_combinator(
+    s: &[u8],
+    from: usize,
+    to: usize,
+    marks: &[u16],
+    param: &[u8],
+    arg: &[u8],
+    dst: &mut [u8],
+) -> usize
+    ensures { λ r. ⌜ Wrote (now (dst .entry)) 0 (substituted (now (s .entry)) (now (param .entry)) (now (arg .entry)) to (now (marks .entry)) from) (now (dst .exit)) r ⌝ }
+{
+    let mut at = from;
+    let mut o = 0;
+    let mut i = 0;
+    while i + 1 < marks.len() {
+        let call = marks[i] as usize;
+        let end = marks[i + 1] as usize;
+        i += 2;
+        if calls_name(s, call, param) {
+            let q = put_part(s, at, call, dst, o);
+            o = put_bytes(arg, dst, q);
+            at = end;
+        }
+    }
+    put_part(s, at, to, dst, o)
+}
+
+// Where the making of an instance stands: the places of the next parameter and of the next argument, the length of the combinator made so far and
+// the number of its marks, and whether it is within the limits.
+pub struct Turn {
+    pub param: usize,
+    pub arg: usize,
+    pub len: usize,
+    pub n: usize,
+    pub good: bool,
+}
+
+// The bytes from place a up to place e, as far as s reaches.
+fn between(s: &[u8], a: usize, e: usize) -> &[u8]
+    ensures { λ r. ⌜ now r ≡ part a e (now (s .entry)) ⌝ }
+{
+    let end = least(e, s.len());
+    if end <= a {
+        return &s[..0];
+    }
+    &s[a..end]
+}
+
+// Over the combinator at a place, with so many levels left; its calls go to the marks from the first on.
+pub fn walk_over(s: &[u8], at: usize, levels: usize, marks: &mut [u16]) -> Walk
+    ensures { λ r. ⌜ (r ≡ combinatorAt levels (now (s .entry)) (walk at 0 levels true) (now (marks .entry)) .0) × (now (marks .exit) ≡ combinatorAt levels (now (s .entry)) (walk at 0 levels true) (now (marks .entry)) .1) ⌝ }
+{
+    combinator(
+        s,
+        Walk {
+            at,
+            n: 0,
+            left: levels,
+            plain: true,
+        },
+        levels,
+        marks,
+    )
+}
+
+// Over the inner at a place, with nothing recorded.
+fn skip_over(s: &[u8], at: usize, marks: &mut [u16]) -> Walk
+    ensures { λ r. ⌜ (r ≡ skipAt 64 (now (s .entry)) (walk at 0 64 true) (now (marks .entry)) .0) × (now (marks .exit) ≡ skipAt 64 (now (s .entry)) (walk at 0 64 true) (now (marks .entry)) .1) ⌝ }
+{
+    skip_inner(
+        s,
+        Walk {
+            at,
+            n: 0,
+            left: 64,
+            plain: true,
+        },
+        64,
+        marks,
+    )
+}
+
+fn stopped(t: Turn) -> Turn
+    ensures { λ r. ⌜ r .good ≡ false ⌝ }
+{
+    Turn {
+        param: t.param,
+        arg: t.arg,
+        len: t.len,
+        n: t.n,
+        good: false,
+    }
+}
+
+// One parameter's turn: the combinator in a is made anew in b, and goes back to a. Over 16,384 bytes or 64 levels it is not good.
+fn substitute_next(
+    macros: &[u8],
+    book: &[u8],
+    t: Turn,
+    a: &mut [u8],
+    b: &mut [u8],
+    marks: &mut [u16],
+) -> Turn
+    ensures { λ r. ⌜ Turned (now (macros .entry)) (now (book .entry)) (now (a .entry)) (now (b .entry)) (now (marks .entry)) t (now (a .exit)) (now (marks .exit)) r ⌝ }
+{
+    let param = t.param;
+    let arg = t.arg;
+    let len = t.len;
+    let n = t.n;
+    let u = skip_over(book, arg, marks);
+    let end = u.at;
+    let o = substitute_in_combinator(
+        &a[..],
+        0,
+        len,
+        first_marks(&marks[..], n),
+        name_at(macros, param),
+        between(book, arg, end),
+        b,
+    );
+    if b.len() < o {
+        return stopped(t);
+    }
+    put_part(&b[..], 0, o, a, 0);
+    let w = walk_over(&a[..], 0, 129, marks);
+    let left = w.left;
+    let next = name_past(macros, param);
+    Turn {
+        param: next,
+        arg: end,
+        len: w.at,
+        n: w.n,
+        good: 65 <= left,
+    }
+}
+
+// One parameter after the other, for so many pairs of a parameter and an argument.
+fn instance(
+    macros: &[u8],
+    book: &[u8],
+    t: Turn,
+    pairs: usize,
+    a: &mut [u8],
+    b: &mut [u8],
+    marks: &mut [u16],
+) -> Turn
+    requires { ⌜ t .good ≡ true ⌝ }
+    ensures { λ r. ⌜ Instanced (now (macros .entry)) (now (book .entry)) (now (a .entry)) (now (b .entry)) (now (marks .entry)) t pairs (now (a .exit)) (now (marks .exit)) r ⌝ }
+{
+    let mut here = t;
+    let mut left = pairs;
+    while 0 < left {
+        here = substitute_next(macros, book, here, a, b, marks);
+        let good = here.good;
+        if good {
+            left -= 1;
+        } else {
+            return here;
+        }
+    }
+    here
+}

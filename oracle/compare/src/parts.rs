@@ -1,0 +1,82 @@
+//! The books of a comparison, in parts.
+
+use crate::case::{drawn, Sizes, OUTS, WORKS};
+use driver::cases::{self, short, sweep, Rng};
+use driver::stories;
+
+/// A book of more bytes is not swept: each byte makes 258 damages.
+const SWEPT_BYTES: usize = 64;
+
+pub struct Part {
+    pub name: &'static str,
+    pub cases: Box<dyn Iterator<Item = (Vec<u8>, Sizes)>>,
+    pub count: u64,
+}
+
+/// All parts: those that are always the same, then so many generated books of a seed.
+pub fn parts(seed: u64, count: u64) -> Vec<Part> {
+    let generated = (0..count).map(move |number| cases::case(seed, number).bytes);
+    let swept: Vec<Vec<u8>> = told()
+        .into_iter()
+        .filter(|book| book.len() <= SWEPT_BYTES)
+        .collect();
+    let damages = swept
+        .into_iter()
+        .flat_map(|book| sweep::sweep(&book).collect::<Vec<_>>());
+    vec![
+        part("limits", Box::new(around_the_limits())),
+        with_sizes("strings", seed, short::strings()),
+        with_sizes("small books", seed, short::books()),
+        with_sizes("damages", seed, damages),
+        Part {
+            count,
+            cases: sized(seed, generated),
+            name: "generated",
+        },
+    ]
+}
+
+fn part(name: &'static str, cases: Box<dyn Iterator<Item = (Vec<u8>, Sizes)>>) -> Part {
+    let cases: Vec<_> = cases.collect();
+    Part {
+        name,
+        count: cases.len() as u64,
+        cases: Box::new(cases.into_iter()),
+    }
+}
+
+fn with_sizes(
+    name: &'static str,
+    seed: u64,
+    books: impl Iterator<Item = Vec<u8>> + 'static,
+) -> Part {
+    part(name, sized(seed, books))
+}
+
+fn sized(
+    seed: u64,
+    books: impl Iterator<Item = Vec<u8>> + 'static,
+) -> Box<dyn Iterator<Item = (Vec<u8>, Sizes)>> {
+    let sizes = (0..).map(move |number| drawn(&mut Rng::of_case(!seed, number)));
+    Box::new(books.zip(sizes))
+}
+
+/// Every limit from both sides and the books with a story, with buffers of all lengths around the limits.
+fn around_the_limits() -> impl Iterator<Item = (Vec<u8>, Sizes)> {
+    let limits = cases::both_sides().into_iter().map(|side| side.bytes);
+    let books: Vec<Vec<u8>> = limits.chain(told()).collect();
+    books.into_iter().enumerate().flat_map(|(number, book)| {
+        let noise = number as u32;
+        let works = WORKS.into_iter();
+        works.flat_map(move |work| {
+            let book = book.clone();
+            let outs = OUTS.into_iter();
+            outs.map(move |out| (book.clone(), Sizes { out, work, noise }))
+        })
+    })
+}
+
+fn told() -> Vec<Vec<u8>> {
+    let told = stories::stories();
+    told.into_iter().map(|story| story.bytes).collect()
+}

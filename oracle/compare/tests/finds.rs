@@ -1,0 +1,133 @@
+//! The comparison against callees made for it: an honest one passes, and of each fault the smallest book is found.
+
+use compare::callee::{Call, Callee, Reply, Request};
+use compare::case::{expected, judge, Case, Out, Sizes, PLAIN};
+use compare::shrink::shrink;
+use driver::cases::{case, Rng};
+
+/// Answers as the oracle does, then does what is wrong with it.
+struct Fake(fn(&Request, &mut Reply));
+
+impl Callee for Fake {
+    fn call(&mut self, request: &Request) -> Result<Reply, String> {
+        let case = Case {
+            call: request.call,
+            book: request.book.to_vec(),
+            sizes: Sizes {
+                out: Out::Bytes(request.out),
+                work: request.work,
+                noise: request.noise,
+            },
+        };
+        let honest = expected(&case)?;
+        let mut reply = Reply {
+            numbers: honest.numbers,
+            out: honest.out,
+            work_not_zero: 0,
+            strayed: 0,
+            nanoseconds: 0,
+        };
+        self.0(request, &mut reply);
+        Ok(reply)
+    }
+}
+
+fn cases(call: Call) -> impl Iterator<Item = Case> {
+    (0..1500).map(move |number| Case {
+        call,
+        book: case(3, number).bytes,
+        sizes: compare::case::drawn(&mut Rng::of_case(4, number)),
+    })
+}
+
+/// The smallest book for the first difference that a fault makes.
+fn found(call: Call, fault: fn(&Request, &mut Reply)) -> Case {
+    let mut fake = Fake(fault);
+    for case in cases(call) {
+        if let Err(difference) = judge(&mut fake, &case).expect("the oracle agrees with itself") {
+            return shrink(&mut fake, case, difference).0;
+        }
+    }
+    panic!("no case shows the fault");
+}
+
+#[test]
+fn an_honest_callee_passes() {
+    for call in [Call::Premise, Call::Elaborate] {
+        for case in cases(call) {
+            assert!(judge(&mut Fake(|_, _| {}), &case).unwrap().is_ok());
+        }
+    }
+}
+
+#[test]
+fn a_wrong_code_shrinks_to_a_smallest_book() {
+    let case = found(Call::Elaborate, |_, reply| {
+        if reply.numbers[0] == 8 {
+            reply.numbers[0] = 7;
+        }
+    });
+    assert_eq!(case.sizes, PLAIN);
+    assert_eq!(expected(&case).unwrap().numbers[0], 8);
+    assert!(case.book.len() <= 26, "{} bytes", case.book.len());
+}
+
+#[test]
+fn a_result_that_is_too_short_is_noticed() {
+    let case = found(Call::Elaborate, |_, reply| {
+        reply.out.pop();
+    });
+    assert_eq!(case.book, [0, 0]);
+}
+
+#[test]
+fn a_byte_behind_the_result_is_noticed() {
+    let case = found(Call::Elaborate, |request, reply| {
+        if reply.numbers[0] == 0 && reply.out.len() < request.out {
+            reply.out.push(0);
+        }
+    });
+    assert_eq!((case.book, case.sizes), (vec![0, 0], PLAIN));
+}
+
+#[test]
+fn an_output_written_on_refusals_is_noticed() {
+    let case = found(Call::Elaborate, |_, reply| {
+        if reply.numbers[0] == 11 {
+            reply.out.push(0);
+        }
+    });
+    assert_eq!(case.book, [0, 0]);
+    assert_ne!(case.sizes.out, PLAIN.out);
+}
+
+#[test]
+fn a_count_that_is_invented_is_noticed() {
+    let case = found(Call::Elaborate, |_, reply| {
+        if reply.numbers[3] > 1 {
+            reply.numbers[3] = 1;
+        }
+    });
+    assert_eq!(expected(&case).unwrap().numbers[3], 2);
+}
+
+#[test]
+fn a_work_area_that_is_not_cleared_when_short_is_noticed() {
+    let case = found(Call::Premise, |request, reply| {
+        if request.work < 65_536 {
+            reply.work_not_zero = request.work as u32;
+        }
+    });
+    assert_eq!(case.book, []);
+    assert!((1..65_536).contains(&case.sizes.work));
+}
+
+#[test]
+fn a_wrong_yes_shrinks_to_a_call_of_nothing() {
+    let case = found(Call::Premise, |_, reply| {
+        if reply.numbers == [0, 0, 0, 0] {
+            reply.numbers[1] = 1;
+        }
+    });
+    assert!(case.book.len() <= 20, "{} bytes", case.book.len());
+}

@@ -1,0 +1,122 @@
+//! The codes, with names and what they mean.
+
+use std::fmt;
+
+/// Why a book was not elaborated. docs/CODES.md has more, with a smallest book for each.
+#[derive(Debug, Clone, Copy, PartialEq, Eq, Hash, PartialOrd, Ord)]
+#[repr(u8)]
+pub enum Refusal {
+    WorkTooShort = 1,
+    BookTooLong = 2,
+    NotABook = 3,
+    BadName = 4,
+    TooDeep = 5,
+    MacroGrowth = 6,
+    LeftoverMacro = 7,
+    NoBinder = 8,
+    LiftedNameTooLong = 9,
+    ResultTooLarge = 10,
+    OutTooShort = 11,
+}
+
+impl Refusal {
+    /// All of them, by code.
+    pub const ALL: [Refusal; 11] = [
+        Refusal::WorkTooShort,
+        Refusal::BookTooLong,
+        Refusal::NotABook,
+        Refusal::BadName,
+        Refusal::TooDeep,
+        Refusal::MacroGrowth,
+        Refusal::LeftoverMacro,
+        Refusal::NoBinder,
+        Refusal::LiftedNameTooLong,
+        Refusal::ResultTooLarge,
+        Refusal::OutTooShort,
+    ];
+
+    /// None where nothing is refused. There is no other code: that is proved.
+    pub(crate) fn of(code: u32) -> Option<Refusal> {
+        let place = (code as usize).checked_sub(1)?;
+        Some(Refusal::ALL[place])
+    }
+
+    /// Its number, 1 to 11.
+    pub fn code(self) -> u8 {
+        self as u8
+    }
+
+    /// A few words.
+    pub fn name(self) -> &'static str {
+        match self {
+            Refusal::WorkTooShort => "work area too short",
+            Refusal::BookTooLong => "book too long",
+            Refusal::NotABook => "not a book",
+            Refusal::BadName => "bad name",
+            Refusal::TooDeep => "too deep",
+            Refusal::MacroGrowth => "macros grow too large",
+            Refusal::LeftoverMacro => "leftover macro call",
+            Refusal::NoBinder => "no binder",
+            Refusal::LiftedNameTooLong => "lifted name too long",
+            Refusal::ResultTooLarge => "result too large",
+            Refusal::OutTooShort => "output too short",
+        }
+    }
+
+    /// What it means and what to do about it.
+    pub fn explanation(self) -> &'static str {
+        match self {
+            Refusal::WorkTooShort => "The work area has fewer than 65,536 bytes: lend a longer one.",
+            Refusal::BookTooLong => {
+                "The book has more than 16,384 bytes: split the layouts over several books."
+            }
+            Refusal::NotABook => {
+                "The bytes are no book: contents that do not fit the bodies, an unknown tag, an item that runs past \
+                 its body or bytes left over. The program that wrote the book is at fault, or the copy is damaged."
+            }
+            Refusal::BadName => {
+                "A name is not UTF-8, or has a '.' where only selectors and arguments may have one: rename it."
+            }
+            Refusal::TooDeep => {
+                "Formats are nested more than 64 levels deep: give an inner one a definition of its own."
+            }
+            Refusal::MacroGrowth => {
+                "Expanding macros passes 16,384 bytes or 64 levels: a macro whose arguments use its other parameters \
+                 several times grows by the product. Use formats in place of some macros."
+            }
+            Refusal::LeftoverMacro => {
+                "A nested format calls a macro that is not defined, or calls one from inside a macro: define it, or \
+                 write the inner macro's body out."
+            }
+            Refusal::NoBinder => {
+                "A nested format uses a name (@n) that neither a parameter nor a dependent field before it binds: \
+                 bind it, or correct the name."
+            }
+            Refusal::LiftedNameTooLong => {
+                "The name of a lifted format, made from the names on the way to it, has more than 255 bytes: shorten \
+                 names and labels, or give the nested format a definition of its own."
+            }
+            Refusal::ResultTooLarge => {
+                "The result has more than 16,384 bytes or 512 definitions: split the layouts over several books, or \
+                 define once what is nested in many places."
+            }
+            Refusal::OutTooShort => {
+                "The output is shorter than the result: 16,384 bytes are always enough."
+            }
+        }
+    }
+}
+
+impl fmt::Display for Refusal {
+    fn fmt(&self, f: &mut fmt::Formatter) -> fmt::Result {
+        write!(
+            f,
+            "refused {} ({}): {}",
+            self.code(),
+            self.name(),
+            self.explanation()
+        )
+    }
+}
+
+impl std::error::Error for Refusal {}
