@@ -1,5 +1,5 @@
 mod Growth
-mod Opening
+pub mod Opening
 mod Telling
 mod Lifting
 mod Answering

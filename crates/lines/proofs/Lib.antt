@@ -1,0 +1,4 @@
+mod Shown
+mod Lines
+mod Room
+mod Whole
