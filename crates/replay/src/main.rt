@@ -1,6 +1,8 @@
 // Replays the recorded answers of the Rust, data/ (its page there says how they were made and laid out), and counts for each
 // code the answers that are the recorded ones and those that are not.
 use elab::Tested;
+use elab::elaboration::Elaborated;
+use elab::elaboration::elaborate;
 use libc::STDOUT_FILENO;
 use lookup::same_name;
 use macros::Expanded;
@@ -186,6 +188,64 @@ fn tests_as(book: &[u8], code: u8, holds: u8) -> bool {
     false
 }
 
+// Where the result stands.
+fn result_of(c: Case) -> Bytes {
+    let r = c.result;
+    if r.within == 0 {
+        return r;
+    }
+    Bytes {
+        within: 1,
+        from: c.from,
+        to: c.to,
+    }
+}
+
+// Whether the output begins with these bytes, so many, and is as before behind them.
+fn begins_with(out: &[u8], n: usize, result: &[u8]) -> bool {
+    if out.len() < n {
+        return false;
+    }
+    if same_name(part(out, 0, n), result) {
+        return all_are(part(out, n, out.len()), 170);
+    }
+    false
+}
+
+// Whether `elaborate` gives this book the recorded code, counts and bytes, writes nothing else, and leaves a work area of zeros.
+fn answers_as(book: &[u8], c: Case, result: &[u8]) -> bool {
+    let mut out = [170u8; 16400];
+    let mut work = [170u8; 65536];
+    let answer = elaborate(book, &mut out, &mut work);
+    if !all_are(&work, 0) {
+        return false;
+    }
+    match answer {
+        Elaborated::Refused { code } => {
+            if code == c.code {
+                return all_are(&out, 170);
+            }
+            false
+        }
+        Elaborated::Done {
+            length,
+            definitions,
+            lifted,
+        } => {
+            if definitions != c.definitions {
+                return false;
+            }
+            if lifted != c.lifted {
+                return false;
+            }
+            if c.code == 0 {
+                return begins_with(&out, length as usize, result);
+            }
+            false
+        }
+    }
+}
+
 fn counted(t: Counts, code: u8, good: bool) -> Counts {
     let mut u = t;
     if 16 <= code {
@@ -208,7 +268,7 @@ fn is_expanded(code: u8) -> bool {
     code == 6
 }
 
-// One record, read, and expanded where it reads without fault.
+// One record: read, tested, elaborated, and expanded where it reads without fault.
 fn judge(s: &[u8], c: Case, t: Tally) -> Tally {
     let mut u = t;
     let code = c.code;
@@ -218,6 +278,9 @@ fn judge(s: &[u8], c: Case, t: Tally) -> Tally {
     u.reading = counted(t.reading, code, reads);
     let tests = tests_as(book, premise, c.holds);
     u.premise = counted(t.premise, premise, tests);
+    let r = result_of(c);
+    let answers = answers_as(book, c, part(s, r.from, r.to));
+    u.answer = counted(t.answer, code, answers);
     if is_expanded(premise) {
         let e = expanded_of(c);
         let expands = expands_as(book, premise, part(s, e.from, e.to));
@@ -307,4 +370,5 @@ fn main() {
     print(b"expansion", 0, t.expansion);
     print(b"expansion", 6, t.expansion);
     print_all(b"premise test", 6, t.premise);
+    print_all(b"elaborate", 10, t.answer);
 }
