@@ -14,7 +14,6 @@ pub mod Lift
 pub mod Answer
 pub mod Bodies
 pub mod Premise
-pub mod PutBack
 pub mod Listing
 pub mod Notation
 pub mod Worked

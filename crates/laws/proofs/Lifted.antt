@@ -15,7 +15,7 @@ use Rattle.definition.specs.Collect.{free, leftover}
 use Rattle.definition.specs.Lift.{Course, State, binder, bound, typed, take, grow, measured, append, Walk, lift}
 use Rattle.laws.specs.Lists.{paramNames}
 use Rattle.laws.proofs.Tests.{not-true}
-use Rattle.laws.proofs.Steps.{Gives, refusal, value, then, ask, of-value, gave}
+use Rattle.laws.proofs.Steps.{Gives, refusal, value, then, ask, of-value}
 use Rattle.laws.proofs.FreshName.{fresh-free}
 
 -- "A parameter's type is that of the first binder of that name"
@@ -105,6 +105,3 @@ lift-says course c inside base binders s =
       last-bytes = refl;
       last-defns = refl;
     })
-
-pub lifted : (course : Course) (c : Combinator) (inside : Walk) (base : Name) (binders : List Param) (s : State) (d : Combinator) (t : State) → lift course c inside base binders s ≡ ok d t → Lifted course c inside base binders s d t
-lifted course c inside base binders s d t e = gave (lift-says course c inside base binders s) e
