@@ -3,3 +3,4 @@ pub mod Opening
 mod Telling
 mod Lifting
 mod Answering
+pub mod Delivers

@@ -1,3 +1,4 @@
 pub mod Opens
 pub mod Tells
 pub mod Elaborates
+pub mod Delivers

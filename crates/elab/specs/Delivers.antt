@@ -1,0 +1,15 @@
+-- Demand 3 about the bytes that `elaborate` writes: a corollary over its contract.
+use mathlib.Core.Path.{_≡_}
+use mathlib.Core.List.{List}
+use Prim.Native.Nat.{ℕ}
+use lib.ListN.{length}
+use Rattle.definition.specs.Answer.{answer, output}
+use Rattle.laws.specs.Book.{Bytes}
+use Rattle.demand3.specs.Delivered.{Delivered}
+use Rattle.elab.specs.declared.elaboration.Elaborated.{Elaborated}
+use Rattle.elab.specs.Elaborates.{reported}
+
+-- what the two `ensures` of `elaborate` say of its answer and of the output afterwards, and that the book was accepted, give demand 3
+abbrev pub ElaborateDelivers : Type 0
+ElaborateDelivers = (book out work : List ℕ) → Bytes book → (r : Elaborated) (after : List ℕ) → reported r ≡ answer book (length out) (length work) → after ≡ output book out (length work)
+    → reported r .code ≡ 0 → Delivered book (reported r) after
