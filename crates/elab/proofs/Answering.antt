@@ -15,11 +15,11 @@ use Rattle.definition.specs.Answer.{expanded, elaborated, Result, all, outcome,
 use Rattle.laws.specs.Book.{Bytes, IsBook}
 use Rattle.laws.proofs.Results.{elaborated-book}
 use Rattle.laws.proofs.Steps.{did-out, did-given, yielded}
-use Rattle.elab.specs.declared.Opened.the-variants.{Book, Refused as Stopped}
-use Rattle.elab.specs.declared.elaboration.Elaborated.{Elaborated}
-use Rattle.elab.specs.declared.elaboration.Elaborated.the-variants.{Refused}
-use Rattle.elab.specs.Opens.{opened, Opens}
-use Rattle.elab.specs.Elaborates.{reported, Reports, lifted, Expanded, Lifts}
+use Rattle.opening.specs.declared.Opened.the-variants.{Book, Refused as Stopped}
+use Rattle.closing.specs.declared.Elaborated.{Elaborated}
+use Rattle.closing.specs.declared.Elaborated.the-variants.{Refused}
+use Rattle.opening.specs.Opens.{opened, Opens}
+use Rattle.closing.specs.Elaborates.{reported, Reports, lifted, Expanded, Lifts}
 
 elaborated-says : (b : List ℕ) → elaborated b ≡ (expanded b >>= λ ds. outcome (liftBook ds))
 unfolding elaborated

@@ -2,7 +2,7 @@
 -- Assumes nothing.
 use lib.ListN.{length}
 use Rattle.demand3.proofs.Delivered.{accepted-is-delivered}
-use Rattle.elab.specs.Elaborates.{reported}
+use Rattle.closing.specs.Elaborates.{reported}
 use Rattle.elab.specs.Delivers.{ElaborateDelivers}
 
 pub elaborate-delivers : ElaborateDelivers

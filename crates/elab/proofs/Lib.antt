@@ -1,6 +1,3 @@
-mod Growth
-pub mod Opening
 mod Telling
-mod Lifting
 mod Answering
 pub mod Delivers

@@ -15,10 +15,10 @@ use Rattle.definition.specs.Premise.{callsKnown, chainsPlain, tested, told as t
 use Rattle.writer.specs.Buf.{put, zeros}
 use Rattle.writer.proofs.Put.{put-fits}
 use Rattle.premise.specs.Holds.{Holds as Passes}
-use Rattle.elab.specs.declared.Opened.the-variants.{Book, Refused as Stopped}
+use Rattle.opening.specs.declared.Opened.the-variants.{Book, Refused as Stopped}
 use Rattle.elab.specs.declared.Tested.{Tested}
 use Rattle.elab.specs.declared.Tested.the-variants.{Holds, Fails, Refused}
-use Rattle.elab.specs.Opens.{opened, Opens}
+use Rattle.opening.specs.Opens.{opened, Opens}
 use Rattle.elab.specs.Tells.{told}
 
 premise-says : (b : List ℕ) (n : ℕ) → premise b n ≡ toldOf (tested b n)

@@ -6,8 +6,8 @@ use lib.ListN.{length}
 use Rattle.definition.specs.Answer.{answer, output}
 use Rattle.laws.specs.Book.{Bytes}
 use Rattle.demand3.specs.Delivered.{Delivered}
-use Rattle.elab.specs.declared.elaboration.Elaborated.{Elaborated}
-use Rattle.elab.specs.Elaborates.{reported}
+use Rattle.closing.specs.declared.Elaborated.{Elaborated}
+use Rattle.closing.specs.Elaborates.{reported}
 
 -- what the two `ensures` of `elaborate` say of its answer and of the output afterwards, and that the book was accepted, give demand 3
 abbrev pub ElaborateDelivers : Type 0

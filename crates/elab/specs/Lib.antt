@@ -1,4 +1,2 @@
-pub mod Opens
 pub mod Tells
-pub mod Elaborates
 pub mod Delivers

@@ -1,26 +1,13 @@
 // The whole elaboration: the expanded book's lifts are named, then the result is written.
-use crate::Opened;
-use crate::open_book;
-use body::Body;
-use formats::expand_definitions;
-use result::write_result;
+use closing::Elaborated;
+use closing::lift_book;
+use opening::Opened;
+use opening::open_book;
 use writer::zero_range;
 ghost use mathlib.Core.Path.{_≡_};
 ghost use lib.ListN.{length};
 ghost use Rattle.definition.specs.Answer.{attempt, answer, output, zeroed};
-ghost use Rattle.elab.specs.Elaborates.{reported, Reports, Expanded, Lifts};
-
-// The result's length, its count of definitions and the count lifted, or a code.
-pub enum Elaborated {
-    Done {
-        length: u16,
-        definitions: u16,
-        lifted: u16,
-    },
-    Refused {
-        code: u8,
-    },
-}
+ghost use Rattle.closing.specs.Elaborates.{reported, Reports};
 
 // The same in numbers, for callers in other languages.
 #[repr(C)]
@@ -29,43 +16,6 @@ pub struct Report {
     pub length: u32,
     pub definitions: u32,
     pub lifted: u32,
-}
-
-// Codes 7 to 11. Each table is as long as code 10 lets it become.
-fn lift_book(s: &[u8], out: &mut [u8]) -> Elaborated
-    requires { ⌜ Expanded (now s) ⌝ }
-    ensures { λ r. ⌜ Lifts (now (s .entry)) (now (out .entry)) (now (out .exit)) r ⌝ }
-{
-    let mut made = [0u8; 8192];
-    let mut rows = [0u16; 2560];
-    let mut params = [0u16; 13108];
-    let mut number = [0u16; 16384];
-    let mut order = [0u16; 512];
-    let body = expand_definitions(
-        s,
-        &mut made,
-        &mut rows,
-        &mut params,
-        &mut number,
-        &mut order,
-    );
-    match body {
-        Body::Refused(code) => Elaborated::Refused { code },
-        Body::Named(counts, n) => {
-            if out.len() < counts.bytes {
-                return Elaborated::Refused { code: 11 };
-            }
-            let length = counts.bytes as u16;
-            let definitions = counts.defns as u16;
-            let lifted = n as u16;
-            write_result(s, &made, &rows, &params, &number, &order, lifted, out);
-            Elaborated::Done {
-                length,
-                definitions,
-                lifted,
-            }
-        }
-    }
 }
 
 // The elaboration, with the work area left as it is then.

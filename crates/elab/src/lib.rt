@@ -1,24 +1,15 @@
 // The entry points: what they answer, what they leave in the work area, for every input.
-use book::read;
-use macros::Expanded;
-use macros::expand_macros;
+use opening::Opened;
+use opening::open_book;
 use premise::holds;
-use reader::Verdict;
 use writer::zero_range;
 ghost use mathlib.Core.Path.{_≡_};
 ghost use lib.ListN.{length};
 ghost use Rattle.definition.specs.Answer.{zeroed};
 ghost use Rattle.definition.specs.Premise.{premise};
-ghost use Rattle.elab.specs.Opens.{Opens};
 ghost use Rattle.elab.specs.Tells.{told};
 
 pub mod elaboration;
-
-// The expanded book, which fills the work area's first bytes, or a code.
-pub enum Opened {
-    Book { len: usize },
-    Refused { code: u8 },
-}
 
 // The premise test's answer: yes, no or a code.
 pub enum Tested {
@@ -32,29 +23,6 @@ pub enum Tested {
 pub struct Numbers {
     pub code: u32,
     pub holds: u32,
-}
-
-// Codes 1 to 6.
-fn open_book(book: &[u8], work: &mut [u8]) -> Opened
-    ensures { λ r. ⌜ Opens (now (book .entry)) (length (now (work .entry))) (now (work .exit)) r ⌝ }
-{
-    if work.len() < 65536 {
-        return Opened::Refused { code: 1 };
-    }
-    if 16384 < book.len() {
-        return Opened::Refused { code: 2 };
-    }
-    let verdict = read(book);
-    match verdict {
-        Verdict::Refused(f) => Opened::Refused { code: f.code },
-        Verdict::Sound => {
-            let got = expand_macros(book, book, &mut work[..16384]);
-            match got {
-                Expanded::Grown => Opened::Refused { code: 6 },
-                Expanded::Book { len } => Opened::Book { len },
-            }
-        }
-    }
 }
 
 // The premise test, with the work area left as it is then.

@@ -22,9 +22,9 @@ use Rattle.laws.proofs.Results.{elaborated-book, result-is-book}
 use Rattle.writer.specs.Buf.{Wrote, put}
 use Rattle.writer.proofs.Put.{take-written}
 use Rattle.writer.proofs.Wrote.{place-fits}
-use Rattle.elab.specs.declared.elaboration.Elaborated.{Elaborated}
-use Rattle.elab.specs.declared.elaboration.Elaborated.the-variants.{Done, Refused}
-use Rattle.elab.specs.Elaborates.{reported}
+use Rattle.closing.specs.declared.Elaborated.{Elaborated}
+use Rattle.closing.specs.declared.Elaborated.the-variants.{Done, Refused}
+use Rattle.closing.specs.Elaborates.{reported}
 use Rattle.lines.specs.Lines.{Lists, refusal, Tells}
 use Rattle.lines.proofs.Room.{listed-room}
 

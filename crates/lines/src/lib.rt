@@ -1,5 +1,5 @@
 // The lines of the listing, written into a buffer.
-use elab::elaboration::Elaborated;
+use closing::Elaborated;
 use elab::elaboration::elaborate;
 use lookup::name_at;
 use names::put_decimal;

@@ -1,7 +1,7 @@
 // Replays the recorded answers of the Rust, data/ (its page there says how they were made and laid out), and counts for each
 // code the answers that are the recorded ones and those that are not.
+use closing::Elaborated;
 use elab::Tested;
-use elab::elaboration::Elaborated;
 use elab::elaboration::elaborate;
 use libc::STDOUT_FILENO;
 use lookup::same_name;

@@ -8,7 +8,7 @@ use Rattle.elab.proofs.test.Statement.{statement}
 use Rattle.elab.proofs.test.Tie as tie
 use Rattle.elab.proofs.test.Reads as reads
 use Rattle.elab.proofs.test.Lts as lts
-use Rattle.elab.proofs.open_book.Reads as open-book-reads
+use Rattle.opening.proofs.open_book.Reads as open-book-reads
 use Rattle.premise.proofs.holds.Reads as holds-reads
 
 open-book-requires : tie.Need-open-book-requires

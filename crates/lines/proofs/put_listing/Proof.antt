@@ -1,7 +1,7 @@
 -- `lines::put_listing` meets its contract.
 -- Assumes nothing.
 use borrow.Author.Needs.{needs}
-use Rattle.elab.proofs.Opening.{all-bytes}
+use Rattle.opening.proofs.Opening.{all-bytes}
 use Prim.Native.Nat.{ℕ}
 use lib.ListN.{replicate, length-replicate, length-take}
 use native.Mathlib.Omega.{arith}

@@ -4,13 +4,13 @@ use borrow.Author.Needs.{needs}
 use lib.ListN.{length-take}
 use native.Mathlib.Omega.{arith}
 use Rattle.elab.proofs.Answering.{opened-book, reports-code, reports-lifts}
-use Rattle.elab.proofs.Opening.{all-bytes}
+use Rattle.opening.proofs.Opening.{all-bytes}
 use Rattle.elab.proofs.elaboration.attempt.Statement.{statement}
 use Rattle.elab.proofs.elaboration.attempt.Tie as tie
 use Rattle.elab.proofs.elaboration.attempt.Reads as reads
 use Rattle.elab.proofs.elaboration.attempt.Lts as lts
-use Rattle.elab.proofs.elaboration.lift_book.Reads as lift-book-reads
-use Rattle.elab.proofs.open_book.Reads as open-book-reads
+use Rattle.closing.proofs.lift_book.Reads as lift-book-reads
+use Rattle.opening.proofs.open_book.Reads as open-book-reads
 
 open-book-requires : tie.Need-open-book-requires
 open-book-requires c κs = search needs

@@ -1,7 +1,7 @@
 -- `elab::elaboration::in_numbers` meets its contract.
 -- Assumes nothing.
 use borrow.Author.Needs.{needs}
-use Rattle.elab.specs.Elaborates.{reported}
+use Rattle.closing.specs.Elaborates.{reported}
 use Rattle.elab.proofs.elaboration.in_numbers.Statement.{statement}
 use Rattle.elab.proofs.elaboration.in_numbers.Tie as tie
 use Rattle.elab.proofs.elaboration.in_numbers.Reads as reads

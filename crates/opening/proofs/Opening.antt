@@ -27,9 +27,9 @@ use Rattle.reader.specs.Verdict.{verdict}
 use Rattle.macros.specs.declared.Expanded.{Expanded}
 use Rattle.macros.specs.declared.Expanded.the-variants.{Book as Whole, Grown}
 use Rattle.macros.specs.Pass.{pass, answerOf, leaves, Passed}
-use Rattle.elab.specs.declared.Opened.the-variants.{Book, Refused}
-use Rattle.elab.specs.Opens.{opened, Refuses, Expands, Opens}
-use Rattle.elab.proofs.Growth.{Grows, six, none, only-six}
+use Rattle.opening.specs.declared.Opened.the-variants.{Book, Refused}
+use Rattle.opening.specs.Opens.{opened, Refuses, Expands, Opens}
+use Rattle.opening.proofs.Growth.{Grows, six, none, only-six}
 
 -- the definition computes with long lists of what unfolds; what it says is short
 read-says : (s : List ℕ) → readBook s ≡ bookOf 6 s

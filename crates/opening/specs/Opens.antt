@@ -10,8 +10,8 @@ use Rattle.definition.specs.Tree.{Definition}
 use Rattle.definition.specs.Write.{wBook}
 use Rattle.definition.specs.Answer.{expanded}
 use Rattle.laws.specs.Book.{IsBook}
-use Rattle.elab.specs.declared.Opened.{Opened}
-use Rattle.elab.specs.declared.Opened.the-variants.{Book, Refused}
+use Rattle.opening.specs.declared.Opened.{Opened}
+use Rattle.opening.specs.declared.Opened.the-variants.{Book, Refused}
 
 -- "Codes stand in this order": 1, then 2 to 6
 unfoldable pub opened : List ℕ → ℕ → Out (List Definition)

@@ -4,11 +4,11 @@ use borrow.Author.Needs.{needs}
 use Prim.Native.Nat.{ℕ}
 use lib.ListN.{length-replicate}
 use native.Mathlib.Omega.{arith}
-use Rattle.elab.proofs.Lifting.{zero-at, starts, lifts-refused, lifts-short, lifts-written, small}
-use Rattle.elab.proofs.elaboration.lift_book.Statement.{statement}
-use Rattle.elab.proofs.elaboration.lift_book.Tie as tie
-use Rattle.elab.proofs.elaboration.lift_book.Reads as reads
-use Rattle.elab.proofs.elaboration.lift_book.Lts as lts
+use Rattle.closing.proofs.Lifting.{zero-at, starts, lifts-refused, lifts-short, lifts-written, small}
+use Rattle.closing.proofs.lift_book.Statement.{statement}
+use Rattle.closing.proofs.lift_book.Tie as tie
+use Rattle.closing.proofs.lift_book.Reads as reads
+use Rattle.closing.proofs.lift_book.Lts as lts
 use Rattle.formats.proofs.expand_definitions.Reads as expand-definitions-reads
 use Rattle.result.proofs.write_result.Reads as write-result-reads
 

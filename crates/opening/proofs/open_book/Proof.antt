@@ -1,15 +1,15 @@
 -- `elab::open_book` meets its contract.
 -- Assumes nothing.
 use borrow.Author.Needs.{needs}
-use Rattle.elab.proofs.Opening.{all-bytes, opens-1, opens-2, opens-bad, opens-6, opens-book}
+use Rattle.opening.proofs.Opening.{all-bytes, opens-1, opens-2, opens-bad, opens-6, opens-book}
 use lib.Seq.{length-take-le}
 use lib.ListN.{length-take}
 use mathlib.Core.Path.{refl}
 use native.Mathlib.Omega.{arith}
-use Rattle.elab.proofs.open_book.Statement.{statement}
-use Rattle.elab.proofs.open_book.Tie as tie
-use Rattle.elab.proofs.open_book.Reads as reads
-use Rattle.elab.proofs.open_book.Lts as lts
+use Rattle.opening.proofs.open_book.Statement.{statement}
+use Rattle.opening.proofs.open_book.Tie as tie
+use Rattle.opening.proofs.open_book.Reads as reads
+use Rattle.opening.proofs.open_book.Lts as lts
 use Rattle.book.proofs.read.Reads as read-reads
 use Rattle.macros.proofs.expand_macros.Reads as expand-macros-reads
 

@@ -39,9 +39,9 @@ use Rattle.result.specs.Model.{tables}
 use Rattle.result.specs.Adds.{Filled}
 use Rattle.result.specs.Held.{Held, Writes}
 use Rattle.result.proofs.Numbered.{numbered-by}
-use Rattle.elab.specs.declared.elaboration.Elaborated.{Elaborated}
-use Rattle.elab.specs.declared.elaboration.Elaborated.the-variants.{Done, Refused}
-use Rattle.elab.specs.Elaborates.{reported, Reports, lifted, Expanded, Lifts}
+use Rattle.closing.specs.declared.Elaborated.{Elaborated}
+use Rattle.closing.specs.declared.Elaborated.the-variants.{Done, Refused}
+use Rattle.closing.specs.Elaborates.{reported, Reports, lifted, Expanded, Lifts}
 
 -- tables of zeros are tables to start with
 pub zero-at : (n p : ℕ) → getD {A = ℕ} (replicate n 0) p 0 ≡ 0

@@ -11,8 +11,8 @@ use Rattle.definition.specs.Write.{wBook}
 use Rattle.definition.specs.Lift.{liftBook}
 use Rattle.definition.specs.Answer.{Result, all, outcome, Answer, answered, filled}
 use Rattle.laws.specs.Book.{IsBook}
-use Rattle.elab.specs.declared.elaboration.Elaborated.{Elaborated}
-use Rattle.elab.specs.declared.elaboration.Elaborated.the-variants.{Done, Refused}
+use Rattle.closing.specs.declared.Elaborated.{Elaborated}
+use Rattle.closing.specs.declared.Elaborated.the-variants.{Done, Refused}
 
 -- "It answers a code, the result's length, its count of definitions and the count lifted."; "On a refusal the three numbers are 0"
 unfoldable pub reported : Elaborated → Answer

@@ -1,0 +1,54 @@
+// From the expanded book to the result: the lifts are named, then the result is written. Codes 7 to 11.
+use body::Body;
+use formats::expand_definitions;
+use result::write_result;
+ghost use Rattle.closing.specs.Elaborates.{Expanded, Lifts};
+
+// The result's length, its count of definitions and the count lifted, or a code.
+pub enum Elaborated {
+    Done {
+        length: u16,
+        definitions: u16,
+        lifted: u16,
+    },
+    Refused {
+        code: u8,
+    },
+}
+
+// Codes 7 to 11. Each table is as long as code 10 lets it become.
+pub fn lift_book(s: &[u8], out: &mut [u8]) -> Elaborated
+    requires { ⌜ Expanded (now s) ⌝ }
+    ensures { λ r. ⌜ Lifts (now (s .entry)) (now (out .entry)) (now (out .exit)) r ⌝ }
+{
+    let mut made = [0u8; 8192];
+    let mut rows = [0u16; 2560];
+    let mut params = [0u16; 13108];
+    let mut number = [0u16; 16384];
+    let mut order = [0u16; 512];
+    let body = expand_definitions(
+        s,
+        &mut made,
+        &mut rows,
+        &mut params,
+        &mut number,
+        &mut order,
+    );
+    match body {
+        Body::Refused(code) => Elaborated::Refused { code },
+        Body::Named(counts, n) => {
+            if out.len() < counts.bytes {
+                return Elaborated::Refused { code: 11 };
+            }
+            let length = counts.bytes as u16;
+            let definitions = counts.defns as u16;
+            let lifted = n as u16;
+            write_result(s, &made, &rows, &params, &number, &order, lifted, out);
+            Elaborated::Done {
+                length,
+                definitions,
+                lifted,
+            }
+        }
+    }
+}

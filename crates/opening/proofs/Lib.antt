@@ -1,0 +1,2 @@
+mod Growth
+pub mod Opening
