@@ -184,3 +184,14 @@ fn the_premise_looks_at_calls_and_chains_of_bodies() {
     assert!(yes("format m = zz!(vec<nothing >>= nope>)"));
     assert!(!yes("macro f!() = nothing format m = f!() >>= tail"));
 }
+
+// The gate's program `listings` lists copies of examples.
+#[test]
+fn listed_books_are_the_examples() {
+    let data = examples().join("../crates/listings/data");
+    for entry in fs::read_dir(data).expect("data of listings") {
+        let path = entry.expect("entry").path();
+        let original = examples().join(path.file_name().expect("name"));
+        assert_eq!(fs::read(&path).expect("copy"), fs::read(original).expect("original"), "{}", path.display());
+    }
+}

@@ -1,0 +1,91 @@
+use native.Mathlib.Omega.{arith}
+use lib.ListN.{length-take}
+use borrow.Author.Needs.{needs}
+use Rattle.listings.proofs.list.Statement.{statement}
+use Rattle.listings.proofs.list.Tie as tie
+use Rattle.listings.proofs.list.Reads as reads
+use Rattle.listings.proofs.list.Lts as lts
+use Rattle.io.proofs.large_buffer.Reads as large-buffer-reads
+use Rattle.io.proofs.read_full.Reads as read-full-reads
+use Rattle.io.proofs.write_all.Reads as write-all-reads
+use Rattle.libc.proofs.close.Reads as close-reads
+use Rattle.lines.proofs.put_listing.Reads as put-listing-reads
+use Rattle.os.proofs.fail.Reads as fail-reads
+use Rattle.os.proofs.open_read.Reads as open-read-reads
+
+open-read-requires : tie.Need-open-read-requires
+open-read-requires c κs = search needs
+
+fail-requires : tie.Need-fail-requires
+fail-requires c κs = search needs
+
+returns : tie.Need-returns
+returns c = search needs
+
+write-all-requires : tie.Need-write-all-requires
+write-all-requires c κs = search needs
+
+slice-aggregate-write-all : tie.Need-slice-aggregate-write-all
+slice-aggregate-write-all c = search needs
+
+write-all-requires-2 : tie.Need-write-all-requires-2
+write-all-requires-2 c κs = search needs
+
+large-buffer-requires : tie.Need-large-buffer-requires
+large-buffer-requires c κs = search needs
+
+slice-aggregate-read-full : tie.Need-slice-aggregate-read-full
+slice-aggregate-read-full c = search needs
+
+read-full-requires : tie.Need-read-full-requires
+read-full-requires c κs = search needs
+
+array-share-prefix-book : tie.Need-array-share-prefix-book
+array-share-prefix-book c = search needs
+
+slice-aggregate-put-listing : tie.Need-slice-aggregate-put-listing
+slice-aggregate-put-listing c = search needs
+
+slice-aggregate-put-listing-2 : tie.Need-slice-aggregate-put-listing-2
+slice-aggregate-put-listing-2 c = search needs
+
+put-listing-requires : tie.Need-put-listing-requires
+put-listing-requires c κs = search needs
+
+array-share-prefix-text : tie.Need-array-share-prefix-text
+array-share-prefix-text c = omega (arith, c .before .put-listing .ensures .fits (omega (arith, c .before .before .before .before .before .before .before .large-buffer .ensures)), c .before .before .before .before .before .before .before .large-buffer .ensures, c .text2 .given)
+
+slice-aggregate-write-all-2 : tie.Need-slice-aggregate-write-all-2
+slice-aggregate-write-all-2 c = simp length-take (omega (arith, c .before .before .put-listing .ensures .fits (omega (arith, c .before .before .before .before .before .before .before .before .large-buffer .ensures)), c .before .before .before .before .before .before .before .before .large-buffer .ensures, c .before .text2 .given))
+
+write-all-requires-3 : tie.Need-write-all-requires-3
+write-all-requires-3 c κs = search needs
+
+close-requires : tie.Need-close-requires
+close-requires c κs = search needs
+
+returns-2 : tie.Need-returns-2
+returns-2 c = search needs
+
+pub list-spec : {M : Type 1} → statement M
+list-spec =
+    tie.close
+    (tie.spec
+    open-read-requires
+    fail-requires
+    returns
+    write-all-requires
+    slice-aggregate-write-all
+    write-all-requires-2
+    large-buffer-requires
+    slice-aggregate-read-full
+    read-full-requires
+    array-share-prefix-book
+    slice-aggregate-put-listing
+    slice-aggregate-put-listing-2
+    put-listing-requires
+    array-share-prefix-text
+    slice-aggregate-write-all-2
+    write-all-requires-3
+    close-requires
+    returns-2)
