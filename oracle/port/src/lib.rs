@@ -1,6 +1,6 @@
 //! The port's Rattle sources, contracts taken off (`build.rs` says why), held against the driver.
 
-#![allow(clippy::all, unused, unused_parens)]
+#![allow(clippy::all, unused, unused_parens, improper_ctypes_definitions)]
 
 include!(concat!(env!("OUT_DIR"), "/port.rs"));
 
@@ -10,4 +10,10 @@ pub fn read(bytes: &[u8]) -> (u8, usize) {
         reader::Verdict::Sound => (0, 0),
         reader::Verdict::Refused(fault) => (fault.code, fault.at),
     }
+}
+
+/// The code, and the length of the result in `out`.
+pub fn elaborate(bytes: &[u8], out: &mut [u8], work: &mut [u8]) -> (u32, usize) {
+    let answer = elab::elaboration::samulsto_elaborate(bytes, out, work);
+    (answer.code, answer.length as usize)
 }

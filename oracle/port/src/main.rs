@@ -1,4 +1,6 @@
-//! The port's reading, compiled natively: compared with the driver's, and timed against size.
+//! The port's text, compiled natively: reading compared with the driver's and timed against size, the whole call timed beside the Rust.
+
+mod speed;
 
 use driver::cases::case;
 use driver::read::read;
@@ -14,7 +16,8 @@ fn main() {
             _ => fail("SEED and COUNT are numbers"),
         },
         ["times"] => times(),
-        _ => fail("the words are: read SEED COUNT, times"),
+        ["speed"] => speed::speed(),
+        _ => fail("the words are: read SEED COUNT, times, speed"),
     }
 }
 
