@@ -6,7 +6,7 @@ use native.Mathlib.Omega.{arith}
 use lib.Dec.{leb}
 use lib.ListN.{length}
 use borrow.Author.Tests.{leb-true}
-use Rattle.definition.specs.Code.{Code, number, work-short, book-long, not-a-book, bad-name, too-deep, macro-growth, leftover-macro, no-binder, name-long, result-long, output-short}
+use Rattle.definition.specs.Code.{Code, number, work-short, book-long, not-a-book, bad-name, too-deep, macro-growth, leftover-macro, no-binder, name-long, result-long, output-short, macro-left}
 use Rattle.definition.specs.Res.{Res}
 use Rattle.definition.specs.Out.{Out, refused, done}
 use Rattle.definition.specs.Tree.{Definition}
@@ -104,6 +104,7 @@ positive no-binder e = absurd (omega arith)
 positive name-long e = absurd (omega arith)
 positive result-long e = absurd (omega arith)
 positive output-short e = absurd (omega arith)
+positive macro-left e = absurd (omega arith)
 
 -- code 0: there is a result
 pub code-done : {X : Type 0} (m : Out Result) → answered m .code ≡ 0 → ((r : Result) → m ≡ done r → X) → X

@@ -7,7 +7,7 @@ use Prim.Native.Nat.{ℕ, zero, suc, _+_, _*_, _/_, _%_, _≤_}
 use native.Mathlib.Omega.{arith}
 use lib.Dec.{leb, ltb, eqb}
 use lib.ListN.{length, length-append}
-use Rattle.definition.specs.Code.{Code, number, work-short, book-long, not-a-book, bad-name, too-deep, macro-growth, leftover-macro, no-binder, name-long, result-long, output-short}
+use Rattle.definition.specs.Code.{Code, number, work-short, book-long, not-a-book, bad-name, too-deep, macro-growth, leftover-macro, no-binder, name-long, result-long, output-short, macro-left}
 use Rattle.definition.specs.Out.{Out, refused, done}
 use Rattle.definition.specs.Tree.{Name, Param, Definition, format, constant, byte-order, macro}
 use Rattle.definition.specs.Names.{digits, decimal}
@@ -92,7 +92,7 @@ result-room r i =
     let e = length-append ((111 ∷ 107 ∷ []) ++ d) l in
     omega (arith, a, b, c, e, count-room (length (all r)), count-room (length (r .lifted)), lines-room wFormat refl (r .kept), lines-room wLifted refl (r .lifted), room-append (r .kept) (r .lifted), size-book (all r), i .short, i .few, length-append (r .kept) (r .lifted))
 
-code-most : (k : Code) → number k ≤ 11
+code-most : (k : Code) → number k ≤ 12
 unfolding number
 code-most work-short = omega arith
 code-most book-long = omega arith
@@ -105,6 +105,7 @@ code-most no-binder = omega arith
 code-most name-long = omega arith
 code-most result-long = omega arith
 code-most output-short = omega arith
+code-most macro-left = omega arith
 
 pub listed-room : {m : Out Result} → Yields (λ r. IsBook (all r)) m → length (listed m) ≤ 65536
 unfolding listed
