@@ -8,9 +8,9 @@ use borrow.Author.Tests.{le-leb, lt-leb}
 use lib.ListN.{length, getD, take, drop, length-drop}
 use Rattle.definition.specs.Code.{Code, number, not-a-book, bad-name}
 use Rattle.definition.specs.Res.{Res, bad, ok, _>>=_, from}
-use Rattle.definition.specs.Read.{byte, u16, part, text, nameBy, known, dotted, undotted}
-use Rattle.definition.specs.Utf8.{wellFormed}
-use Rattle.cursor.specs.Item.{among, tested}
+use Rattle.definition.specs.Read.{byte, u16, part, text, nameBy, known}
+use Rattle.utf8.specs.Tested.{tested}
+use Rattle.cursor.specs.Item.{among}
 use Rattle.cursor.specs.Ends.{Along, Gives, Fails, Step, got, none, Took, TookBy, Part, ofByte, ofNumber}
 use Rattle.cursor.specs.declared.Cursor.{Cursor}
 use Rattle.cursor.specs.declared.Fault.{Fault}
@@ -127,9 +127,3 @@ pub ruleset among-laws = (a-none, a-low, a-high, a-in)
 pub ruleset text-laws = (t-none, t-short, t-at)
 
 pub ruleset name-laws = (m-end, m-short, m-no, m-yes)
-
--- what is no UTF-8 is no name of either kind
-pub not-name : (dots : Bool) (x : List ℕ) → wellFormed x ≡ false → false ≡ tested dots x
-unfolding dotted undotted
-not-name true x e = sym e
-not-name false x e = rw e

@@ -1,4 +1,3 @@
 pub mod Lists
 pub mod Laws
-pub mod Characters
 pub mod Only

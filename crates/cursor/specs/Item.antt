@@ -1,10 +1,9 @@
--- Items of the book that the code reads, where crate `definition` has them with a table or a test handed in.
-use mathlib.Core.List.{List}
-use mathlib.Core.Bool.{Bool, true, false, _&&_, cond}
+-- An item of the book that the code reads, where crate `definition` has it with a table handed in.
+use mathlib.Core.Bool.{_&&_, cond}
 use Prim.Native.Nat.{ℕ}
 use lib.Dec.{leb}
 use Rattle.definition.specs.Res.{Maybe, absent, just, Res, bad, ok, _>>=_}
-use Rattle.definition.specs.Read.{Reader, byte, known, dotted, undotted}
+use Rattle.definition.specs.Read.{Reader, byte, known}
 
 -- the numbers from low to high, as a table
 abbrev pub between : ℕ → ℕ → ℕ → Maybe ℕ
@@ -15,8 +14,3 @@ unfoldable pub among : ℕ → ℕ → Reader ℕ
 among low high s = do
   (b, r) ← byte s
   known (between low high b) s r
-
--- "A plain name has no '.'; only selectors and call arguments may have one."
-abbrev pub tested : Bool → List ℕ → Bool
-tested true = dotted
-tested false = undotted

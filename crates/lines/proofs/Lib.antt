@@ -1,4 +1,1 @@
-mod Shown
-mod Lines
-mod Room
 mod Whole

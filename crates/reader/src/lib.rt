@@ -8,7 +8,7 @@ ghost use mathlib.Core.Path.{_≡_};
 ghost use Rattle.definition.specs.Read.{combinator as combinatorOf, arg, items as itemsOf, fields as fieldsOf, cases as casesOf, inners, namesBy, len, selector as selectorOf, label as labelOf, params as paramsOf, definition as definitionOf, isStruct, isWrap, isChoice, isArray, isMacroInvocation, isInvocation, Reader};
 ghost use Rattle.definition.specs.Tree.{Combinator, Inner, isFormat, isConstant, isMacro};
 ghost use Rattle.cursor.specs.Ends.{Walks};
-ghost use Rattle.cursor.specs.Item.{tested};
+ghost use Rattle.utf8.specs.Tested.{tested};
 ghost use Rattle.reader.specs.Rows.{counted, Leads, tagOf, caseKindOf, itemsAt};
 ghost use Rattle.reader.specs.Verdict.{ofKind, bodyVerdict};
 

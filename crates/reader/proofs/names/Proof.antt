@@ -3,7 +3,7 @@ use mathlib.Core.Path.{refl, ap}
 use mathlib.Core.List.{[]}
 use Rattle.definition.specs.Read.{namesBy, name}
 use Rattle.cursor.specs.Ends.{ofNumber}
-use Rattle.cursor.specs.Item.{tested}
+use Rattle.utf8.specs.Tested.{tested}
 use Rattle.reader.specs.Rows.{counted}
 use Rattle.reader.proofs.Bind.{then-got, fails-none}
 use Rattle.reader.proofs.Rows.{Reaches, one-more, no-more, none-left, a-name}

@@ -6,7 +6,7 @@ use Rattle.cursor.proofs.Cursor.name.Statement.{statement}
 use Rattle.cursor.proofs.Cursor.name.Tie as tie
 use Rattle.cursor.proofs.Cursor.name.Reads as reads
 use Rattle.cursor.proofs.Cursor.name.Lts as lts
-use Rattle.cursor.proofs.is_name.Reads as is-name-reads
+use Rattle.utf8.proofs.is_name.Reads as is-name-reads
 use Rattle.cursor.proofs.wide.Reads as wide-reads
 
 returns : tie.Need-returns

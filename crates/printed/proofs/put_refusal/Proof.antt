@@ -1,0 +1,42 @@
+-- `printed::put_refusal` meets its contract.
+-- Assumes nothing.
+use borrow.Author.Needs.{needs}
+use Rattle.writer.proofs.Wrote.{glue, same-length as kept-length}
+use Rattle.printed.specs.Lines.{refusal}
+use Rattle.printed.proofs.put_refusal.Statement.{statement}
+use Rattle.printed.proofs.put_refusal.Tie as tie
+use Rattle.printed.proofs.put_refusal.Reads as reads
+use Rattle.printed.proofs.put_refusal.Lts as lts
+use Rattle.shown.proofs.put_count.Reads as put-count-reads
+use Rattle.writer.proofs.put_byte.Reads as put-byte-reads
+use Rattle.writer.proofs.put_bytes.Reads as put-bytes-reads
+
+slice-aggregate-put-bytes : tie.Need-slice-aggregate-put-bytes
+slice-aggregate-put-bytes c = search needs
+
+put-bytes-requires : tie.Need-put-bytes-requires
+put-bytes-requires c κs = search needs
+
+put-count-requires : tie.Need-put-count-requires
+put-count-requires c κs = search needs
+
+put-byte-requires : tie.Need-put-byte-requires
+put-byte-requires c κs = search needs
+
+same-length : tie.Need-same-length
+same-length c = search needs
+
+returns : tie.Need-returns
+unfolding refusal
+returns c = glue (c .before .before .before .before .before .before .before .before .before .before .put-bytes .ensures) (glue (c .before .before .before .before .before .before .put-count .ensures) (c .before .before .put-byte .ensures))
+
+pub put-refusal-spec : {M : Type 1} → statement M
+put-refusal-spec =
+    tie.close
+    (tie.spec
+    slice-aggregate-put-bytes
+    put-bytes-requires
+    put-count-requires
+    put-byte-requires
+    same-length
+    returns)

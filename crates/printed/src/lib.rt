@@ -1,0 +1,98 @@
+// The lines of a refusal and of a result, written into a buffer.
+use lookup::name_at;
+use seek::byte;
+use seek::name_past;
+use seek::number;
+use seek::past;
+use shown::put_count;
+use shown::put_shown;
+use writer::put_byte;
+use writer::put_bytes;
+ghost use mathlib.Core.Path.{_≡_};
+ghost use Prim.Native.Nat.{_-_};
+ghost use Rattle.writer.specs.Buf.{Wrote};
+ghost use Rattle.printed.specs.Lines.{wordOf, Line, AllLines, Lists, refusal};
+
+fn minus(n: usize, m: usize) -> usize
+    ensures { λ r. ⌜ r ≡ n - m ⌝ }
+{
+    if n < m {
+        return 0;
+    }
+    n - m
+}
+
+// `format` for a definition that was there, `lifted` for one that was not.
+fn put_word(kept: usize, out: &mut [u8], at: usize) -> usize
+    ensures { λ r. ⌜ Wrote (now (out .entry)) at (wordOf kept) (now (out .exit)) r ⌝ }
+{
+    if kept == 0 {
+        return put_bytes(b"lifted", out, at);
+    }
+    put_bytes(b"format", out, at)
+}
+
+// The line of the definition at a place; `kept` definitions that were there are left, itself one of them.
+fn put_line(s: &[u8], kind: u8, at: usize, kept: usize, out: &mut [u8], o: usize) -> usize
+    ensures { λ r. ⌜ Line (now (s .entry)) kind at kept (now (out .entry)) o (now (out .exit)) r ⌝ }
+{
+    if kind == 3 {
+        return put_bytes(b"order\n", out, o);
+    }
+    let name = name_at(s, at);
+    if kind == 2 {
+        let a = put_bytes(b"const ", out, o);
+        let b = put_shown(name, out, a);
+        return put_byte(10, out, b);
+    }
+    if kind != 1 {
+        return put_bytes(b"", out, o);
+    }
+    let params_at = name_past(s, at);
+    let params = number(s, params_at) as usize;
+    let a = put_word(kept, out, o);
+    let b = put_byte(32, out, a);
+    let c = put_shown(name, out, b);
+    let d = put_count(params, out, c);
+    put_byte(10, out, d)
+}
+
+// The end of the first line, and a line for each definition.
+fn put_lines(s: &[u8], kept: usize, out: &mut [u8], at: usize) -> usize
+    ensures { λ r. ⌜ AllLines (now (s .entry)) kept (now (out .entry)) at (now (out .exit)) r ⌝ }
+{
+    let mut left = number(s, 0) as usize;
+    let mut entry = past(s, 0, 2);
+    let mut here = past(s, 2, 6 * left);
+    let mut first = kept;
+    let mut o = put_byte(10, out, at);
+    while 0 < left {
+        let kind = byte(s, entry);
+        let sized = past(s, entry, 4);
+        let size = number(s, sized) as usize;
+        o = put_line(s, kind, here, first, out, o);
+        here = past(s, here, size);
+        entry = past(s, entry, 6);
+        first = minus(first, 1);
+        left -= 1;
+    }
+    o
+}
+
+pub fn put_refusal(code: u8, out: &mut [u8]) -> usize
+    ensures { λ r. ⌜ Wrote (now (out .entry)) 0 (refusal code) (now (out .exit)) r ⌝ }
+{
+    let a = put_bytes(b"refused", out, 0);
+    let b = put_count(code as usize, out, a);
+    put_byte(10, out, b)
+}
+
+pub fn put_result(s: &[u8], definitions: u16, lifted: u16, out: &mut [u8]) -> usize
+    ensures { λ r. ⌜ Lists (now (s .entry)) definitions lifted (now (out .entry)) (now (out .exit)) r ⌝ }
+{
+    let a = put_bytes(b"ok", out, 0);
+    let b = put_count(definitions as usize, out, a);
+    let c = put_count(lifted as usize, out, b);
+    let kept = minus(definitions as usize, lifted as usize);
+    put_lines(s, kept, out, c)
+}

@@ -1,0 +1,44 @@
+-- `utf8::lead` meets its contract.
+-- Assumes nothing.
+use borrow.Author.Needs.{needs}
+use Rattle.utf8.proofs.Leads.{of-one, of-none, of-two}
+use Rattle.utf8.proofs.lead.Statement.{statement}
+use Rattle.utf8.proofs.lead.Tie as tie
+use Rattle.utf8.proofs.lead.Reads as reads
+use Rattle.utf8.proofs.lead.Lts as lts
+use Rattle.utf8.proofs.wants.Reads as wants-reads
+use Rattle.utf8.proofs.lead_of_three.Reads as lead-of-three-reads
+use Rattle.utf8.proofs.lead_of_four.Reads as lead-of-four-reads
+
+wants-requires : tie.Need-wants-requires
+wants-requires c κs = search needs
+
+returns : tie.Need-returns
+returns c = of-one _ (c .wants .ensures) (c .before .if1 .taken)
+
+wants-requires-2 : tie.Need-wants-requires-2
+wants-requires-2 c κs = search needs
+
+returns-2 : tie.Need-returns-2
+returns-2 c = of-none _ (c .wants2 .ensures) (c .before .before .if1 .left) (c .before .if2 .taken)
+
+wants-requires-3 : tie.Need-wants-requires-3
+wants-requires-3 c κs = search needs
+
+returns-3 : tie.Need-returns-3
+returns-3 c = of-two _ (c .wants3 .ensures) (c .before .before .if2 .left) (c .before .if3 .taken)
+
+lead-of-three-requires : tie.Need-lead-of-three-requires
+lead-of-three-requires c κs = search needs
+
+returns-4 : tie.Need-returns-4
+returns-4 c = c .lead-of-three .ensures
+
+lead-of-four-requires : tie.Need-lead-of-four-requires
+lead-of-four-requires c κs = search needs
+
+returns-5 : tie.Need-returns-5
+returns-5 c = c .lead-of-four .ensures
+
+pub lead-spec : {M : Type 1} → statement M
+lead-spec = tie.close (tie.spec wants-requires returns wants-requires-2 returns-2 wants-requires-3 returns-3 lead-of-three-requires returns-4 lead-of-four-requires returns-5)
