@@ -20,7 +20,7 @@ use Rattle.cursor.specs.Ends.{Fails}
 use Rattle.cursor.specs.declared.Cursor.{Cursor}
 use Rattle.cursor.specs.declared.Fault.{Fault}
 use Rattle.cursor.proofs.Lists.{part-is, part-short}
-use Rattle.reader.proofs.Table.{either}
+use Rattle.combinator.proofs.Table.{either}
 use Rattle.book.specs.Table.{Told, Found}
 use Rattle.book.specs.declared.EntryStep.{EntryStep}
 use Rattle.book.specs.declared.EntryStep.the-variants.{Entry as Found-entry, NoEntry}

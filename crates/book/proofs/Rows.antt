@@ -23,8 +23,8 @@ use Rattle.cursor.specs.declared.Walked.{Walked}
 use Rattle.cursor.specs.declared.Walked.the-variants.{Past, Refused}
 use Rattle.cursor.proofs.Lists.{along, part-at}
 use Rattle.cursor.proofs.Laws.{fails-as}
-use Rattle.reader.proofs.Bind.{rebase, made, stops, same-bad}
-use Rattle.reader.proofs.Table.{either}
+use Rattle.rows.proofs.Bind.{rebase, made, stops, same-bad}
+use Rattle.combinator.proofs.Table.{either}
 use Rattle.book.specs.Table.{Told, Found, FoundBy, total, filled, rowOf, Holds, table}
 use Rattle.book.specs.declared.EntryStep.{EntryStep}
 use Rattle.book.specs.declared.EntryStep.the-variants.{Entry as Found-entry, NoEntry}

@@ -24,7 +24,7 @@ use Rattle.cursor.proofs.Laws.{took-got, took-none, fails-as}
 use Rattle.reader.specs.Verdict.{verdict}
 use Rattle.reader.specs.declared.Verdict.{Verdict}
 use Rattle.reader.specs.declared.Verdict.the-variants.{Sound, Refused as Unsound}
-use Rattle.reader.proofs.Bind.{past, refused}
+use Rattle.rows.proofs.Bind.{past, refused}
 use Rattle.book.specs.Table.{rowOf, table, Holds, Tabled, TabledBy}
 use Rattle.book.proofs.Rows.{no-value, table-bad, table-holds}
 

@@ -20,7 +20,7 @@ use Rattle.cursor.specs.declared.Walked.the-variants.{Past, Refused}
 use Rattle.reader.specs.Verdict.{verdict, ofKind, bodyVerdict}
 use Rattle.reader.specs.declared.Verdict.{Verdict}
 use Rattle.reader.specs.declared.Verdict.the-variants.{Sound, Refused as Unsound}
-use Rattle.reader.proofs.Bind.{past, refused}
+use Rattle.rows.proofs.Bind.{past, refused}
 
 module _ {s : List ℕ} {p : ℕ} {r : Walked} (b : ℕ) where
   -- a byte that stands for a kind

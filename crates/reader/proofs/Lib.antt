@@ -1,5 +1,2 @@
-pub mod Bind
-pub mod Table
-pub mod Rows
-pub mod Laws
-pub mod Judge
+mod OneParam
+mod Judge

@@ -1,5 +1,5 @@
 use Rattle.definition.specs.Read.{name, text, definition}
-use Rattle.reader.proofs.Bind.{then, fails, made, walked}
+use Rattle.rows.proofs.Bind.{then, fails, made, walked}
 use borrow.Author.Needs.{needs}
 use Rattle.reader.proofs.constant.Statement.{statement}
 use Rattle.reader.proofs.constant.Tie as tie

@@ -1,7 +1,7 @@
 use mathlib.Core.Path.{refl}
 use Rattle.definition.specs.Tree.{isFormat, isConstant, isByteOrder, isMacro}
 use Rattle.definition.specs.Read.{text, definition}
-use Rattle.reader.proofs.Bind.{made, walked}
+use Rattle.rows.proofs.Bind.{made, walked}
 use Rattle.reader.proofs.Judge.{a-kind, no-such-kind}
 use borrow.Author.Needs.{needs}
 use Rattle.reader.proofs.definition.Statement.{statement}

@@ -3,9 +3,9 @@ use mathlib.Core.Path.{refl, ap}
 use mathlib.Core.List.{[]}
 use Rattle.definition.specs.Read.{params}
 use Rattle.cursor.specs.Ends.{ofNumber}
-use Rattle.reader.specs.Rows.{counted}
-use Rattle.reader.proofs.Bind.{then-got, fails-none}
-use Rattle.reader.proofs.Rows.{Reaches, one-more, no-more, none-left}
+use Rattle.rows.specs.Rows.{counted}
+use Rattle.rows.proofs.Bind.{then-got, fails-none}
+use Rattle.rows.proofs.Rows.{Reaches, one-more, no-more, none-left}
 use Rattle.reader.proofs.params.Statement.{statement}
 use Rattle.reader.proofs.params.Tie as tie
 use Rattle.reader.proofs.params.Reads as reads

@@ -1,5 +1,6 @@
 -- `utf8::lead` meets its contract.
 -- Assumes nothing.
+use native.Mathlib.Omega.{arith}
 use borrow.Author.Needs.{needs}
 use Rattle.utf8.proofs.Leads.{of-one, of-none, of-two}
 use Rattle.utf8.proofs.lead.Statement.{statement}
@@ -14,19 +15,19 @@ wants-requires : tie.Need-wants-requires
 wants-requires c κs = search needs
 
 returns : tie.Need-returns
-returns c = of-one _ (c .wants .ensures) (c .before .if1 .taken)
+returns c = of-one _ (c .wants .ensures) (omega arith)
 
 wants-requires-2 : tie.Need-wants-requires-2
 wants-requires-2 c κs = search needs
 
 returns-2 : tie.Need-returns-2
-returns-2 c = of-none _ (c .wants2 .ensures) (c .before .before .if1 .left) (c .before .if2 .taken)
+returns-2 c = of-none _ (c .wants2 .ensures) (omega arith) (omega arith)
 
 wants-requires-3 : tie.Need-wants-requires-3
 wants-requires-3 c κs = search needs
 
 returns-3 : tie.Need-returns-3
-returns-3 c = of-two _ (c .wants3 .ensures) (c .before .before .if2 .left) (c .before .if3 .taken)
+returns-3 c = of-two _ (c .wants3 .ensures) (omega arith) (omega arith)
 
 lead-of-three-requires : tie.Need-lead-of-three-requires
 lead-of-three-requires c κs = search needs

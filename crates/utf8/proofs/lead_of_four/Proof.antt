@@ -19,7 +19,7 @@ wants-requires-2 : tie.Need-wants-requires-2
 wants-requires-2 c κs = search needs
 
 returns-2 : tie.Need-returns-2
-returns-2 c = of-four _ (omega arith) (c .before .before .if1 .left) (c .wants2 .ensures) (c .before .if2 .taken)
+returns-2 c = of-four _ (omega arith) (c .before .before .if1 .left) (c .wants2 .ensures) (omega arith)
 
 wants-requires-3 : tie.Need-wants-requires-3
 wants-requires-3 c κs = search needs
@@ -31,7 +31,7 @@ wants-requires-4 : tie.Need-wants-requires-4
 wants-requires-4 c κs = search needs
 
 returns-4 : tie.Need-returns-4
-returns-4 c = of-last _ (omega arith) (c .before .before .before .if1 .left) (c .wants4 .ensures) (c .before .before .if2 .left) (c .before .if3 .left)
+returns-4 c = of-last _ (omega arith) (c .before .before .before .if1 .left) (c .wants4 .ensures) (omega arith) (c .before .if3 .left)
 
 pub lead-of-four-spec : {M : Type 1} → statement M
 lead-of-four-spec = tie.close (tie.spec wants-requires returns wants-requires-2 returns-2 wants-requires-3 returns-3 wants-requires-4 returns-4)

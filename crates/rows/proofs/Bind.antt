@@ -13,7 +13,7 @@ use Rattle.cursor.specs.declared.Fault.{Fault}
 use Rattle.cursor.specs.declared.Walked.{Walked}
 use Rattle.cursor.specs.declared.Walked.the-variants.{Past, Refused}
 use Rattle.cursor.proofs.Laws.{took-got, took-none, fails-as}
-use Rattle.reader.specs.Rows.{counted}
+use Rattle.rows.specs.Rows.{counted}
 
 pub same-bad : {A B : Type 0} {k k′ : Code} {r r′ : List ℕ} → _≡_ {A = Res (List ℕ) A} (bad k r) (bad k′ r′) → _≡_ {A = Res (List ℕ) B} (bad k r) (bad k′ r′)
 same-bad {k = k} {k′ = k′} {r = r} {r′ = r′} e = let v : k ≡ k′ = cc in let w : r ≡ r′ = cc in rw (v, w)

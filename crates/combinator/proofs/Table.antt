@@ -19,8 +19,8 @@ use Rattle.cursor.specs.declared.Fault.{Fault}
 use Rattle.cursor.specs.declared.Walked.{Walked}
 use Rattle.cursor.specs.declared.Walked.the-variants.{Past, Refused}
 use Rattle.cursor.proofs.Laws.{took-got, took-none, fails-as}
-use Rattle.reader.specs.Rows.{orElse, tagOf, caseKindOf}
-use Rattle.reader.proofs.Bind.{after, stops, same-bad}
+use Rattle.combinator.specs.Tags.{orElse, tagOf, caseKindOf}
+use Rattle.rows.proofs.Bind.{after, stops, same-bad}
 
 either-by : (a b : ℕ) (t : Bool) → leb a b ≡ t → (a ≤ b) ⊎ (b < a)
 either-by a b true e = inl (leb-true a b e)

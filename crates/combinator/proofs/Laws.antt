@@ -8,17 +8,18 @@ use lib.ListN.{drop, getD}
 use Rattle.definition.specs.Code.{number, too-deep}
 use Rattle.definition.specs.Res.{Maybe, absent, just, Res, bad, ok, _>>=_}
 use Rattle.definition.specs.Tree.{Combinator, Inner, Selector, CaseKind, Leaf}
-use Rattle.definition.specs.Read.{Reader, oneOf, tags, flags, fieldKinds, Tag, isLeaf, isConst, holds, combinator, arg, level, tooDeep, items, chain, chainBy, text, name, nameBy, dotted, selector, selectorBy, fields, fieldBy, label, cases, params}
+use Rattle.definition.specs.Read.{Reader, oneOf, tags, flags, fieldKinds, Tag, isLeaf, isConst, holds, combinator, arg, level, tooDeep, items, chain, chainBy, text, name, nameBy, dotted, selector, selectorBy, fields, fieldBy, label, cases}
 use Rattle.cursor.specs.Item.{among}
 use Rattle.cursor.specs.Ends.{Step, got, none, Took, Ends}
 use Rattle.cursor.specs.declared.Cursor.{Cursor}
 use Rattle.cursor.specs.declared.Fault.{Fault}
 use Rattle.cursor.specs.declared.Walked.{Walked}
 use Rattle.cursor.specs.declared.Walked.the-variants.{Past, Refused}
-use Rattle.reader.specs.Rows.{orElse, tagOf, caseKindOf, itemsAt, Leads}
-use Rattle.reader.proofs.Bind.{past, then, fails, made, made-in, after}
-use Rattle.reader.proofs.Rows.{last}
-use Rattle.reader.proofs.Table.{entry, tabled, untabled, of-flags, of-tags, of-fields, flag-on, field-holds, leaf-tag}
+use Rattle.rows.specs.Rows.{Leads}
+use Rattle.combinator.specs.Tags.{orElse, tagOf, caseKindOf, itemsAt}
+use Rattle.rows.proofs.Bind.{past, then, fails, made, made-in, after}
+use Rattle.rows.proofs.Rows.{last}
+use Rattle.combinator.proofs.Table.{entry, tabled, untabled, of-flags, of-tags, of-fields, flag-on, field-holds, leaf-tag}
 
 -- an inner where no level is left, and where one is
 deep-never : {A B : Type 0} (m : Res (List ℕ) A) (l : List ℕ) (b : B) (r : List ℕ) → (m >>= λ y. bad too-deep l) ≡ ok b r → ⊥
@@ -140,13 +141,3 @@ module _ (c : Reader Combinator) (k : CaseKind) {s : List ℕ} {p : ℕ} {r₁ :
   pub a-case : {d : Cursor} {r : Walked} → r₁ ≡ Past d → Ends s (d .at) r (c (drop (d .at) s)) → Leads s p r (cases c k)
   unfolding cases
   a-case {d} w e = last (cases c k) e (λ n r j. then _ i w (λ a. made-in (c (drop (d .at) s)) (λ y. cases c k n (y .1)) _ j))
-
--- one parameter: its name and its type
-module _ {s : List ℕ} {p : ℕ} {r₁ : Walked} (i : Ends s p r₁ (name (drop p s))) where
-  pub no-param-name : {f : Fault} → r₁ ≡ Refused f → Leads s p (Refused f) params
-  unfolding params
-  no-param-name w = record { told = λ n. fails _ i w }
-
-  pub a-param : {d : Cursor} {r : Walked} → r₁ ≡ Past d → Ends s (d .at) r (arg 64 (drop (d .at) s)) → Leads s p r params
-  unfolding params
-  a-param {d} w e = last params e (λ n r j. then _ i w (λ a. made-in (arg 64 (drop (d .at) s)) (λ y. params n (y .1)) _ j))

@@ -14,8 +14,8 @@ use Rattle.cursor.specs.declared.Cursor.{Cursor}
 use Rattle.cursor.specs.declared.Fault.{Fault}
 use Rattle.cursor.specs.declared.Walked.{Walked}
 use Rattle.cursor.specs.declared.Walked.the-variants.{Past, Refused}
-use Rattle.reader.specs.Rows.{LeadsBy, Leads}
-use Rattle.reader.proofs.Bind.{then, fails, made, made-in, walked}
+use Rattle.rows.specs.Rows.{LeadsBy, Leads}
+use Rattle.rows.proofs.Bind.{then, fails, made, made-in, walked}
 
 module _ {A : Type 0} (row : ℕ → Reader A) where
   -- the loop's invariant: whoever reads what is left from here has read all from the start

@@ -5,62 +5,63 @@ use mathlib.Core.Path.{refl, ap}
 use Rattle.definition.specs.Tree.{no-field, no-case, no-inner}
 use Rattle.definition.specs.Read.{label, name, text, items, fields, cases, inners, combinator, arg}
 use Rattle.cursor.specs.Ends.{ofByte, ofNumber}
-use Rattle.reader.specs.Rows.{counted, tagOf, caseKindOf}
-use Rattle.reader.proofs.Bind.{then, fails, made, then-got, fails-none, walked, counts}
-use Rattle.reader.proofs.Table.{tabled, untabled, of-cases}
-use Rattle.reader.proofs.Rows.{Reaches, one-more, no-more, none-left, an-inner}
-use Rattle.reader.proofs.Laws.{some-level, no-tag, deep, tag, inner-refused, no-flag, unchained, chains, leaf, no-kind, no-label, a-const, a-field, no-case-label, a-case}
+use Rattle.rows.specs.Rows.{counted}
+use Rattle.combinator.specs.Tags.{tagOf, caseKindOf}
+use Rattle.rows.proofs.Bind.{then, fails, made, then-got, fails-none, walked, counts}
+use Rattle.combinator.proofs.Table.{tabled, untabled, of-cases}
+use Rattle.rows.proofs.Rows.{Reaches, one-more, no-more, none-left, an-inner}
+use Rattle.combinator.proofs.Laws.{some-level, no-tag, deep, tag, inner-refused, no-flag, unchained, chains, leaf, no-kind, no-label, a-const, a-field, no-case-label, a-case}
 use Prim.Native.Nat.{ℕ, _<_}
 use borrow.Fn.Kinds.{In}
 use borrow.Fn.PlainCycle.{Measures, is, falls, and}
-use Rattle.reader.proofs.arguments.Reads as arguments
-use Rattle.reader.proofs.arguments.Kinds as arguments-kinds
-use Rattle.reader.proofs.+arguments+array+case+cases+choice+combinator+field+fields+inner+items+macro_invocation+wrap.Lts-arguments as arguments-lts
-use Rattle.reader.proofs.array.Reads as array
-use Rattle.reader.proofs.array.Kinds as array-kinds
-use Rattle.reader.proofs.+arguments+array+case+cases+choice+combinator+field+fields+inner+items+macro_invocation+wrap.Lts-array as array-lts
-use Rattle.reader.proofs.case.Reads as case
-use Rattle.reader.proofs.case.Kinds as case-kinds
-use Rattle.reader.proofs.+arguments+array+case+cases+choice+combinator+field+fields+inner+items+macro_invocation+wrap.Lts-case as case-lts
-use Rattle.reader.proofs.cases.Reads as cases
-use Rattle.reader.proofs.cases.Kinds as cases-kinds
-use Rattle.reader.proofs.+arguments+array+case+cases+choice+combinator+field+fields+inner+items+macro_invocation+wrap.Lts-cases as cases-lts
-use Rattle.reader.proofs.choice.Reads as choice
-use Rattle.reader.proofs.choice.Kinds as choice-kinds
-use Rattle.reader.proofs.+arguments+array+case+cases+choice+combinator+field+fields+inner+items+macro_invocation+wrap.Lts-choice as choice-lts
-use Rattle.reader.proofs.combinator.Reads as combinator
-use Rattle.reader.proofs.combinator.Kinds as combinator-kinds
-use Rattle.reader.proofs.+arguments+array+case+cases+choice+combinator+field+fields+inner+items+macro_invocation+wrap.Lts-combinator as combinator-lts
-use Rattle.reader.proofs.field.Reads as field
-use Rattle.reader.proofs.field.Kinds as field-kinds
-use Rattle.reader.proofs.+arguments+array+case+cases+choice+combinator+field+fields+inner+items+macro_invocation+wrap.Lts-field as field-lts
-use Rattle.reader.proofs.fields.Reads as fields
-use Rattle.reader.proofs.fields.Kinds as fields-kinds
-use Rattle.reader.proofs.+arguments+array+case+cases+choice+combinator+field+fields+inner+items+macro_invocation+wrap.Lts-fields as fields-lts
-use Rattle.reader.proofs.inner.Reads as inner
-use Rattle.reader.proofs.inner.Kinds as inner-kinds
-use Rattle.reader.proofs.+arguments+array+case+cases+choice+combinator+field+fields+inner+items+macro_invocation+wrap.Lts-inner as inner-lts
-use Rattle.reader.proofs.items.Reads as items
-use Rattle.reader.proofs.items.Kinds as items-kinds
-use Rattle.reader.proofs.+arguments+array+case+cases+choice+combinator+field+fields+inner+items+macro_invocation+wrap.Lts-items as items-lts
-use Rattle.reader.proofs.macro_invocation.Reads as macro-invocation
-use Rattle.reader.proofs.macro_invocation.Kinds as macro-invocation-kinds
-use Rattle.reader.proofs.+arguments+array+case+cases+choice+combinator+field+fields+inner+items+macro_invocation+wrap.Lts-macro_invocation as macro-invocation-lts
-use Rattle.reader.proofs.wrap.Reads as wrap
-use Rattle.reader.proofs.wrap.Kinds as wrap-kinds
-use Rattle.reader.proofs.+arguments+array+case+cases+choice+combinator+field+fields+inner+items+macro_invocation+wrap.Lts-wrap as wrap-lts
+use Rattle.combinator.proofs.arguments.Reads as arguments
+use Rattle.combinator.proofs.arguments.Kinds as arguments-kinds
+use Rattle.combinator.proofs.+arguments+array+case+cases+choice+combinator+field+fields+inner+items+macro_invocation+wrap.Lts-arguments as arguments-lts
+use Rattle.combinator.proofs.array.Reads as array
+use Rattle.combinator.proofs.array.Kinds as array-kinds
+use Rattle.combinator.proofs.+arguments+array+case+cases+choice+combinator+field+fields+inner+items+macro_invocation+wrap.Lts-array as array-lts
+use Rattle.combinator.proofs.case.Reads as case
+use Rattle.combinator.proofs.case.Kinds as case-kinds
+use Rattle.combinator.proofs.+arguments+array+case+cases+choice+combinator+field+fields+inner+items+macro_invocation+wrap.Lts-case as case-lts
+use Rattle.combinator.proofs.cases.Reads as cases
+use Rattle.combinator.proofs.cases.Kinds as cases-kinds
+use Rattle.combinator.proofs.+arguments+array+case+cases+choice+combinator+field+fields+inner+items+macro_invocation+wrap.Lts-cases as cases-lts
+use Rattle.combinator.proofs.choice.Reads as choice
+use Rattle.combinator.proofs.choice.Kinds as choice-kinds
+use Rattle.combinator.proofs.+arguments+array+case+cases+choice+combinator+field+fields+inner+items+macro_invocation+wrap.Lts-choice as choice-lts
+use Rattle.combinator.proofs.combinator.Reads as combinator
+use Rattle.combinator.proofs.combinator.Kinds as combinator-kinds
+use Rattle.combinator.proofs.+arguments+array+case+cases+choice+combinator+field+fields+inner+items+macro_invocation+wrap.Lts-combinator as combinator-lts
+use Rattle.combinator.proofs.field.Reads as field
+use Rattle.combinator.proofs.field.Kinds as field-kinds
+use Rattle.combinator.proofs.+arguments+array+case+cases+choice+combinator+field+fields+inner+items+macro_invocation+wrap.Lts-field as field-lts
+use Rattle.combinator.proofs.fields.Reads as fields
+use Rattle.combinator.proofs.fields.Kinds as fields-kinds
+use Rattle.combinator.proofs.+arguments+array+case+cases+choice+combinator+field+fields+inner+items+macro_invocation+wrap.Lts-fields as fields-lts
+use Rattle.combinator.proofs.inner.Reads as inner
+use Rattle.combinator.proofs.inner.Kinds as inner-kinds
+use Rattle.combinator.proofs.+arguments+array+case+cases+choice+combinator+field+fields+inner+items+macro_invocation+wrap.Lts-inner as inner-lts
+use Rattle.combinator.proofs.items.Reads as items
+use Rattle.combinator.proofs.items.Kinds as items-kinds
+use Rattle.combinator.proofs.+arguments+array+case+cases+choice+combinator+field+fields+inner+items+macro_invocation+wrap.Lts-items as items-lts
+use Rattle.combinator.proofs.macro_invocation.Reads as macro-invocation
+use Rattle.combinator.proofs.macro_invocation.Kinds as macro-invocation-kinds
+use Rattle.combinator.proofs.+arguments+array+case+cases+choice+combinator+field+fields+inner+items+macro_invocation+wrap.Lts-macro_invocation as macro-invocation-lts
+use Rattle.combinator.proofs.wrap.Reads as wrap
+use Rattle.combinator.proofs.wrap.Kinds as wrap-kinds
+use Rattle.combinator.proofs.+arguments+array+case+cases+choice+combinator+field+fields+inner+items+macro_invocation+wrap.Lts-wrap as wrap-lts
 use Rattle.cursor.proofs.Cursor.among.Reads as among-reads
 use Rattle.cursor.proofs.Cursor.name.Reads as name-reads
 use Rattle.cursor.proofs.Cursor.text.Reads as text-reads
 use Rattle.cursor.proofs.Cursor.u16.Reads as u16-reads
-use Rattle.reader.proofs.invocation.Reads as invocation-reads
-use Rattle.reader.proofs.label.Reads as label-reads
-use Rattle.reader.proofs.length_past.Reads as length-past-reads
-use Rattle.reader.proofs.selector.Reads as selector-reads
-use Rattle.reader.proofs.+arguments+array+case+cases+choice+combinator+field+fields+inner+items+macro_invocation+wrap.{
+use Rattle.combinator.proofs.invocation.Reads as invocation-reads
+use Rattle.combinator.proofs.label.Reads as label-reads
+use Rattle.combinator.proofs.length_past.Reads as length-past-reads
+use Rattle.combinator.proofs.selector.Reads as selector-reads
+use Rattle.combinator.proofs.+arguments+array+case+cases+choice+combinator+field+fields+inner+items+macro_invocation+wrap.{
   statement,
 }
-use Rattle.reader.proofs.+arguments+array+case+cases+choice+combinator+field+fields+inner+items+macro_invocation+wrap.Tie.{
+use Rattle.combinator.proofs.+arguments+array+case+cases+choice+combinator+field+fields+inner+items+macro_invocation+wrap.Tie.{
   close,
 }
 

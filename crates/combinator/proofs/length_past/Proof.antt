@@ -1,12 +1,12 @@
 use Rattle.definition.specs.Read.{len, text}
-use Rattle.reader.proofs.Bind.{then, fails, made, walked, counts}
+use Rattle.rows.proofs.Bind.{then, fails, made, walked, counts}
 use borrow.Author.Needs.{needs}
-use Rattle.reader.proofs.length_past.Statement.{statement}
-use Rattle.reader.proofs.length_past.Tie as tie
-use Rattle.reader.proofs.length_past.Reads as reads
-use Rattle.reader.proofs.length_past.Lts as lts
+use Rattle.combinator.proofs.length_past.Statement.{statement}
+use Rattle.combinator.proofs.length_past.Tie as tie
+use Rattle.combinator.proofs.length_past.Reads as reads
+use Rattle.combinator.proofs.length_past.Lts as lts
 use Rattle.cursor.proofs.Cursor.text.Reads as text-reads
-use Rattle.reader.proofs.names.Reads as names-reads
+use Rattle.rows.proofs.names.Reads as names-reads
 
 names-requires : tie.Need-names-requires
 names-requires c κs = search needs

@@ -1,12 +1,12 @@
 use Rattle.definition.specs.Read.{label, name, text}
-use Rattle.reader.specs.Rows.{caseKindOf}
-use Rattle.reader.proofs.Bind.{walked}
-use Rattle.reader.proofs.Table.{case-text}
+use Rattle.combinator.specs.Tags.{caseKindOf}
+use Rattle.rows.proofs.Bind.{walked}
+use Rattle.combinator.proofs.Table.{case-text}
 use borrow.Author.Needs.{needs}
-use Rattle.reader.proofs.label.Statement.{statement}
-use Rattle.reader.proofs.label.Tie as tie
-use Rattle.reader.proofs.label.Reads as reads
-use Rattle.reader.proofs.label.Lts as lts
+use Rattle.combinator.proofs.label.Statement.{statement}
+use Rattle.combinator.proofs.label.Tie as tie
+use Rattle.combinator.proofs.label.Reads as reads
+use Rattle.combinator.proofs.label.Lts as lts
 use Rattle.cursor.proofs.Cursor.name.Reads as name-reads
 use Rattle.cursor.proofs.Cursor.text.Reads as text-reads
 

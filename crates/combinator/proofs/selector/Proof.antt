@@ -1,13 +1,13 @@
 use mathlib.Core.Path.{ap}
 use Rattle.definition.specs.Read.{name}
 use Rattle.cursor.specs.Ends.{ofByte}
-use Rattle.reader.proofs.Bind.{walked}
-use Rattle.reader.proofs.Laws.{no-selector, unselected, selected}
+use Rattle.rows.proofs.Bind.{walked}
+use Rattle.combinator.proofs.Laws.{no-selector, unselected, selected}
 use borrow.Author.Needs.{needs}
-use Rattle.reader.proofs.selector.Statement.{statement}
-use Rattle.reader.proofs.selector.Tie as tie
-use Rattle.reader.proofs.selector.Reads as reads
-use Rattle.reader.proofs.selector.Lts as lts
+use Rattle.combinator.proofs.selector.Statement.{statement}
+use Rattle.combinator.proofs.selector.Tie as tie
+use Rattle.combinator.proofs.selector.Reads as reads
+use Rattle.combinator.proofs.selector.Lts as lts
 use Rattle.cursor.proofs.Cursor.among.Reads as among-reads
 use Rattle.cursor.proofs.Cursor.name.Reads as name-reads
 

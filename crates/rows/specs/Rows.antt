@@ -1,10 +1,9 @@
 -- Rows of items: a count, and as many of one kind.
 use mathlib.Core.List.{List}
 use Prim.Native.Nat.{ℕ, suc}
-use lib.ListN.{drop, getD}
-use Rattle.definition.specs.Res.{Maybe, absent, just, Res, bad, ok, _>>=_}
-use Rattle.definition.specs.Tree.{Inner, CaseKind, arrays, never}
-use Rattle.definition.specs.Read.{Reader, u16, items, combinator, arg, Tag, isLeaf, tags, caseKinds}
+use lib.ListN.{drop}
+use Rattle.definition.specs.Res.{Res, bad, ok, _>>=_}
+use Rattle.definition.specs.Read.{Reader, u16}
 use Rattle.cursor.specs.Ends.{Ends}
 use Rattle.cursor.specs.declared.Walked.{Walked}
 use Rattle.cursor.specs.declared.Walked.the-variants.{Past, Refused}
@@ -21,20 +20,5 @@ module _ {A : Type 0} where
   LeadsBy s p (Past c) row = (n : ℕ) (r : Walked) → Ends s (c .at) r (row n (drop (c .at) s)) → Ends s p r (row (suc n) (drop p s))
   LeadsBy s p (Refused f) row = (n : ℕ) → Ends s p (Refused f) (row (suc n) (drop p s))
 
-  abbrev pub orElse : Maybe A → A → A
-  orElse absent a = a
-  orElse (just b) a = b
-
 pub record Leads {A : Type 0} (s : List ℕ) (p : ℕ) (r : Walked) (row : ℕ → Reader A) : Type 0 where
   pub told : LeadsBy s p r row
-
--- what a tag starts. A byte that is no tag is refused before this is asked
-unfoldable pub tagOf : ℕ → Tag
-tagOf b = orElse (getD tags b absent) (isLeaf never)
-
-unfoldable pub caseKindOf : ℕ → CaseKind
-caseKindOf b = orElse (getD caseKinds b absent) arrays
-
--- what stands behind a tag, with so many levels left for what is inside
-abbrev pub itemsAt : ℕ → Tag → Reader Inner
-itemsAt levels t s = items (λ s. combinator levels s) (λ s. arg levels s) t s

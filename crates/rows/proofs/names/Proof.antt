@@ -4,13 +4,13 @@ use mathlib.Core.List.{[]}
 use Rattle.definition.specs.Read.{namesBy, name}
 use Rattle.cursor.specs.Ends.{ofNumber}
 use Rattle.utf8.specs.Tested.{tested}
-use Rattle.reader.specs.Rows.{counted}
-use Rattle.reader.proofs.Bind.{then-got, fails-none}
-use Rattle.reader.proofs.Rows.{Reaches, one-more, no-more, none-left, a-name}
-use Rattle.reader.proofs.names.Statement.{statement}
-use Rattle.reader.proofs.names.Tie as tie
-use Rattle.reader.proofs.names.Reads as reads
-use Rattle.reader.proofs.names.Lts as lts
+use Rattle.rows.specs.Rows.{counted}
+use Rattle.rows.proofs.Bind.{then-got, fails-none}
+use Rattle.rows.proofs.Rows.{Reaches, one-more, no-more, none-left, a-name}
+use Rattle.rows.proofs.names.Statement.{statement}
+use Rattle.rows.proofs.names.Tie as tie
+use Rattle.rows.proofs.names.Reads as reads
+use Rattle.rows.proofs.names.Lts as lts
 use Rattle.cursor.proofs.Cursor.name.Reads as name-reads
 use Rattle.cursor.proofs.Cursor.u16.Reads as u16-reads
 
