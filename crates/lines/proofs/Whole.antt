@@ -39,39 +39,39 @@ fill {m} {text} {text′} {n} h w = record { fits = λ l. omega (arith, place l,
     place l = place-fits w (omega (arith, room))
 
 pub refused-prints : {r : Elaborated} {c : ℕ} {out text text′ : List ℕ} {n : ℕ} → r ≡ Refused c → Wrote text 0 (refusal c) text′ n → Prints r out text text′ n
-unfolding reported answered listed refusal
+unfolding reported answered listed refusal sizeBook
 refused-prints {r} {c} {out} {text} {text′} {n} e w = record { prints = λ m out₀ s h. fill h (of m (ap (λ (x : Elaborated). reported x) (sym e) ∙ s .answers)) }
   where
     of : (m : Out Result) → reported (Refused c) ≡ answered m → Wrote text 0 (listed m) text′ n
     of (refused k) g = let i : c ≡ number k = ap (λ (a : Answer). a .code) g in rw i at w
     of (done q) g = let i : 0 ≡ length (wBook (all q)) = ap (λ (a : Answer). a .size) g in absurd (omega (arith, size-book (all q)))
 
-pub done-prints : {r : Elaborated} {l d n : ℕ} {out text text′ : List ℕ} {z : ℕ} → r ≡ Done l d n → Lists (take l out) d n text text′ z → Prints r out text text′ z
+pub done-prints : {r : Elaborated} {l d n : ℕ} {s out text text′ : List ℕ} {z : ℕ} → r ≡ Done l d n → s ≡ take l out → Lists s d n text text′ z → Prints r out text text′ z
 unfolding reported answered filled
-done-prints {r} {l} {d} {n} {out} {text} {text′} {z} e w = record { prints = λ m out₀ s h. fill h (of m out₀ (ap (λ (x : Elaborated). reported x) (sym e) ∙ s .answers) (s .fills) h) }
+done-prints {r} {l} {d} {n} {s} {out} {text} {text′} {z} e p w = record { prints = λ m out₀ q h. fill h (of m out₀ (ap (λ (x : Elaborated). reported x) (sym e) ∙ q .answers) (q .fills) h) }
   where
     of : (m : Out Result) (out₀ : List ℕ) → reported (Done l d n) ≡ answered m → out ≡ filled m out₀ → ((q : Result) → m ≡ done q → IsBook (all q)) → Wrote text 0 (listed m) text′ z
     of (refused k) out₀ g f h = let i : 0 ≡ number k = ap (λ (a : Answer). a .code) g in absurd (omega (arith, code-some k))
     of (done q) out₀ g f h =
         let i : l ≡ length (wBook (all q)) = ap (λ (a : Answer). a .size) g in
-        let t : take l out ≡ wBook (all q) = rw (i, f) (take-append-seam (wBook (all q)) (drop (length (wBook (all q))) out₀)) in
+        let t : s ≡ wBook (all q) = p ∙ rw (i, f) (take-append-seam (wBook (all q)) (drop (length (wBook (all q))) out₀)) in
         w .says q t (h q refl) (ap (λ (a : Answer). a .definitions) g) (ap (λ (a : Answer). a .lifts) g)
 
 -- an output of 16,384 bytes holds every result
 fits-all : {m : Out Result} {o : ℕ} → 16384 ≤ o → Yields (λ r. IsBook (all r)) m → (m >>= λ r. given (leb (length (wBook (all r))) o) output-short r) ≡ m
 unfolding sizeBook
 fits-all h stops = refl
-fits-all {o = o} h (yields b) = rw (le-leb _ o (omega (arith, b .short)))
+fits-all {o = o} h (yields {a = r} b) = rw (le-leb (length (wBook (all r))) o (omega (arith, b .short)))
 
-module _ (b out work : List ℕ) (h : Bytes b) (o : 16384 ≤ length out) (w : 65536 ≤ length work) where
-  attempt-whole : attempt b (length out) (length work) ≡ elaborated b
+module _ (b out : List ℕ) (w : ℕ) (h : Bytes b) (o : 16384 ≤ length out) (k : 65536 ≤ w) where
+  attempt-whole : attempt b (length out) w ≡ elaborated b
   unfolding attempt
-  attempt-whole = rw (le-leb 65536 (length work) w) (fits-all o (elaborated-book b h))
+  attempt-whole = rw (le-leb 65536 w k) (fits-all o (elaborated-book b h))
 
-  reports : {r : Elaborated} {out′ : List ℕ} → reported r ≡ answer b (length out) (length work) → out′ ≡ output b out (length work) → Reports (elaborated b) out out′ r
+  reports : {r : Elaborated} {out′ : List ℕ} → reported r ≡ answer b (length out) w → out′ ≡ output b out w → Reports (elaborated b) out out′ r
   unfolding answer output
   reports e f = record { answers = rw (← attempt-whole) e; fills = rw (← attempt-whole) f }
 
-  pub tells : {r : Elaborated} {out′ text text′ : List ℕ} {n : ℕ} → reported r ≡ answer b (length out) (length work) → out′ ≡ output b out (length work) → Prints r out′ text text′ n → Tells b text text′ n
+  pub tells : {r : Elaborated} {out′ text text′ : List ℕ} {n : ℕ} → reported r ≡ answer b (length out) w → out′ ≡ output b out w → Prints r out′ text text′ n → Tells b text text′ n
   unfolding listing
   tells e f p = p .prints (elaborated b) out (reports e f) λ q g. yielded (elaborated-book b h) g

@@ -1,0 +1,23 @@
+-- `lines::first` meets its contract.
+-- Assumes nothing.
+use borrow.Author.Needs.{needs}
+use native.Mathlib.Omega.{arith}
+use mathlib.Core.Path.{sym}
+use lib.ListN.{length-take}
+use lib.Seq.{take-all}
+use Rattle.lines.proofs.first.Statement.{statement}
+use Rattle.lines.proofs.first.Tie as tie
+use Rattle.lines.proofs.first.Reads as reads
+use Rattle.lines.proofs.first.Lts as lts
+
+returns : tie.Need-returns
+returns c = sym (take-all (c .before .args .n) (c .before .args .s .now) (omega arith))
+
+slice-aggregate-result : tie.Need-slice-aggregate-result
+slice-aggregate-result c = simp length-take (omega arith)
+
+returns-2 : tie.Need-returns-2
+returns-2 c = search needs
+
+pub first-spec : {M : Type 1} → statement M
+first-spec = tie.close (tie.spec returns slice-aggregate-result returns-2)
