@@ -2,8 +2,7 @@
 -- Assumes nothing.
 use borrow.Author.Needs.{needs}
 use native.Mathlib.Omega.{arith}
-use Prim.Native.Nat.{ℕ}
-use lib.ListN.{length, replicate, length-replicate}
+use lib.ListN.{length-replicate}
 use Rattle.opening.proofs.Opening.{all-bytes}
 use Rattle.lines.proofs.Whole.{tells}
 use Rattle.lines.proofs.put_listing.Statement.{statement}
@@ -32,7 +31,7 @@ same-length : tie.Need-same-length
 same-length c = search needs
 
 returns : tie.Need-returns
-returns c = tells _ (replicate 16384 0) (length {A = ℕ} (replicate 65536 0)) (all-bytes (c .before .before .before .before .before .before .before .before .before .before .before .before .args .book .now) (λ i. omega (arith, c .before .before .before .before .before .before .before .before .before .before .before .shared-slice-known .given i))) (omega (arith, length-replicate {0} {A = ℕ} 16384 0)) (omega (arith, length-replicate {0} {A = ℕ} 65536 0)) (c .before .before .before .before .before .before .before .elaborate .ensures .0) (c .before .before .before .before .before .before .before .elaborate .ensures .1 .0) (c .before .before .put-answer .ensures)
+returns c = tells _ _ _ (all-bytes (c .before .before .before .before .before .before .before .before .before .before .before .before .args .book .now) (λ i. omega (arith, c .before .before .before .before .before .before .before .before .before .before .before .shared-slice-known .given i))) (simp length-replicate (omega arith)) (simp length-replicate (omega arith)) (c .before .before .before .before .before .before .before .elaborate .ensures .0) (c .before .before .before .before .before .before .before .elaborate .ensures .1 .0) (c .before .before .put-answer .ensures)
 
 pub put-listing-spec : {M : Type 1} → statement M
 put-listing-spec =
