@@ -3,76 +3,14 @@
 -- Assumes nothing.
 use mathlib.Core.Path.{_≡_, refl, ap, sym, _∙_}
 use mathlib.Core.List.{List, [], _∷_, _++_}
-use mathlib.Core.Bool.{Bool, true, false, _&&_}
 use Prim.Native.Nat.{ℕ, suc}
-use lib.Dec.{leb}
-use Rattle.definition.specs.Tree.{Name, CaseKind, Combinator, plain, chained, Inner, leaf, struct, choice, shell, bytes, invocation, macro-invocation, Fields, no-field, field, const, Cases, no-case, case, Inners, no-inner, inner}
+use Rattle.definition.specs.Tree.{CaseKind, Combinator, plain, chained, Inner, leaf, struct, choice, shell, bytes, invocation, macro-invocation, Fields, no-field, field, const, Cases, no-case, case}
 use Rattle.definition.specs.Write.{wU16, wName, wText, wLen, caseByte, wOpen, wShut, wSelector, wLabel, leafTag, fieldByte, countF, countC, wCombinator, wInner, wFields, wCases}
-use Rattle.definition.specs.Code.{macro-growth}
-use Rattle.definition.specs.Out.{Out, refused, done, _>>=_, given}
-use Rattle.definition.specs.Names.{eqName}
-use Rattle.definition.specs.Size.{size, levels}
-use Rattle.definition.specs.Macros.{Macro, subst, limited, instance, innerOf, expandBy, expandMacro, expand, expandI, expandF, expandC}
+use Rattle.definition.specs.Out.{Out, refused, done, _>>=_}
+use Rattle.definition.specs.Macros.{Macro, expand, expandI, expandF, expandC}
 use Rattle.calls.specs.Pieces.{Piece, raw, pieces, piecesI, piecesF, piecesC, rewritten, expanded}
+use Rattle.laws.proofs.OnlySix.{Grows, code-six, grows, growsI}
 use Rattle.laws.proofs.Splits.{s-name, s-text, s-len, s-selector, s-label, s-open, s-shut}
-
--- a value, or code 6
-abbrev pub Grows : {A : Type 0} → Out A → Type 0
-Grows (refused k) = k ≡ macro-growth
-Grows (done x) = Unit {0}
-
-module _ {A B : Type 0} where
-  both : (o : Out A) (f : A → Out B) → Grows o → ((x : A) → Grows (f x)) → Grows (o >>= f)
-  both (refused k) f h g = h
-  both (done x) f h g = g x
-
-module _ {A : Type 0} where
-  tested : (b : Bool) (x : A) → Grows (given b macro-growth x)
-  tested true x = tt
-  tested false x = refl
-
-grows-instance : (ps : List Name) (xs : Inners) (c : Combinator) → Grows (instance ps xs c)
-unfolding instance limited
-grows-instance [] xs c = tt
-grows-instance (p ∷ ps) no-inner c = tt
-grows-instance (p ∷ ps) (inner a xs) c = both (limited (subst c p a)) (instance ps xs) (tested (leb (size (subst c p a)) 16384 && leb (levels (subst c p a)) 64) (subst c p a)) (λ d. grows-instance ps xs d)
-
-module _ (n : Name) (xs : Inners) where
-  grows-by : (b : Bool) (m : Macro) (next : Out Inner) → Grows next → Grows (expandBy b m xs next)
-  unfolding expandBy
-  grows-by true m next h = both (instance (m .params) xs (m .body)) (λ c. done (innerOf c)) (grows-instance (m .params) xs (m .body)) (λ c. tt)
-  grows-by false m next h = h
-
-  pub grows-macro : (ms : List Macro) → Grows (expandMacro ms n xs)
-  unfolding expandMacro
-  grows-macro [] = tt
-  grows-macro (m ∷ ms) = grows-by (eqName (m .name) n) m (expandMacro ms n xs) (grows-macro ms)
-
-module _ (ms : List Macro) where
-  mutual
-    unfolding expand
-
-    pub grows : (c : Combinator) → Grows (expand c ms)
-    grows (plain i) = both (expandI i ms) (λ j. done (plain j)) (growsI i) (λ j. tt)
-    grows (chained i c) = both (expand c ms) (λ d. expandI i ms >>= λ j. done (chained j d)) (grows c) (λ d. both (expandI i ms) (λ j. done (chained j d)) (growsI i) (λ j. tt))
-
-    pub growsI : (i : Inner) → Grows (expandI i ms)
-    growsI (leaf k x) = tt
-    growsI (struct f) = both (expandF f ms) (λ g. done (struct g)) (growsF f) (λ g. tt)
-    growsI (choice s k f) = both (expandC f ms) (λ g. done (choice s k g)) (growsC f) (λ g. tt)
-    growsI (shell x c) = both (expand c ms) (λ d. done (shell x d)) (grows c) (λ d. tt)
-    growsI (bytes l) = tt
-    growsI (invocation n a) = tt
-    growsI (macro-invocation n a) = grows-macro n a ms
-
-    growsF : (f : Fields) → Grows (expandF f ms)
-    growsF no-field = tt
-    growsF (field k l c f) = both (expand c ms) (λ d. expandF f ms >>= λ g. done (field k l d g)) (grows c) (λ d. both (expandF f ms) (λ g. done (field k l d g)) (growsF f) (λ g. tt))
-    growsF (const l x f) = both (expandF f ms) (λ g. done (const l x g)) (growsF f) (λ g. tt)
-
-    growsC : (f : Cases) → Grows (expandC f ms)
-    growsC no-case = tt
-    growsC (case l c f) = both (expand c ms) (λ d. expandC f ms >>= λ g. done (case l d g)) (grows c) (λ d. both (expandC f ms) (λ g. done (case l d g)) (growsC f) (λ g. tt))
 
 -- what holds of a value, where there is one
 abbrev pub All : {A : Type 0} → (A → Type 0) → Out A → Type 0
@@ -154,7 +92,7 @@ single (done j) (done r) = refl
 chain : (o : Out Inner) (p : Out Combinator) (t : Out (List ℕ)) → Grows o → Grows p
     → onto wInner o (front (1 ∷ []) (onto wCombinator p t)) ≡ onto wCombinator (p >>= λ d. o >>= λ j. done (chained j d)) t
 unfolding wCombinator
-chain (refused k) (refused m) t g h = ap refused (g ∙ sym h)
+chain (refused k) (refused m) t g h = ap refused (code-six g ∙ sym (code-six h))
 chain (refused k) (done d) t g h = refl
 chain (done j) (refused m) t g h = refl
 chain (done j) (done d) (refused k) g h = refl

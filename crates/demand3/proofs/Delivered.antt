@@ -11,25 +11,27 @@ use borrow.Author.Tests.{leb-true, le-leb}
 use Rattle.definition.specs.Res.{ok}
 use Rattle.definition.specs.Code.{work-short}
 use Rattle.definition.specs.Out.{Out, refused, done, given}
+use Rattle.definition.specs.Tree.{Definition}
 use Rattle.definition.specs.Contents.{readBook}
 use Rattle.definition.specs.Write.{wBook}
-use Rattle.definition.specs.Answer.{expanded, Result, all, answered, attempt, answer}
+use Rattle.definition.specs.Answer.{expanded, Result, all, answered, attempt, answer, output}
 use Rattle.definition.specs.Premise.{callsKnown, chainsPlain, tested, told, premise}
+use Rattle.laws.specs.Laws.{AcceptedBy}
 use Rattle.laws.proofs.Tests.{both-true}
 use Rattle.laws.proofs.Steps.{yielded, did-out, did-given}
 use Rattle.laws.proofs.Results.{attempt-yields, result-is-book}
-use Rattle.demand3.specs.Delivered.{Delivered, AcceptedIsDelivered, Premises, YesIsPremises}
+use Rattle.demand3.specs.Delivered.{DeliveredFrom, AcceptedIsDelivered, Premises, YesIsPremises}
 use Rattle.demand3.proofs.Agree.{calls-known, known-calls, chains-plain, plain-chains}
 use Rattle.demand3.proofs.Demand3.{Comes, comes}
 
 -- the lifted ones are the last
-module _ (book : List ℕ) (r : Result) (c : Comes book r) (out : List ℕ) where
+module _ (expansion : Out (List Definition)) (r : Result) (c : Comes expansion r) (out : List ℕ) where
   abbrev bytesOf : List ℕ
   bytesOf = wBook (all r)
 
-  delivered : readBook bytesOf ≡ ok (all r) [] → Delivered book (answered (done r)) (bytesOf ++ drop (length bytesOf) out)
+  written : readBook bytesOf ≡ ok (all r) [] → DeliveredFrom expansion (answered (done r)) (bytesOf ++ drop (length bytesOf) out)
   unfolding answered
-  delivered e =
+  written e =
       let n : length (all r) - length (r .lifted) ≡ length (r .kept) = simp length-append (omega arith) in
       record {
         list = c .list;
@@ -41,12 +43,15 @@ module _ (book : List ℕ) (r : Result) (c : Comes book r) (out : List ℕ) wher
         meets = rw (n, take-append-seam (r .kept) (r .lifted), drop-append-seam (r .kept) (r .lifted)) (c .meets);
       }
 
+-- whichever way the list was expanded: what is accepted, and comes from the expansion, is delivered
+pub delivered : (expansion : Out (List Definition)) (m : Out Result) (out after : List ℕ) (k : AcceptedBy m out after) → Comes expansion (k .result) → DeliveredFrom expansion (answered m) after
+delivered expansion m out after k c = rw (k .fills, k .attempted) (written expansion (k .result) c out (k .reads))
+
 pub accepted-is-delivered : AcceptedIsDelivered
 unfolding answer
 accepted-is-delivered book out w b a after e f z =
     let k = result-is-book book out w b (rw e at z) in
-    let c = yielded (attempt-yields (Comes book) book (comes book b) (length out) w) (k .attempted) .0 in
-    rw (e, f, k .fills, k .attempted) (delivered book (k .result) c out (k .reads))
+    rw (e, f) (delivered (expanded book) (attempt book (length out) w) out (output book out w) k (yielded (attempt-yields (Comes (expanded book)) book (comes book b) (length out) w) (k .attempted) .0))
 
 -- the premise test
 told-yes : (m : Out Bool) → told m .holds ≡ 1 → m ≡ done true

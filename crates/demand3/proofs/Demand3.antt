@@ -3,14 +3,14 @@ use mathlib.Core.Path.{_≡_, refl}
 use mathlib.Core.List.{List, [], _∷_}
 use Prim.Native.Nat.{ℕ}
 use native.Mathlib.Omega.{arith}
-use Rattle.definition.specs.Out.{done}
+use Rattle.definition.specs.Out.{Out, done}
 use Rattle.definition.specs.Tree.{Name, Definition, format, constant, byte-order, macro}
 use Rattle.definition.specs.Names.{elem}
-use Rattle.definition.specs.Lift.{State, names, start}
+use Rattle.definition.specs.Lift.{full, State, names, walkAll, start}
 use Rattle.definition.specs.Answer.{Result, expanded, elaborated}
 use Rattle.laws.specs.Book.{Bytes}
 use Rattle.laws.specs.Lists.{Distinct, NoMacro}
-use Rattle.laws.proofs.Steps.{Yields, so}
+use Rattle.laws.proofs.Steps.{Gives, Yields, so}
 use Rattle.laws.proofs.Results.{expanded-is-book, elaborated-yields}
 use Rattle.demand3.specs.Words.{Named, EachBody, EachCall}
 use Rattle.demand3.specs.PutBack.{NoneLeft, PutsAllBack}
@@ -67,10 +67,14 @@ module _ (ds es : List Definition) (t : State) (w : WalksAll ds (start ds) es t)
   }
 
 -- the expanded list that a result comes from, and that it meets demand 3 for it
-pub record Comes (book : List ℕ) (r : Result) : Type 0 where
+pub record Comes (expansion : Out (List Definition)) (r : Result) : Type 0 where
   pub list : List Definition
-  pub expands : expanded book ≡ done list
+  pub expands : expansion ≡ done list
   pub meets : Demand3 list (r .kept) (r .lifted)
 
-pub comes : (book : List ℕ) → Bytes book → Yields (Comes book) (elaborated book)
-comes book b = elaborated-yields (Comes book) book λ ds x. so (all-traced ds (start ds)) λ es t w. record { list = ds; expands = x; meets = met ds es t w (expanded-is-book book b ds x .1) }
+-- whichever way the list was expanded
+pub walk-comes : (m : Out (List Definition)) (ds : List Definition) → m ≡ done ds → NoMacro ds → Gives (λ es t. Comes m (record { kept = es; lifted = t .made })) (walkAll full ds (start ds))
+walk-comes m ds x n = so (all-traced ds (start ds)) λ es t w. record { list = ds; expands = x; meets = met ds es t w n }
+
+pub comes : (book : List ℕ) → Bytes book → Yields (Comes (expanded book)) (elaborated book)
+comes book b = elaborated-yields (Comes (expanded book)) book λ ds x. walk-comes (expanded book) ds x (expanded-is-book book b ds x .1)

@@ -5,7 +5,7 @@ use mathlib.Core.List.{List, []}
 use Prim.Native.Nat.{ℕ, _-_, _≤_}
 use lib.ListN.{length, take, drop}
 use Rattle.definition.specs.Res.{ok}
-use Rattle.definition.specs.Out.{done}
+use Rattle.definition.specs.Out.{Out, done}
 use Rattle.definition.specs.Tree.{Definition}
 use Rattle.definition.specs.Contents.{readBook}
 use Rattle.definition.specs.Answer.{expanded, Answer, answer, output}
@@ -13,17 +13,21 @@ use Rattle.definition.specs.Premise.{premise}
 use Rattle.laws.specs.Book.{Bytes}
 use Rattle.demand3.specs.Demand3.{CallsKnown, ChainsPlain, Demand3}
 
--- what the answer counts of the output reads as a book. Its last definitions, as many as the answer says, are the lifted ones; with these it meets demand 3 for the book's expanded list
-pub record Delivered (book : List ℕ) (a : Answer) (after : List ℕ) : Type 0 where
+-- what the answer counts of the output reads as a book. Its last definitions, as many as the answer says, are the lifted ones; with these it meets demand 3 for the book's expanded list.
+-- Whichever way it was expanded: document 02 b has a second one
+pub record DeliveredFrom (expansion : Out (List Definition)) (a : Answer) (after : List ℕ) : Type 0 where
   -- "after macro expansion"
   pub list : List Definition
-  pub expands : expanded book ≡ done list
+  pub expands : expansion ≡ done list
   -- "the result fills the output's first bytes"
   pub result : List Definition
   pub reads : readBook (take (a .size) after) ≡ ok result []
   pub counted : length result ≡ a .definitions
   pub lifts : a .lifts ≤ a .definitions
   pub meets : Demand3 list (take (a .definitions - a .lifts) result) (drop (a .definitions - a .lifts) result)
+
+abbrev pub Delivered : List ℕ → Answer → List ℕ → Type 0
+Delivered book a after = DeliveredFrom (expanded book) a after
 
 -- for an answer and an output that are the definition's, as the contract of `elaborate` says of its own
 abbrev pub AcceptedIsDelivered : Type 0

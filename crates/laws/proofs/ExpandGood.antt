@@ -6,7 +6,8 @@ use native.Mathlib.Omega.{arith}
 use lib.Dec.{leb}
 use lib.ListN.{length}
 use borrow.Author.Tests.{leb-true}
-use Rattle.definition.specs.Out.{Out}
+use Rattle.definition.specs.Code.{macro-growth}
+use Rattle.definition.specs.Out.{Out, _>>=_, given}
 use Rattle.definition.specs.Tree.{Name, CaseKind, Combinator, plain, chained, Inner, leaf, struct, choice, shell, bytes, invocation, macro-invocation, Fields, no-field, field, const, Cases, no-case, case, Inners, no-inner, inner, Definition, format, constant, byte-order, macro}
 use Rattle.definition.specs.Size.{size, sizeBook, levels, levelsBook}
 use Rattle.definition.specs.Names.{eqName}
@@ -51,11 +52,11 @@ instance-good [] xs c g h = yields h
 instance-good (p ∷ ps) no-inner c g h = yields h
 instance-good (p ∷ ps) (inner a xs) c g h = next (where-true (leb (size (subst c p a)) 16384 && leb (levels (subst c p a)) 64) _ (subst c p a) (λ t. s-good c h p a (g .0))) _ λ d w. instance-good ps xs d (g .1) w
 
-abbrev GoodM : List Macro → Type 0
+abbrev pub GoodM : List Macro → Type 0
 GoodM [] = Unit {0}
 GoodM (m ∷ ms) = Good (m .body) × GoodM ms
 
-macros-good : (ds : List Definition) (ms : List Macro) → GoodAll ds → GoodM ms → GoodM (macros ds ms)
+pub macros-good : (ds : List Definition) (ms : List Macro) → GoodAll ds → GoodM ms → GoodM (macros ds ms)
 unfolding macros
 macros-good [] ms g h = h
 macros-good (format n ps c ∷ ds) ms g h = macros-good ds ms (g .1) h
@@ -121,9 +122,13 @@ all-good (macro n ps c ∷ ds) ms h g = less (all-good ds ms h (g .1))
     less stops = stops
     less (yields {a = es} z) = yields {a = es} (record { good = z .good; fewer = omega (arith, z .fewer); none = z .none })
 
+-- a pass over a list with any macros: document 02 b runs it again with the same ones
+pub pass-good : (ds : List Definition) (ms : List Macro) → GoodM ms → GoodAll ds → length ds ≤ 512 → Yields (λ es. IsBook es × NoMacro es) (expandAll ds ms >>= λ es. given (leb (sizeBook es) 16384 && leb (levelsBook es) 64) macro-growth es)
+pass-good ds ms h g n = next (all-good ds ms h g) _ λ es z. where-true (leb (sizeBook es) 16384 && leb (levelsBook es) 64) _ es λ t.
+    let b = both-true (leb (sizeBook es) 16384) (leb (levelsBook es) 64) t in
+    (record { good = z .good; deep = leb-true (levelsBook es) 64 (b .1); few = omega (arith, z .fewer); short = leb-true (sizeBook es) 16384 (b .0) }, z .none)
+
 -- the expanded list of a book
 pub expand-good : (ds : List Definition) → GoodAll ds → length ds ≤ 512 → Yields (λ es. IsBook es × NoMacro es) (expandList ds)
 unfolding expandList
-expand-good ds g n = next (all-good ds (macros ds []) (macros-good ds [] g tt) g) _ λ es z. where-true (leb (sizeBook es) 16384 && leb (levelsBook es) 64) _ es λ t.
-    let b = both-true (leb (sizeBook es) 16384) (leb (levelsBook es) 64) t in
-    (record { good = z .good; deep = leb-true (levelsBook es) 64 (b .1); few = omega (arith, z .fewer); short = leb-true (sizeBook es) 16384 (b .0) }, z .none)
+expand-good ds g n = pass-good ds (macros ds []) (macros-good ds [] g tt) g n

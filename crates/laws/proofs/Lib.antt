@@ -21,6 +21,7 @@ pub mod Growth
 pub mod Stopped
 pub mod WalkGood
 pub mod ExpandGood
+pub mod OnlySix
 pub mod Results
 pub mod Parameters
 pub mod Laws

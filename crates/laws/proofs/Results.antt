@@ -18,7 +18,7 @@ use Rattle.definition.specs.Lift.{full, State, walkAll, start, liftBook}
 use Rattle.definition.specs.Answer.{out, source, expanded, Result, outcome, elaborated, all, attempt, answered, answer, filled, output}
 use Rattle.laws.specs.Book.{Bytes, IsBook}
 use Rattle.laws.specs.Lists.{NoMacro}
-use Rattle.laws.specs.Laws.{ExpandedIsBook, WrittenIsRead, ReadIsWritten, ResultIsBook}
+use Rattle.laws.specs.Laws.{ExpandedIsBook, WrittenIsRead, ReadIsWritten, AcceptedBy, ResultIsBook}
 use Rattle.laws.proofs.Steps.{Gives, refusal, value, so, gave, Yields, stops, yields, next, where-true, yielded, of-result, of-value}
 use Rattle.laws.proofs.BookInverse.{i-book}
 use Rattle.laws.proofs.BookRoundTrip.{r-book}
@@ -56,7 +56,7 @@ unfolding out
 out-yields refusal = stops
 out-yields (value p) = yields p
 
-source-book : (s : List ℕ) → Bytes s → Yields IsBook (source s)
+pub source-book : (s : List ℕ) → Bytes s → Yields IsBook (source s)
 unfolding source
 source-book s h = next {P = λ b. Bytes b × (length b ≤ 16384)} (where-true (leb (length s) 16384) _ s (λ t. (h, leb-true (length s) 16384 t))) _ λ b w. out-yields (so (reads b (w .0) (w .1)) λ ds r v. v .1)
 
@@ -67,21 +67,24 @@ expanded-book s h = next (source-book s h) _ λ ds b. rw (expand-says ds) (expan
 pub expanded-is-book : ExpandedIsBook
 expanded-is-book s h ds e = yielded (expanded-book s h) e
 
--- what holds of every walk of an expanded list holds of every result
+-- what holds of every walk of a list holds of every result that comes of it
 outcome-yields : (P : Result → Type 0) {m : Res State (List Definition)} → Gives (λ es t. P (record { kept = es; lifted = t .made })) m → Yields P (outcome m)
 unfolding outcome
 outcome-yields P refusal = stops
 outcome-yields P (value p) = yields p
 
+pub lifted-yields : (P : Result → Type 0) (ds : List Definition) → Gives (λ es t. P (record { kept = es; lifted = t .made })) (walkAll full ds (start ds)) → Yields P (outcome (liftBook ds))
+lifted-yields P ds w = rw (lift-says ds) (outcome-yields P w)
+
 pub elaborated-yields : (P : Result → Type 0) (s : List ℕ) → ((ds : List Definition) → expanded s ≡ done ds → Gives (λ es t. P (record { kept = es; lifted = t .made })) (walkAll full ds (start ds))) → Yields P (elaborated s)
 unfolding elaborated
-elaborated-yields P s h = next (of-result (expanded s) λ ds e. h ds e) _ λ ds w. rw (lift-says ds) (outcome-yields P w)
+elaborated-yields P s h = next (of-result (expanded s) λ ds e. h ds e) _ λ ds w. lifted-yields P ds w
 
 pub attempt-yields : (P : Result → Type 0) (s : List ℕ) → Yields P (elaborated s) → (o w : ℕ) → Yields (λ r. P r × (length (wBook (all r)) ≤ o)) (attempt s o w)
 unfolding attempt
 attempt-yields P s h o w = next {P = λ b. Yields P (elaborated b)} (where-true (leb 65536 w) _ s (λ t. h)) _ λ b g. next g _ λ r k. where-true (leb (length (wBook (all r))) o) _ r λ t. (k, leb-true _ o t)
 
-lifted-book : (ds : List Definition) → IsBook ds → Gives (λ es t. IsBook (es ++ t .made)) (walkAll full ds (start ds))
+pub lifted-book : (ds : List Definition) → IsBook ds → Gives (λ es t. IsBook (es ++ t .made)) (walkAll full ds (start ds))
 lifted-book ds b = of-value (walkAll full ds (start ds)) λ es t e.
     let f = gave (result-fine full ds (record { good = b .good; deep = b .deep })) e in
     let w = within-limits ds es t e (b .short) (b .few) in
@@ -112,9 +115,14 @@ unfolding answered
 code-done (refused k) e go = positive k e
 code-done (done r) e go = go r refl
 
-pub result-is-book : ResultIsBook
-unfolding answer output filled
-result-is-book s o w h e = code-done (attempt s (length o) w) e λ r g.
-    let k = yielded (attempt-yields (λ r. IsBook (all r)) s (elaborated-book s h) (length o) w) g in
+-- where all results of an attempt are books that fit, one with code 0 is accepted
+pub accepted-by : (m : Out Result) (o : List ℕ) → Yields (λ r. IsBook (all r) × (length (wBook (all r)) ≤ length o)) m → answered m .code ≡ 0 → AcceptedBy m o (filled m o)
+unfolding filled
+accepted-by m o y e = code-done m e λ r g.
+    let k = yielded y g in
     let z = written-is-read (all r) (k .0) in
     record { result = r; attempted = g; isBook = k .0; small = z .0; reads = z .1; fits = k .1; fills = rw g }
+
+pub result-is-book : ResultIsBook
+unfolding answer output
+result-is-book s o w h e = accepted-by (attempt s (length o) w) o (attempt-yields (λ r. IsBook (all r)) s (elaborated-book s h) (length o) w) e

@@ -8,7 +8,7 @@ use lib.Dec.{leb, ltb}
 use lib.ListN.{length, drop}
 use Rattle.definition.specs.Code.{result-long}
 use Rattle.definition.specs.Res.{bad, ok}
-use Rattle.definition.specs.Out.{done}
+use Rattle.definition.specs.Out.{Out, done}
 use Rattle.definition.specs.Utf8.{scalar, encode, Utf8, wellFormed}
 use Rattle.definition.specs.Tree.{Name, Definition, format, constant, byte-order, macro}
 use Rattle.definition.specs.Contents.{readBook}
@@ -45,15 +45,19 @@ ReadIsWritten = (s : List ℕ) → Bytes s → length s ≤ 16384 → (ds : List
 abbrev pub ExpandedIsBook : Type 0
 ExpandedIsBook = (book : List ℕ) → Bytes book → (ds : List Definition) → expanded book ≡ done ds → IsBook ds × NoMacro ds
 
--- "0: done"; "On 0 the result fills the output's first bytes and the rest is as before.": the result is a book, every byte of it is below 256, and it reads back as itself
-pub record Accepted (book out : List ℕ) (workLength : ℕ) : Type 0 where
+-- "0: done"; "On 0 the result fills the output's first bytes and the rest is as before.": the result is a book, every byte of it is below 256, and it reads back as itself.
+-- Of any attempt, and of the output before and after it: document 02 b has a second one
+pub record AcceptedBy (tried : Out Result) (out after : List ℕ) : Type 0 where
   pub result : Result
-  pub attempted : attempt book (length out) workLength ≡ done result
+  pub attempted : tried ≡ done result
   pub isBook : IsBook (all result)
   pub small : Bytes (wBook (all result))
   pub reads : readBook (wBook (all result)) ≡ ok (all result) []
   pub fits : length (wBook (all result)) ≤ length out
-  pub fills : output book out workLength ≡ wBook (all result) ++ drop (length (wBook (all result))) out
+  pub fills : after ≡ wBook (all result) ++ drop (length (wBook (all result))) out
+
+abbrev pub Accepted : List ℕ → List ℕ → ℕ → Type 0
+Accepted book out workLength = AcceptedBy (attempt book (length out) workLength) out (output book out workLength)
 
 abbrev pub ResultIsBook : Type 0
 ResultIsBook = (book out : List ℕ) (workLength : ℕ) → Bytes book → answer book (length out) workLength .code ≡ 0 → Accepted book out workLength

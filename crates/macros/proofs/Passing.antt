@@ -17,35 +17,17 @@ use Rattle.definition.specs.Size.{levels, levelsP, levelsBook, sizeBook}
 use Rattle.definition.specs.Macros.{Macro, macros, expand, expandAll, expandList}
 use Rattle.laws.specs.Book.{IsBook}
 use Rattle.laws.proofs.Steps.{yielded}
+use Rattle.laws.proofs.OnlySix.{Grows, code-six, grows-all}
 use Rattle.lookup.proofs.Names.{yes-no}
 use Rattle.writer.specs.Buf.{put, Wrote}
 use Rattle.writer.proofs.Put.{put-put, put-fits}
 use Rattle.writer.proofs.Wrote.{same-length}
-use Rattle.calls.proofs.Expanded.{Grows, grows}
 use Rattle.macros.specs.declared.Expanded.the-variants.{Book, Grown}
 use Rattle.macros.specs.Table.{Tabled}
 use Rattle.macros.specs.Left.{keptOf, shallow, expandOne, andOne, shallowAll, KeptOf, WritesBy, Writes, Booked}
 use Rattle.macros.specs.Pass.{pass, answerOf, leaves, Passed}
 use Rattle.contents.proofs.Listed.{entries-apart, entries-size}
 use Rattle.macros.proofs.Leftover.{kept-count}
-
--- every refusal is code 6
-front-grows : (v : Out Combinator) (t : Out (List Definition)) (f : Combinator → List Definition → List Definition) → Grows v → Grows t → Grows (v >>= λ d. t >>= λ es. done (f d es))
-front-grows (refused k) t f g h = g
-front-grows (done d) (refused k) f g h = h
-front-grows (done d) (done es) f g h = tt
-
-next-grows : (t : Out (List Definition)) (d : Definition) → Grows t → Grows (t >>= λ es. done (d ∷ es))
-next-grows (refused k) d h = h
-next-grows (done es) d h = tt
-
-grows-all : (ds : List Definition) (ms : List Macro) → Grows (expandAll ds ms)
-unfolding expandAll
-grows-all [] ms = tt
-grows-all (format n ps c ∷ ds) ms = front-grows (expand c ms) (expandAll ds ms) (λ d es. format n ps d ∷ es) (grows ms c) (grows-all ds ms)
-grows-all (constant n x ∷ ds) ms = next-grows (expandAll ds ms) (constant n x) (grows-all ds ms)
-grows-all (byte-order x ∷ ds) ms = next-grows (expandAll ds ms) (byte-order x) (grows-all ds ms)
-grows-all (macro n ps c ∷ ds) ms = grows-all ds ms
 
 abbrev tested : List Definition → Out (List Definition)
 tested es = given (leb (levelsBook es) 64) macro-growth es
@@ -63,7 +45,7 @@ level-and p l k h = ⊎-elim
 deep-all : (ds : List Definition) (ms : List Macro) → levelsBook ds ≤ 64 → (expandAll ds ms >>= tested) ≡ shallowAll ds ms
 unfolding expandAll shallowAll expandOne levelsBook shallow
 deep-all [] ms h = refl
-deep-all (format n ps c ∷ ds) ms h = go (expand c ms) (expandAll ds ms) (shallowAll ds ms) (grows-all ds ms) (deep-all ds ms (omega arith))
+deep-all (format n ps c ∷ ds) ms h = go (expand c ms) (expandAll ds ms) (shallowAll ds ms) (grows-all ms ds) (deep-all ds ms (omega arith))
   where
     both : (a b : Bool) (d : Combinator) (es : List Definition)
         → given (a && b) macro-growth (format n ps d ∷ es) ≡ andOne (given a macro-growth d >>= λ e. done (format n ps e)) (given b macro-growth es)
@@ -78,7 +60,7 @@ deep-all (format n ps c ∷ ds) ms h = go (expand c ms) (expandAll ds ms) (shall
     go : (v : Out Combinator) (t s : Out (List Definition)) → Grows t → (t >>= tested) ≡ s
         → (v >>= λ d. t >>= λ es. done (format n ps d ∷ es)) >>= tested ≡ andOne (v >>= λ d. shallow d >>= λ e. done (format n ps e)) s
     go (refused k) t s g e = refl
-    go (done d) (refused k) s g e = rw (← e, g) (late (leb (levels d) 64) d)
+    go (done d) (refused k) s g e = rw (← e, code-six g) (late (leb (levels d) 64) d)
     go (done d) (done es) s g e = rw (← e, level-and (levelsP ps) (levels d) (levelsBook es) (omega arith)) (both (leb (levels d) 64) (leb (levelsBook es) 64) d es)
 deep-all (constant n x ∷ ds) ms h = same (expandAll ds ms) (shallowAll ds ms) (deep-all ds ms h)
   where

@@ -1,1 +1,2 @@
 pub mod Nested
+pub mod Worked

@@ -1,2 +1,1 @@
-mod Growth
 pub mod Opening

@@ -16,10 +16,11 @@ use Rattle.definition.specs.Tree.{Definition}
 use Rattle.definition.specs.Contents.{book as bookOf, readBook}
 use Rattle.definition.specs.Write.{wBook}
 use Rattle.definition.specs.Size.{sizeBook}
-use Rattle.definition.specs.Macros.{expandList, expandBook}
+use Rattle.definition.specs.Macros.{macros, expandList, expandBook}
 use Rattle.definition.specs.Answer.{out, source, expanded}
 use Rattle.laws.specs.Book.{Bytes, IsBook}
 use Rattle.laws.proofs.Results.{read-is-written, expanded-is-book}
+use Rattle.laws.proofs.OnlySix.{Grows, six, none, only-six}
 use Rattle.cursor.specs.declared.Fault.{Fault}
 use Rattle.reader.specs.declared.Verdict.{Verdict}
 use Rattle.reader.specs.declared.Verdict.the-variants.{Sound, Refused as Judged}
@@ -29,7 +30,6 @@ use Rattle.macros.specs.declared.Expanded.the-variants.{Book as Whole, Grown}
 use Rattle.macros.specs.Pass.{pass, answerOf, leaves, Passed}
 use Rattle.opening.specs.declared.Opened.the-variants.{Book, Refused}
 use Rattle.opening.specs.Opens.{opened, Refuses, Expands, Opens}
-use Rattle.opening.proofs.Growth.{Grows, six, none, only-six}
 
 -- the definition computes with long lists of what unfolds; what it says is short
 read-says : (s : List ℕ) → readBook s ≡ bookOf 6 s
@@ -89,8 +89,8 @@ module _ (b : List ℕ) (n : ℕ) (work : List ℕ) where
       module _ {v : Verdict} (e : v ≡ verdict (length b) (bookOf 6 b)) (g : v ≡ Sound) (small : Bytes b) {area area′ : List ℕ} (long : length area ≡ 16384) {x : Expanded} (p : Passed b b area area′ x) where
         -- code 6
         pub opens-6 : x ≡ Grown → Opens b n work (Refused 6)
-        unfolding number
-        opens-6 t = sound e g small (λ ds o w i. grown o (only-six ds) (sym (p .says ds ds w i w i long .0) ∙ t))
+        unfolding number pass
+        opens-6 t = sound e g small (λ ds o w i. grown o (only-six (macros ds []) ds) (sym (p .says ds ds w i w i long .0) ∙ t))
           where
             grown : {m : Out (List Definition)} → opened b n ≡ m → Grows m → answerOf m ≡ Grown → Opens b n work (Refused 6)
             grown o six q = record { by = record { reason = macro-growth; is = o; numbered = refl } }
