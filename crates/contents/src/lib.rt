@@ -1,6 +1,6 @@
 // The definitions that a book's contents list, by position over validated bytes: what stands before a format's body.
-use calls::Walk;
 use calls::skip_inner;
+use marks::Walk;
 use seek::name_past;
 use seek::number;
 use seek::past;

@@ -21,7 +21,7 @@ use Rattle.lookup.proofs.Names.{yes-no}
 use Rattle.writer.specs.Buf.{put, Wrote}
 use Rattle.writer.proofs.Put.{put-put, put-fits}
 use Rattle.writer.proofs.Wrote.{same-length}
-use Rattle.calls.proofs.Expanded.{Grows, grows}
+use Rattle.pieces.proofs.Expanded.{Grows, grows}
 use Rattle.macros.specs.declared.Expanded.the-variants.{Book, Grown}
 use Rattle.macros.specs.Table.{Tabled}
 use Rattle.macros.specs.Left.{keptOf, shallow, expandOne, andOne, shallowAll, KeptOf, WritesBy, Writes, Booked}

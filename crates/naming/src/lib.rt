@@ -1,8 +1,8 @@
 // The naming pass of lifting: the walk over the expanded book in walk order, one frame for each level.
-use calls::Walk;
 use calls::skip_inner;
 use lift::Counts;
 use lift::store;
+use marks::Walk;
 use seek::byte;
 use seek::length_past;
 use seek::name_past;

@@ -11,7 +11,7 @@ use Rattle.definition.specs.Names.{before}
 use Rattle.laws.proofs.Tests.{yes-no, not-both}
 use Rattle.writer.specs.Buf.{put, part}
 use Rattle.writer.proofs.Put.{within, put-nil, part-back}
-use Rattle.collect.specs.Uses.{nameIn}
+use Rattle.uses.specs.Uses.{nameIn}
 use Rattle.params.specs.Sort.{leftFirst, merged}
 use Rattle.params.proofs.Tables.{part-cons, put-step}
 

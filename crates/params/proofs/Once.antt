@@ -11,7 +11,7 @@ use lib.Seq.{set-getD, drop-set-lt, getD-drop, drop-drop}
 use Rattle.definition.specs.Names.{eqName}
 use Rattle.writer.specs.Buf.{put, part}
 use Rattle.writer.proofs.Put.{put-nil, part-back}
-use Rattle.collect.specs.Uses.{nameIn}
+use Rattle.uses.specs.Uses.{nameIn}
 use Rattle.params.specs.Sort.{onceAfter, once}
 use Rattle.params.proofs.Tables.{part-cons, put-step}
 

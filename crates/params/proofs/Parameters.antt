@@ -17,7 +17,7 @@ use Rattle.writer.proofs.Put.{length-put, take-written}
 use Rattle.seek.specs.At.{byteAt}
 use Rattle.seek.specs.Here.{Here}
 use Rattle.seek.proofs.Here.{here-length}
-use Rattle.collect.specs.Uses.{namesIn}
+use Rattle.uses.specs.Uses.{namesIn}
 use Rattle.collect.specs.Walk.{collectAt}
 use Rattle.collect.proofs.Room.{free-room}
 use Rattle.collect.proofs.Free.{length-names, collect-leftover, collect-uses, collect-names, uses-long}

@@ -15,7 +15,8 @@ use Rattle.definition.specs.Names.{before}
 use Rattle.laws.proofs.Tests.{yes-no}
 use Rattle.writer.specs.Buf.{put, part}
 use Rattle.writer.proofs.Put.{length-put, put-nil, put-put, put-over, drop-put, part-split, length-part, part-written}
-use Rattle.collect.specs.Uses.{pick, nameIn}
+use Rattle.seek.specs.At.{pick}
+use Rattle.uses.specs.Uses.{nameIn}
 use Rattle.params.specs.Sort.{merged, orderedBy, ordered, spared, once, sortedBy}
 use Rattle.params.proofs.Tables.{put-self, put-cover, front, back}
 

@@ -8,7 +8,8 @@ use lib.Dec.{ltb}
 use lib.ListN.{length, take, drop}
 use Rattle.definition.specs.Names.{eqName, before}
 use Rattle.writer.specs.Buf.{put, part}
-use Rattle.collect.specs.Uses.{pick, nameIn}
+use Rattle.seek.specs.At.{pick}
+use Rattle.uses.specs.Uses.{nameIn}
 
 -- whether the next is the left list's: it has one, and the right list's first is not before it
 unfoldable pub leftFirst : List ℕ → List ℕ → List ℕ → Bool

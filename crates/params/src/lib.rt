@@ -1,8 +1,8 @@
 // The parameters of a lift: the free names of a combinator, each once, in byte order.
 use collect::Collected;
 use collect::collect_params;
-use collect::name_of_use;
 use lookup::same_name;
+use uses::name_of_use;
 use writer::least;
 ghost use mathlib.Core.Path.{_≡_};
 ghost use Prim.Native.Nat.{_-_, _≤_};
@@ -10,7 +10,7 @@ ghost use lib.Dec.{eqb};
 ghost use lib.ListN.{length};
 ghost use Rattle.definition.specs.Names.{eqName, before};
 ghost use Rattle.writer.specs.Buf.{put, part};
-ghost use Rattle.collect.specs.Uses.{nameIn};
+ghost use Rattle.uses.specs.Uses.{nameIn};
 ghost use Rattle.params.specs.Sort.{leftFirst, merged, ordered, spared, once, sortedBy};
 ghost use Rattle.params.specs.Params.{paramsAt};
 

@@ -19,15 +19,16 @@ use Rattle.seek.specs.Here.{Here}
 use Rattle.seek.proofs.Here.{here-length, name-here}
 use Rattle.writer.specs.Buf.{put}
 use Rattle.writer.proofs.Put.{take-written}
-use Rattle.calls.specs.declared.Walk.{Walk}
-use Rattle.calls.specs.Walk.{walk, combinatorAt}
+use Rattle.marks.specs.declared.Walk.{Walk}
+use Rattle.marks.specs.Steps.{walk}
+use Rattle.calls.specs.Walk.{combinatorAt}
 use Rattle.calls.specs.Walked.{Walked}
-use Rattle.calls.specs.Pieces.{pieces, places}
-use Rattle.calls.specs.Splice.{everyPlace}
+use Rattle.pieces.specs.Pieces.{pieces, places}
+use Rattle.pieces.specs.Splice.{everyPlace}
 use Rattle.laws.proofs.Splits.{s-comb}
 use Rattle.calls.proofs.Link.{walked}
-use Rattle.calls.proofs.Room.{room-enough}
-use Rattle.calls.proofs.Spliced.{every-by}
+use Rattle.pieces.proofs.Room.{room-enough}
+use Rattle.pieces.proofs.Spliced.{every-by}
 use Rattle.contents.specs.Listed.{Listed}
 use Rattle.contents.specs.Params.{ParamsPast}
 use Rattle.contents.proofs.Listed.{listed-kind, listed-size, listed-body, listed-deep, listed-next, book-listed}

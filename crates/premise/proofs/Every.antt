@@ -22,7 +22,7 @@ use Rattle.lookup.proofs.Names.{stands}
 use Rattle.writer.proofs.Put.{within}
 use Rattle.fresh.specs.Taken.{both, Found}
 use Rattle.fresh.proofs.Rows.{found-not, found-is}
-use Rattle.calls.specs.Splice.{everyPlace}
+use Rattle.pieces.specs.Splice.{everyPlace}
 use Rattle.premise.specs.Known.{rowNames, knownAt}
 
 -- a call

@@ -1,17 +1,17 @@
 // The premise test over an expanded book, on validated bytes: document 01's "Premise test and listing".
-use calls::Walk;
 use calls::combinator;
-use calls::first_marks;
 use contents::params_past;
 use fresh::find_name;
 use fresh::take_source_name;
 use lookup::name_at;
+use marks::Walk;
+use marks::first_marks;
 use seek::byte;
 use seek::name_past;
 use seek::number;
 use seek::past;
 ghost use mathlib.Core.Path.{_≡_};
-ghost use Rattle.calls.specs.Splice.{everyPlace};
+ghost use Rattle.pieces.specs.Splice.{everyPlace};
 ghost use Rattle.premise.specs.Known.{Takes, Named, Rows, knownAt};
 ghost use Rattle.premise.specs.Holds.{DefinitionHolds, FormatHolds, BodiesHold, Holds};
 

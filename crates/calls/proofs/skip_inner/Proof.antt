@@ -7,9 +7,9 @@ use Rattle.calls.proofs.skip_inner.Statement.{statement}
 use Rattle.calls.proofs.skip_inner.Tie as tie
 use Rattle.calls.proofs.skip_inner.Reads as reads
 use Rattle.calls.proofs.skip_inner.Lts as lts
-use Rattle.calls.proofs.back.Reads as back-reads
+use Rattle.marks.proofs.back.Reads as back-reads
 use Rattle.calls.proofs.inner.Reads as inner-reads
-use Rattle.calls.proofs.silent.Reads as silent-reads
+use Rattle.marks.proofs.silent.Reads as silent-reads
 
 add-silent : tie.Need-add-silent
 add-silent c = search needs

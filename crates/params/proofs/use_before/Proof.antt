@@ -4,7 +4,7 @@ use Rattle.params.proofs.use_before.Statement.{statement}
 use Rattle.params.proofs.use_before.Tie as tie
 use Rattle.params.proofs.use_before.Reads as reads
 use Rattle.params.proofs.use_before.Lts as lts
-use Rattle.collect.proofs.name_of_use.Reads as name-of-use-reads
+use Rattle.uses.proofs.name_of_use.Reads as name-of-use-reads
 use Rattle.params.proofs.name_before.Reads as name-before-reads
 
 name-of-use-requires : tie.Need-name-of-use-requires

@@ -4,7 +4,7 @@ use borrow.Author.Needs.{needs}
 use Rattle.premise.proofs.Bools.{not-true, not-false}
 use Rattle.premise.proofs.Every.{every-next, every-stop, every-end}
 use Rattle.premise.specs.Known.{knownAt}
-use Rattle.calls.specs.Splice.{everyPlace}
+use Rattle.pieces.specs.Splice.{everyPlace}
 use lib.ListN.{length, drop}
 use Prim.Native.Nat.{_-_, _≤_}
 use mathlib.Core.Path.{_≡_, refl}
