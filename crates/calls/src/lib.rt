@@ -19,7 +19,7 @@ use seek::selector_past;
 use seek::text_past;
 ghost use mathlib.Core.Path.{_≡_};
 ghost use Prim.Native.Nat.{_+_};
-ghost use Rattle.calls.specs.Walk.{combinatorAt, innerAt, fieldsAt, fieldAt, wrapAt, choiceAt, casesAt, caseAt, arrayAt, macroAt, argumentsAt, argumentAt, skipAt};
+ghost use Rattle.calls.specs.Walk.{combinatorAt, innerAt, fieldsAt, fieldAt, wrapAt, choiceAt, casesAt, caseAt, arrayAt, macroAt, argumentsAt, argumentAt};
 
 // A combinator, with so many levels left, its own included.
 pub fn combinator(s: &[u8], w: Walk, levels: usize, marks: &mut [u16]) -> Walk
@@ -43,7 +43,7 @@ pub fn combinator(s: &[u8], w: Walk, levels: usize, marks: &mut [u16]) -> Walk
 }
 
 // An inner, with so many levels left below it.
-fn inner(s: &[u8], w: Walk, levels: usize, marks: &mut [u16]) -> Walk
+pub fn inner(s: &[u8], w: Walk, levels: usize, marks: &mut [u16]) -> Walk
     ensures { λ r. ⌜ (r ≡ innerAt levels (now (s .entry)) w (now (marks .entry)) .0) × (now (marks .exit) ≡ innerAt levels (now (s .entry)) w (now (marks .entry)) .1) ⌝ }
 {
     let at = w.at;
@@ -191,14 +191,4 @@ fn argument(s: &[u8], w: Walk, levels: usize, marks: &mut [u16]) -> Walk
         return w;
     }
     inner(s, w, levels - 1, marks)
-}
-
-// An inner with so many levels left below it, gone over with nothing recorded: a macro's argument, or a parameter's type.
-pub fn skip_inner(s: &[u8], w: Walk, levels: usize, marks: &mut [u16]) -> Walk
-    ensures { λ r. ⌜ (r ≡ skipAt levels (now (s .entry)) w (now (marks .entry)) .0) × (now (marks .exit) ≡ skipAt levels (now (s .entry)) w (now (marks .entry)) .1) ⌝ }
-{
-    let at = w.at;
-    let v = silent(w, at, marks.len() + 1);
-    let r = inner(s, v, levels, marks);
-    back(w, r)
 }

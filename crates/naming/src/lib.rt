@@ -1,5 +1,4 @@
 // The naming pass of lifting: the walk over the expanded book in walk order, one frame for each level.
-use calls::skip_inner;
 use lift::Counts;
 use lift::store;
 use marks::Walk;
@@ -9,6 +8,7 @@ use seek::name_past;
 use seek::number;
 use seek::past;
 use seek::text_past;
+use skip::skip_inner;
 ghost use mathlib.Core.Path.{_≡_};
 ghost use Prim.Native.Nat.{_-_, _≤_, min};
 ghost use Rattle.lift.specs.Bound.{withParam};

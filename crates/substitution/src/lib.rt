@@ -2,7 +2,6 @@
 pub mod call;
 
 use calls::combinator;
-use calls::skip_inner;
 use lookup::name_at;
 use lookup::same_name;
 use marks::Walk;
@@ -10,6 +9,7 @@ use marks::first_marks;
 use seek::byte;
 use seek::name_past;
 use seek::past;
+use skip::skip_inner;
 use writer::least;
 use writer::put_bytes;
 use writer::put_part;
