@@ -16,8 +16,8 @@ use Rattle.laws.proofs.Splits.{s-inner}
 use Rattle.lifting.proofs.Ranges.{sizeI-some}
 use Rattle.seek.specs.Here.{Here}
 use Rattle.seek.proofs.Here.{here-length, byte-here, next-here}
-use Rattle.collect.specs.Anonymous.{anonymousAt}
-use Rattle.collect.proofs.Anonymous.{anonymous-here}
+use Rattle.anonymous.specs.Anonymous.{anonymousAt}
+use Rattle.anonymous.proofs.Anonymous.{anonymous-here}
 use Rattle.names.specs.Name.{Held}
 use Rattle.tables.specs.Rows.{rowsOf}
 use Rattle.lift.specs.declared.Counts.{Counts}

@@ -14,7 +14,7 @@ use Rattle.definition.specs.Res.{Res, ok}
 use Rattle.definition.specs.Tree.{Name}
 use Rattle.definition.specs.Size.{size}
 use Rattle.laws.proofs.Tests.{by-test}
-use Rattle.collect.specs.Uses.{pick}
+use Rattle.seek.specs.At.{pick}
 use Rattle.writer.proofs.Put.{put-first, take-written}
 use Rattle.names.proofs.Held.{held-back, take-less}
 use Rattle.lift.specs.declared.Counts.{Counts}

@@ -16,9 +16,8 @@ use Rattle.definition.specs.Size.{size, levels}
 use Rattle.laws.proofs.Tests.{by-test}
 use Rattle.laws.proofs.Sizes.{adds}
 use Rattle.laws.proofs.Splits.{s-comb}
-use Rattle.seek.specs.At.{byteAt, pastAt}
+use Rattle.seek.specs.At.{byteAt, pastAt, pick}
 use Rattle.seek.proofs.Here.{here-length}
-use Rattle.collect.specs.Uses.{pick}
 use Rattle.names.proofs.Held.{take-less}
 use Rattle.lift.specs.declared.Counts.{Counts}
 use Rattle.lift.specs.Bound.{withParam, Sized}

@@ -9,8 +9,7 @@ use Rattle.definition.specs.Code.{Code, number}
 use Rattle.definition.specs.Res.{Res, bad}
 use Rattle.definition.specs.Tree.{Name, Combinator}
 use Rattle.definition.specs.Size.{size, levels}
-use Rattle.seek.specs.At.{pastAt}
-use Rattle.collect.specs.Uses.{pick}
+use Rattle.seek.specs.At.{pastAt, pick}
 use Rattle.names.specs.Name.{Held}
 use Rattle.lift.specs.declared.Counts.{Counts}
 use Rattle.lift.specs.Bound.{boundFrom}

@@ -1,5 +1,5 @@
 // The steps of the pass over a body: what a node does next, its child, its end.
-use collect::contains_anonymous_format;
+use anonymous::contains_anonymous_format;
 use lift::Counts;
 use lift::store;
 use lookup::name_at;

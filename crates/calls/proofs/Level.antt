@@ -1,15 +1,13 @@
 -- The walk, unrolled by one level or one step in the code's own terms.
 -- Assumes nothing.
-use mathlib.Core.List.{List, [], _∷_}
-use mathlib.Core.Path.{_≡_, refl, ap}
-use Prim.Native.Nat.{ℕ, zero, suc, _-_, _%_, _≤_, _<_}
+use mathlib.Core.List.{List}
+use mathlib.Core.Path.{_≡_, refl}
+use Prim.Native.Nat.{ℕ, zero, suc, _-_, _≤_, _<_}
 use lib.Dec.{eqb, eqb·suc-zero}
 use native.Mathlib.Numerals.{sub-one}
 use native.Mathlib.Omega.{arith}
-use Rattle.writer.specs.Buf.{Wrote}
-use Rattle.writer.proofs.Wrote.{glue}
-use Rattle.calls.specs.declared.Walk.{Walk}
-use Rattle.calls.specs.Walk.{Step, walk, times, markAt, combinatorBy, argumentBy, combinatorAt, argumentAt}
+use Rattle.marks.specs.declared.Walk.{Walk}
+use Rattle.calls.specs.Walk.{Step, times, combinatorBy, argumentBy, combinatorAt, argumentAt}
 
 pub combinator-level : (k : ℕ) (s : List ℕ) (w : Walk) (m : List ℕ) → combinatorAt k s w m ≡ combinatorBy (eqb k 0) (k - 1) (combinatorAt (k - 1) s) (argumentAt (k - 1) s) s w m
 unfolding combinatorAt combinatorBy
@@ -31,9 +29,3 @@ module _ (step : Step) where
   unfolding times
   done zero w m h = refl
   done (suc n) w m h = absurd (omega arith)
-
--- two numbers, one after the other
-pub marked : (w : Walk) (at end : ℕ) {m m₁ m₂ : List ℕ} {n₁ n₂ : ℕ} → Wrote m (w .n) (at % 65536 ∷ []) m₁ n₁ → Wrote m₁ n₁ (end % 65536 ∷ []) m₂ n₂
-    → (walk end n₂ (w .left) (w .plain) ≡ markAt w at end m .0) × (m₂ ≡ markAt w at end m .1)
-unfolding markAt
-marked w at end a b = let g = glue a b in (ap (λ (n : ℕ). walk end n (w .left) (w .plain)) (g .place), g .holds)

@@ -15,15 +15,17 @@ use Rattle.definition.specs.Bodies.{chainsOk, chainsOkI, chainsOkF, chainsOkC}
 use Rattle.seek.specs.At.{byteAt, pastAt, namePast, textPast, lengthPast, selectorPast, labelPast}
 use Rattle.seek.specs.Here.{Here}
 use Rattle.seek.proofs.Here.{place, next-here, number-past, name-here, text-here, list-here, len-here, selector-here, label-here}
+use Rattle.seek.proofs.Stands.{stands}
 use Rattle.writer.proofs.Put.{put-past}
 use Rattle.writer.proofs.Wrote.{place-is, place-fits}
-use Rattle.calls.specs.declared.Walk.{Walk}
-use Rattle.calls.specs.Walk.{walk, moved, entered, silent, back, State, callAt, times, fieldAt, caseBy, caseAt, wrapBy, arrayBy, macroBy, combinatorAt, argumentAt, innerAt, skipAt}
-use Rattle.calls.specs.Pieces.{Piece, call, macro-call, pieces, piecesI, piecesF, piecesC, places}
+use Rattle.marks.specs.declared.Walk.{Walk}
+use Rattle.marks.specs.Steps.{walk, moved, entered, silent, back, State, callAt}
+use Rattle.calls.specs.Walk.{times, fieldAt, caseBy, caseAt, wrapBy, arrayBy, macroBy, combinatorAt, argumentAt, innerAt, skipAt}
+use Rattle.pieces.specs.Pieces.{Piece, call, macro-call, pieces, piecesI, piecesF, piecesC, places}
 use Rattle.calls.specs.Walked.{Walked, Skipped}
-use Rattle.calls.proofs.Bools.{and-assoc}
+use Rattle.pieces.proofs.Bools.{and-assoc}
 use Rattle.laws.proofs.Splits.{s-name, s-text, s-len, s-selector, s-label, s-comb, s-inner}
-use Rattle.calls.proofs.Steps.{stands, many-is, field-is, const-is, choice-is, inner-4, inner-5, inner-7, inner-8, inner-9, inner-10, inner-12, inner-15, inner-16, inner-leaf, chained-is, tail-plain, tail-chain, combinator-suc, argument-suc, times-zero, times-suc}
+use Rattle.calls.proofs.Steps.{many-is, field-is, const-is, choice-is, inner-4, inner-5, inner-7, inner-8, inner-9, inner-10, inner-12, inner-15, inner-16, inner-leaf, chained-is, tail-plain, tail-chain, combinator-suc, argument-suc, times-zero, times-suc}
 use Rattle.calls.proofs.Over.{deepest, Over, stay, skip, enter, shut, up, chain, then, mark}
 
 call-pair : (n : Name) (a : List Name) (p : ℕ) (ps : List Piece) → places p (call n a ∷ ps) ≡ p ∷ (p + length (wInner (invocation n a) [])) ∷ places (p + length (wInner (invocation n a) [])) ps

@@ -13,11 +13,11 @@ use Rattle.seek.proofs.Here.{place}
 use Rattle.writer.specs.Buf.{after, Wrote}
 use Rattle.writer.proofs.Put.{put-nil}
 use Rattle.writer.proofs.Wrote.{glue, place-is, same-length}
-use Rattle.calls.specs.declared.Walk.{Walk}
-use Rattle.calls.specs.Walk.{walk, moved, entered, State, pairOf, markAt}
-use Rattle.calls.specs.Pieces.{Piece, raw, places}
+use Rattle.marks.specs.declared.Walk.{Walk}
+use Rattle.marks.specs.Steps.{walk, moved, entered, State, pairOf, markAt}
+use Rattle.pieces.specs.Pieces.{Piece, raw, places}
 use Rattle.laws.proofs.Splits.{s-inner}
-use Rattle.calls.proofs.Bools.{and-true, and-comm, and-assoc}
+use Rattle.pieces.proofs.Bools.{and-true, and-comm, and-assoc}
 
 max-sub : (k d d′ : ℕ) → min (k - d) (k - d′) ≡ k - max d d′
 max-sub k d d′ = omega arith

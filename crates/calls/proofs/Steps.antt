@@ -4,36 +4,15 @@ use mathlib.Core.List.{List, _∷_}
 use mathlib.Core.Bool.{Bool, true, false, _&&_}
 use mathlib.Core.Path.{_≡_, refl}
 use Prim.Native.Nat.{ℕ, suc}
-use Rattle.definition.specs.Tree.{Leaf, constraint-int, constraint-enum, bits, enum, tail, nothing, never, wrap, vec, option, array, Selector, CaseKind, FieldKind, ordinary, dependent, Inner, leaf, struct, choice, shell, bytes, invocation, macro-invocation}
-use Rattle.definition.specs.Write.{wU16, wSelector, caseByte, leafTag, fieldByte, wOpen, wInner}
-use Rattle.definition.specs.Collect.{bytesOrTail, isTail}
-use Rattle.seek.specs.At.{byteAt, pastAt, namePast, textPast, lengthPast, selectorPast}
+use Rattle.definition.specs.Tree.{Leaf, constraint-int, constraint-enum, bits, enum, tail, nothing, never, Selector, CaseKind, FieldKind, ordinary, dependent}
+use Rattle.definition.specs.Write.{wU16, wSelector, caseByte, leafTag, fieldByte}
+use Rattle.seek.specs.At.{byteAt, pastAt, namePast, textPast, lengthPast, selectorPast, standsOn}
 use Rattle.seek.specs.Here.{Here}
 use Rattle.seek.proofs.Here.{byte-here, number-here, selector-here}
-use Rattle.calls.specs.declared.Walk.{Walk}
-use Rattle.calls.specs.Walk.{walk, moved, entered, standsOn, chainedTo, State, Step, textOrLength, callAt, times, many, fieldBy, wrapBy, caseBy, choiceBy, arrayBy, macroBy, innerBy, tailBy, combinatorBy, argumentBy, combinatorAt, argumentAt, innerAt}
-use Rattle.calls.proofs.Bools.{and-true, and-false}
-
-module _ {s : List ℕ} {p : ℕ} where
-  -- a chain's test looks at the tag
-  pub stands : (i : Inner) (z : List ℕ) → Here s p (wInner i z) → standsOn (byteAt s p) ≡ bytesOrTail i
-  unfolding standsOn bytesOrTail isTail wInner wOpen leafTag
-  stands (leaf constraint-int x) z h = rw (byte-here h)
-  stands (leaf constraint-enum x) z h = rw (byte-here h)
-  stands (leaf bits x) z h = rw (byte-here h)
-  stands (leaf enum x) z h = rw (byte-here h)
-  stands (leaf tail x) z h = rw (byte-here h)
-  stands (leaf nothing x) z h = rw (byte-here h)
-  stands (leaf never x) z h = rw (byte-here h)
-  stands (struct f) z h = rw (byte-here h)
-  stands (choice x k f) z h = rw (byte-here h)
-  stands (shell (wrap x y) c) z h = rw (byte-here h)
-  stands (shell vec c) z h = rw (byte-here h)
-  stands (shell option c) z h = rw (byte-here h)
-  stands (shell (array l) c) z h = rw (byte-here h)
-  stands (bytes l) z h = rw (byte-here h)
-  stands (invocation n a) z h = rw (byte-here h)
-  stands (macro-invocation n a) z h = rw (byte-here h)
+use Rattle.marks.specs.declared.Walk.{Walk}
+use Rattle.marks.specs.Steps.{walk, moved, entered, chainedTo, State, textOrLength, callAt}
+use Rattle.calls.specs.Walk.{Step, times, many, fieldBy, wrapBy, caseBy, choiceBy, arrayBy, macroBy, innerBy, tailBy, combinatorBy, argumentBy, combinatorAt, argumentAt, innerAt}
+use Rattle.pieces.proofs.Bools.{and-true, and-false}
 
 module _ (s : List ℕ) (w : Walk) (m : List ℕ) where
   pub many-is : (step : Step) (n : ℕ) (z : List ℕ) → Here s (w .at) (wU16 n z) → many step s w m ≡ times step n (moved w (pastAt s (w .at) 2)) m

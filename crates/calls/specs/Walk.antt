@@ -1,60 +1,16 @@
 -- The walk over a combinator by position, total on any bytes: what the walker answers and what the row of marks holds then.
 -- It mirrors the code; that it is the walk over the combinator's tree is shown in proofs/Link.antt.
-use mathlib.Core.List.{List, [], _∷_}
+use mathlib.Core.List.{List}
 use mathlib.Core.Bool.{Bool, true, false}
-use Prim.Native.Nat.{ℕ, zero, suc, _+_, _%_, min}
+use Prim.Native.Nat.{ℕ, zero, suc, _+_}
 use lib.Dec.{eqb}
 use lib.ListN.{length}
-use Rattle.seek.specs.At.{byteAt, pastAt, numberAt, namePast, textPast, listPast, lengthPast, selectorPast, labelPast, pick}
-use Rattle.writer.specs.Buf.{put, after}
-use Rattle.calls.specs.declared.Walk.{Walk}
-
-abbrev pub walk : ℕ → ℕ → ℕ → Bool → Walk
-walk at n left plain = record { at = at; n = n; left = left; plain = plain }
-
--- the same walk at another place
-abbrev pub moved : Walk → ℕ → Walk
-moved w a = walk a (w .n) (w .left) (w .plain)
-
--- and with so many levels left there
-abbrev pub entered : Walk → ℕ → ℕ → Walk
-entered w a levels = walk a (w .n) (min (w .left) levels) (w .plain)
-
--- and with another count of marks: one past the end of the row records nothing
-abbrev pub silent : Walk → ℕ → ℕ → Walk
-silent w a n = walk a n (w .left) (w .plain)
-
--- the walk w behind what u went over with nothing recorded
-abbrev pub back : Walk → Walk → Walk
-back w u = walk (u .at) (w .n) (u .left) (w .plain)
-
--- "every chain there stands on Bytes or Tail"
-unfoldable pub standsOn : ℕ → Bool
-standsOn tag = pick (eqb tag 10) true (eqb tag 11)
-
-unfoldable pub chainedTo : Walk → ℕ → Walk
-chainedTo w tag = pick (standsOn tag) w (walk (w .at) (w .n) (w .left) false)
-
--- a walk and its row of marks, to those after
-abbrev pub State : Type 0
-State = Walk × List ℕ
+use Rattle.seek.specs.At.{byteAt, pastAt, numberAt, namePast, textPast, lengthPast, selectorPast, labelPast, pick}
+use Rattle.marks.specs.declared.Walk.{Walk}
+use Rattle.marks.specs.Steps.{State, moved, entered, silent, back, chainedTo, markAt, textOrLength, callAt}
 
 abbrev pub Step : Type 0
 Step = Walk → List ℕ → State
-
--- what is recorded of a call: its place and its end, as far as two bytes tell
-abbrev pub pairOf : ℕ → ℕ → List ℕ
-pairOf at end = at % 65536 ∷ end % 65536 ∷ []
-
-unfoldable pub markAt : Walk → ℕ → ℕ → List ℕ → State
-markAt w at end m = (walk end (after m (w .n) (pairOf at end)) (w .left) (w .plain), put m (w .n) (pairOf at end))
-
--- "10 Bytes: length"; the other inners that hold no combinator: text
-unfoldable pub textOrLength : List ℕ → ℕ → ℕ → ℕ
-textOrLength s at tag = pick (eqb tag 10) (lengthPast s at) (textPast s at)
-
-unfoldable pub callAt : List ℕ → Walk → ℕ → List ℕ → State
-callAt s w at m = markAt w at (listPast s (namePast s (w .at))) m
 
 -- a step, so often
 unfoldable pub times : Step → ℕ → Step

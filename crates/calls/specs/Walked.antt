@@ -10,8 +10,8 @@ use Rattle.definition.specs.Size.{size, levels, levelsI}
 use Rattle.definition.specs.Bodies.{chainsOk}
 use Rattle.seek.specs.Here.{Here}
 use Rattle.writer.specs.Buf.{put}
-use Rattle.calls.specs.declared.Walk.{Walk}
-use Rattle.calls.specs.Pieces.{pieces, places}
+use Rattle.marks.specs.declared.Walk.{Walk}
+use Rattle.pieces.specs.Pieces.{pieces, places}
 
 -- w walked over c with k levels left, the marks were m; now it is g, the marks are l, and the bytes z follow
 pub record Walked (s : List ℕ) (c : Combinator) (k : ℕ) (z : List ℕ) (w : Walk) (m : List ℕ) (g : Walk) (l : List ℕ) : Type 0 where

@@ -1,152 +1,25 @@
 // The walker over the calls and chains of a combinator, by position over validated bytes. It goes over all of the combinator in layout order and
 // records where each Invocation and MacroInvocation stands that is at a walked position: not those inside macro arguments.
+use marks::Walk;
+use marks::back;
+use marks::call;
+use marks::chained_to;
+use marks::entered;
+use marks::mark;
+use marks::moved;
+use marks::silent;
+use marks::text_or_length;
 use seek::byte;
 use seek::label_past;
 use seek::length_past;
-use seek::list_past;
 use seek::name_past;
 use seek::number;
 use seek::past;
 use seek::selector_past;
 use seek::text_past;
-use writer::least;
 ghost use mathlib.Core.Path.{_≡_};
-ghost use mathlib.Core.List.{[], _∷_};
 ghost use Prim.Native.Nat.{_+_};
-ghost use lib.ListN.{take};
-ghost use Rattle.writer.specs.Buf.{Wrote};
-ghost use Rattle.calls.specs.Walk.{moved, entered, standsOn, chainedTo, silent, back, textOrLength, markAt, callAt, combinatorAt, innerAt, fieldsAt, fieldAt, wrapAt, choiceAt, casesAt, caseAt, arrayAt, macroAt, argumentsAt, argumentAt, skipAt};
-
-// Where the walk stands: its place, how many numbers are recorded, the fewest levels that were left on the way, and whether
-// every chain so far stands on Bytes or Tail.
-pub struct Walk {
-    pub at: usize,
-    pub n: usize,
-    pub left: usize,
-    pub plain: bool,
-}
-
-// The same walk at another place.
-fn moved(w: Walk, at: usize) -> Walk
-    ensures { λ r. ⌜ r ≡ moved w at ⌝ }
-{
-    Walk {
-        at,
-        n: w.n,
-        left: w.left,
-        plain: w.plain,
-    }
-}
-
-// At another place, with so many levels left there.
-fn entered(w: Walk, at: usize, levels: usize) -> Walk
-    ensures { λ r. ⌜ r ≡ entered w at levels ⌝ }
-{
-    let left = w.left;
-    let fewest = least(left, levels);
-    Walk {
-        at,
-        n: w.n,
-        left: fewest,
-        plain: w.plain,
-    }
-}
-
-// Whether a chain may stand on an inner with this tag: Bytes or Tail.
-fn stands_on(tag: u8) -> bool
-    ensures { λ r. ⌜ r ≡ standsOn tag ⌝ }
-{
-    if tag == 10 {
-        return true;
-    }
-    tag == 11
-}
-
-// Behind the flag of a chain that stands on an inner with this tag.
-fn chained_to(w: Walk, tag: u8) -> Walk
-    ensures { λ r. ⌜ r ≡ chainedTo w tag ⌝ }
-{
-    let good = stands_on(tag);
-    if good {
-        return w;
-    }
-    Walk {
-        at: w.at,
-        n: w.n,
-        left: w.left,
-        plain: false,
-    }
-}
-
-// One number into the row of marks, as far as the row reaches.
-fn put_mark(x: u16, marks: &mut [u16], at: usize) -> usize
-    ensures { λ r. ⌜ Wrote (now (marks .entry)) at (x ∷ []) (now (marks .exit)) r ⌝ }
-{
-    if marks.len() <= at {
-        return marks.len() + 1;
-    }
-    marks[at] = x;
-    at + 1
-}
-
-// At another place and with another count of recorded numbers.
-fn silent(w: Walk, at: usize, n: usize) -> Walk
-    ensures { λ r. ⌜ r ≡ silent w at n ⌝ }
-{
-    Walk {
-        at,
-        n,
-        left: w.left,
-        plain: w.plain,
-    }
-}
-
-// The walk w behind what u went over with nothing recorded: the place and the levels are u's.
-fn back(w: Walk, u: Walk) -> Walk
-    ensures { λ r. ⌜ r ≡ back w u ⌝ }
-{
-    Walk {
-        at: u.at,
-        n: w.n,
-        left: u.left,
-        plain: w.plain,
-    }
-}
-
-// A call that stands at `at` and ends at `end` is recorded, and the walk goes on behind it.
-fn mark(w: Walk, at: usize, end: usize, marks: &mut [u16]) -> Walk
-    ensures { λ r. ⌜ (r ≡ markAt w at end (now (marks .entry)) .0) × (now (marks .exit) ≡ markAt w at end (now (marks .entry)) .1) ⌝ }
-{
-    let n = w.n;
-    let next = put_mark((at % 65536) as u16, marks, n);
-    let last = put_mark((end % 65536) as u16, marks, next);
-    Walk {
-        at: end,
-        n: last,
-        left: w.left,
-        plain: w.plain,
-    }
-}
-
-// What stands behind the tag of an inner that holds no combinator: a length in Bytes, else a text.
-fn text_or_length(s: &[u8], at: usize, tag: u8) -> usize
-    ensures { λ r. ⌜ r ≡ textOrLength (now (s .entry)) at tag ⌝ }
-{
-    if tag == 10 {
-        return length_past(s, at);
-    }
-    text_past(s, at)
-}
-
-// An Invocation whose tag stands at `at`; the walk stands behind the tag.
-fn call(s: &[u8], w: Walk, at: usize, marks: &mut [u16]) -> Walk
-    ensures { λ r. ⌜ (r ≡ callAt (now (s .entry)) w at (now (marks .entry)) .0) × (now (marks .exit) ≡ callAt (now (s .entry)) w at (now (marks .entry)) .1) ⌝ }
-{
-    let a = w.at;
-    let b = name_past(s, a);
-    let e = list_past(s, b);
-    mark(w, at, e, marks)
-}
+ghost use Rattle.calls.specs.Walk.{combinatorAt, innerAt, fieldsAt, fieldAt, wrapAt, choiceAt, casesAt, caseAt, arrayAt, macroAt, argumentsAt, argumentAt};
 
 // A combinator, with so many levels left, its own included.
 pub fn combinator(s: &[u8], w: Walk, levels: usize, marks: &mut [u16]) -> Walk
@@ -170,7 +43,7 @@ pub fn combinator(s: &[u8], w: Walk, levels: usize, marks: &mut [u16]) -> Walk
 }
 
 // An inner, with so many levels left below it.
-fn inner(s: &[u8], w: Walk, levels: usize, marks: &mut [u16]) -> Walk
+pub fn inner(s: &[u8], w: Walk, levels: usize, marks: &mut [u16]) -> Walk
     ensures { λ r. ⌜ (r ≡ innerAt levels (now (s .entry)) w (now (marks .entry)) .0) × (now (marks .exit) ≡ innerAt levels (now (s .entry)) w (now (marks .entry)) .1) ⌝ }
 {
     let at = w.at;
@@ -318,22 +191,4 @@ fn argument(s: &[u8], w: Walk, levels: usize, marks: &mut [u16]) -> Walk
         return w;
     }
     inner(s, w, levels - 1, marks)
-}
-
-// An inner with so many levels left below it, gone over with nothing recorded: a macro's argument, or a parameter's type.
-pub fn skip_inner(s: &[u8], w: Walk, levels: usize, marks: &mut [u16]) -> Walk
-    ensures { λ r. ⌜ (r ≡ skipAt levels (now (s .entry)) w (now (marks .entry)) .0) × (now (marks .exit) ≡ skipAt levels (now (s .entry)) w (now (marks .entry)) .1) ⌝ }
-{
-    let at = w.at;
-    let v = silent(w, at, marks.len() + 1);
-    let r = inner(s, v, levels, marks);
-    back(w, r)
-}
-
-// The first n marks.
-pub fn first_marks(marks: &[u16], n: usize) -> &[u16]
-    ensures { λ r. ⌜ now r ≡ take n (now (marks .entry)) ⌝ }
-{
-    let end = least(n, marks.len());
-    &marks[..end]
 }

@@ -17,9 +17,10 @@ use Rattle.seek.specs.At.{byteAt}
 use Rattle.seek.specs.Here.{Here}
 use Rattle.seek.proofs.Here.{here-length}
 use Rattle.collect.specs.declared.Collected.the-variants.{Uses, Leftover}
-use Rattle.collect.specs.Uses.{namesIn}
-use Rattle.collect.specs.Walk.{walk, collectAt, answerOf}
-use Rattle.collect.proofs.Without.{without-none}
+use Rattle.uses.specs.Uses.{namesIn}
+use Rattle.uses.specs.Steps.{walk}
+use Rattle.collect.specs.Walk.{collectAt, answerOf}
+use Rattle.uses.proofs.Without.{without-none}
 use Rattle.collect.proofs.Gathered.{Gathered}
 use Rattle.collect.proofs.Link.{gather}
 use Rattle.collect.proofs.Room.{free-room}

@@ -15,9 +15,10 @@ use Rattle.writer.specs.Buf.{after, Wrote}
 use Rattle.writer.proofs.Put.{put-nil, put-past, take-put, take-written}
 use Rattle.writer.proofs.Wrote.{glue, place-is, same-length}
 use Rattle.seek.specs.Here.{Here}
-use Rattle.collect.specs.Uses.{nameIn, namesIn}
-use Rattle.collect.specs.Walk.{walk, moved, State}
-use Rattle.collect.proofs.Without.{without, without-append, without-bind, names-append}
+use Rattle.uses.specs.Uses.{nameIn, namesIn}
+use Rattle.uses.specs.Steps.{walk, moved}
+use Rattle.collect.specs.Walk.{State}
+use Rattle.uses.proofs.Without.{without, without-append, without-bind, names-append}
 
 -- from a count of uses n, a count of labels b and a flag f the step came to g: it stands at z, the names in ns that are not bound are recorded,
 -- and the flag is set if l is

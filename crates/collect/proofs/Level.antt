@@ -6,14 +6,8 @@ use Prim.Native.Nat.{ℕ, zero, suc, _-_, _≤_, _<_}
 use lib.Dec.{eqb, eqb·suc-zero}
 use native.Mathlib.Numerals.{sub-one}
 use native.Mathlib.Omega.{arith}
-use Rattle.collect.specs.declared.Walk.{Walk}
-use Rattle.collect.specs.Anonymous.{anonymousBy, anonymousAt}
-use Rattle.collect.specs.Walk.{Step, Use, times, timesUse, combinatorBy, argumentBy, combinatorAt, argumentAt}
-
-pub anonymous-level : (k : ℕ) (s : List ℕ) (at : ℕ) → anonymousAt k s at ≡ anonymousBy (eqb k 0) (anonymousAt (k - 1) s) s at
-unfolding anonymousAt anonymousBy
-anonymous-level zero s at = refl
-anonymous-level (suc k) s at = rw (eqb·suc-zero, sub-one)
+use Rattle.uses.specs.declared.Walk.{Walk}
+use Rattle.collect.specs.Walk.{Step, times, combinatorBy, argumentBy, combinatorAt, argumentAt}
 
 pub combinator-level : (k : ℕ) (s : List ℕ) (w : Walk) (b u : List ℕ) → combinatorAt k s w b u ≡ combinatorBy (eqb k 0) (combinatorAt (k - 1) s) (argumentAt (k - 1) s) s w b u
 unfolding combinatorAt combinatorBy
@@ -35,14 +29,3 @@ module _ (step : Step) where
   unfolding times
   done zero w b u h = refl
   done (suc n) w b u h = absurd (omega arith)
-
-module _ (step : Use) where
-  pub more-uses : (n : ℕ) (w : Walk) (u : List ℕ) → 0 < n → timesUse step n w u ≡ timesUse step (n - 1) (step w u .0) (step w u .1)
-  unfolding timesUse
-  more-uses zero w u h = absurd (omega arith)
-  more-uses (suc n) w u h = rw sub-one
-
-  pub done-uses : (n : ℕ) (w : Walk) (u : List ℕ) → n ≤ 0 → timesUse step n w u ≡ (w, u)
-  unfolding timesUse
-  done-uses zero w u h = refl
-  done-uses (suc n) w u h = absurd (omega arith)

@@ -8,22 +8,24 @@ use Prim.Native.Nat.{ℕ, zero, suc, _+_, _*_, _≤_, _<_}
 use native.Mathlib.Nat.{not-suc-le-zero}
 use native.Mathlib.Omega.{arith}
 use lib.ListN.{length}
-use Rattle.definition.specs.Tree.{Name, Leaf, constraint-int, constraint-enum, bits, enum, tail, nothing, never, Len, wrap, vec, option, array, Selector, none, by, CaseKind, enums, ints, arrays, ordinary, dependent, Combinator, plain, chained, Inner, leaf, struct, choice, shell, bytes, invocation, macro-invocation, Fields, no-field, field, const, Cases, no-case, case, Inners, no-inner, inner}
+use Rattle.definition.specs.Tree.{Name, Leaf, constraint-int, constraint-enum, bits, enum, tail, nothing, never, Len, wrap, vec, option, array, Selector, none, by, CaseKind, ordinary, dependent, Combinator, plain, chained, Inner, leaf, struct, choice, shell, bytes, invocation, macro-invocation, Fields, no-field, field, const, Cases, no-case, case, Inners, no-inner, inner}
 use Rattle.definition.specs.Names.{root, remove}
 use Rattle.definition.specs.Write.{wU16, wName, wText, wAll, wList, wLen, wSelector, caseByte, wLabel, leafTag, fieldByte, wOpen, wShut, countF, countC, countA, wCombinator, wInner, wFields, wCases, wInners}
 use Rattle.definition.specs.Size.{levels, levelsI, levelsF, levelsC, levelsA}
-use Rattle.definition.specs.Collect.{bytesOrTail, isTail, selectorUses, shellUses, free, freeI, freeF, freeC, leftover, leftoverI, leftoverF, leftoverC, unbound}
+use Rattle.definition.specs.Collect.{bytesOrTail, selectorUses, shellUses, free, freeI, freeF, freeC, leftover, leftoverI, leftoverF, leftoverC, unbound}
 use Rattle.laws.proofs.Tests.{yes-no}
 use Rattle.laws.proofs.Splits.{s-u16, s-name, s-text, s-len, s-selector, s-label, s-comb, s-inner}
 use Rattle.writer.specs.Buf.{put, after, Wrote}
 use Rattle.writer.proofs.Wrote.{place-is, same-length}
-use Rattle.seek.specs.At.{byteAt, pastAt, namePast, textPast}
+use Rattle.seek.specs.At.{byteAt, pastAt, namePast, textPast, labelPast}
 use Rattle.seek.specs.Here.{Here}
-use Rattle.seek.proofs.Here.{byte-here, next-here, number-here, number-past, name-here, text-here}
-use Rattle.collect.specs.declared.Walk.{Walk}
-use Rattle.collect.specs.Uses.{nameIn, namesIn, useAt, isBound}
-use Rattle.collect.specs.Walk.{walk, moved, counted, State, Step, times, timesUse, many, nameBy, namesBy, lengthBy, callBy, selectorBy, bindBy, fieldBy, fieldsBy, wrapBy, labelPast, caseBy, choiceBy, arrayBy, macroBy, innerBy, standsOn, chainBy, tailBy, combinatorBy, argumentBy, combinatorAt, argumentAt}
-use Rattle.collect.proofs.Without.{cutBy, use-here, without-here, without-new}
+use Rattle.seek.proofs.Here.{byte-here, next-here, number-here, number-past, name-here, text-here, label-here}
+use Rattle.seek.proofs.Stands.{stands}
+use Rattle.uses.specs.declared.Walk.{Walk}
+use Rattle.uses.specs.Uses.{nameIn, namesIn, useAt, isBound}
+use Rattle.uses.specs.Steps.{walk, moved, counted, timesUse, nameBy, namesBy, lengthBy, callBy, selectorBy, bindBy}
+use Rattle.collect.specs.Walk.{State, Step, times, many, fieldBy, fieldsBy, wrapBy, caseBy, choiceBy, arrayBy, macroBy, innerBy, chainBy, tailBy, combinatorBy, argumentBy, combinatorAt, argumentAt}
+use Rattle.uses.proofs.Without.{cutBy, use-here, without-here, without-new}
 use Rattle.collect.proofs.Room.{name-long, combinator-long}
 use Rattle.collect.proofs.Gathered.{Gathered, Ready, or-false, or-true, ready-past, ready-on, moves, rebound, then, wrote-nothing, nothing-used, hushed, binds}
 
@@ -39,33 +41,6 @@ freeA (inner i f) = freeI i ++ freeA f
 leftoverA : Inners → Bool
 leftoverA no-inner = false
 leftoverA (inner i f) = leftoverI i || leftoverA f
-
-module _ {s : List ℕ} where
-  -- a chain's test looks at the tag
-  stands : {p : ℕ} (i : Inner) (z : List ℕ) → Here s p (wInner i z) → standsOn (byteAt s p) ≡ bytesOrTail i
-  unfolding standsOn bytesOrTail isTail wInner wOpen leafTag
-  stands (leaf constraint-int x) z h = rw (byte-here h)
-  stands (leaf constraint-enum x) z h = rw (byte-here h)
-  stands (leaf bits x) z h = rw (byte-here h)
-  stands (leaf enum x) z h = rw (byte-here h)
-  stands (leaf tail x) z h = rw (byte-here h)
-  stands (leaf nothing x) z h = rw (byte-here h)
-  stands (leaf never x) z h = rw (byte-here h)
-  stands (struct f) z h = rw (byte-here h)
-  stands (choice x k f) z h = rw (byte-here h)
-  stands (shell (wrap x y) c) z h = rw (byte-here h)
-  stands (shell vec c) z h = rw (byte-here h)
-  stands (shell option c) z h = rw (byte-here h)
-  stands (shell (array l) c) z h = rw (byte-here h)
-  stands (bytes l) z h = rw (byte-here h)
-  stands (invocation n a) z h = rw (byte-here h)
-  stands (macro-invocation n a) z h = rw (byte-here h)
-
-  label-here : {p : ℕ} (k : CaseKind) (l : List ℕ) {z : List ℕ} → Here s p (wLabel k l z) → Here s (labelPast s p (caseByte k)) z
-  unfolding wLabel labelPast caseByte
-  label-here enums l h = name-here l h
-  label-here ints l h = text-here l h
-  label-here arrays l h = text-here l h
 
 module _ (s : List ℕ) (small : (i : ℕ) → byteAt s i < 256) (short : length s < 16777216) where
   module _ (bound : List ℕ) where

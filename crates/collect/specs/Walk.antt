@@ -1,85 +1,32 @@
 -- Collection by position, total on any bytes: what the walk answers and what its two tables hold then. It mirrors the code; that it collects
 -- the definition's `free` and tells `leftover` is shown in proofs/Link.antt and proofs/Free.antt.
 -- Assumes nothing.
-use mathlib.Core.List.{List, [], _∷_}
+use mathlib.Core.List.{List}
 use mathlib.Core.Bool.{Bool, true, false}
 use Prim.Native.Nat.{ℕ, zero, suc, _+_}
 use lib.Dec.{eqb}
 use lib.ListN.{length}
-use Rattle.seek.specs.At.{byteAt, pastAt, numberAt, namePast, textPast}
-use Rattle.writer.specs.Buf.{put, after}
-use Rattle.collect.specs.Uses.{pick, useAt, isBound}
-use Rattle.collect.specs.declared.Walk.{Walk}
+use Rattle.seek.specs.At.{byteAt, pastAt, numberAt, namePast, textPast, labelPast, standsOn, pick}
+use Rattle.uses.specs.declared.Walk.{Walk}
+use Rattle.uses.specs.Steps.{walk, moved, counted, unbound, lengthBy, callBy, selectorBy, bindBy}
 use Rattle.collect.specs.declared.Collected.{Collected}
 use Rattle.collect.specs.declared.Collected.the-variants.{Uses, Leftover}
 
-abbrev pub walk : ℕ → ℕ → ℕ → Bool → Walk
-walk at n b leftover = record { at = at; n = n; b = b; leftover = leftover }
-
--- at another place
-abbrev pub moved : Walk → ℕ → Walk
-moved w a = walk a (w .n) (w .b) (w .leftover)
-
--- at another place, with another count of uses
-abbrev pub counted : Walk → ℕ → ℕ → Walk
-counted w a n = walk a n (w .b) (w .leftover)
-
--- with the labels that were bound before
-abbrev pub unbound : Walk → Walk → Walk
-unbound w u = walk (u .at) (u .n) (w .b) (u .leftover)
-
--- a walk and its two tables, the labels bound and the uses, to those after; and one that leaves the labels alone
+-- a walk and its two tables, the labels bound and the uses, to those after
 abbrev pub State : Type 0
 State = Walk × List ℕ × List ℕ
 
 abbrev pub Step : Type 0
 Step = Walk → List ℕ → List ℕ → State
 
-abbrev pub Use : Type 0
-Use = Walk → List ℕ → Walk × List ℕ
-
 -- a step, so often
 unfoldable pub times : Step → ℕ → Step
 times step zero w bound uses = (w, bound, uses)
 times step (suc k) w bound uses = let g = step w bound uses in times step k (g .0) (g .1) (g .2)
 
-unfoldable pub timesUse : Use → ℕ → Use
-timesUse step zero w uses = (w, uses)
-timesUse step (suc k) w uses = let g = step w uses in timesUse step k (g .0) (g .1)
-
 -- a count, and as many steps
 unfoldable pub many : Step → List ℕ → Step
 many step s w bound uses = times step (numberAt s (w .at)) (moved w (pastAt s (w .at) 2)) bound uses
-
--- a name, used unless it is bound
-unfoldable pub nameBy : List ℕ → Bool → List ℕ → Use
-nameBy s cut bound w uses =
-    let x = useAt s (w .at) cut in
-    let e = namePast s (w .at) in
-    pick (isBound s x bound (w .b)) (moved w e, uses) (counted w e (after uses (w .n) (x ∷ [])), put uses (w .n) (x ∷ []))
-
-unfoldable pub namesBy : List ℕ → Bool → List ℕ → Use
-namesBy s cut bound w uses = timesUse (nameBy s cut bound) (numberAt s (w .at)) (moved w (pastAt s (w .at) 2)) uses
-
--- a length, and the arguments of a call whose name stands at the walk's place, and a selector
-unfoldable pub lengthBy : List ℕ → List ℕ → Use
-lengthBy s bound w uses =
-    let g = namesBy s false bound w uses in
-    (moved (g .0) (textPast s (g .0 .at)), g .1)
-
-unfoldable pub callBy : List ℕ → List ℕ → Use
-callBy s bound w uses = namesBy s true bound (moved w (namePast s (w .at))) uses
-
-unfoldable pub selectorBy : List ℕ → List ℕ → Use
-selectorBy s bound w uses =
-    let v = moved w (pastAt s (w .at) 1) in
-    pick (eqb (byteAt s (w .at)) 1) (nameBy s true bound v uses) (v, uses)
-
--- the label at a place is bound
-unfoldable pub bindBy : List ℕ → ℕ → Walk → List ℕ → Walk × List ℕ
-bindBy s at w bound =
-    let x = useAt s at false in
-    (walk (w .at) (w .n) (after bound (w .b) (x ∷ [])) (w .leftover), put bound (w .b) (x ∷ []))
 
 -- "A Dependent field binds its label for the fields after it.": after its own combinator
 unfoldable pub fieldBy : Step → List ℕ → Step
@@ -101,9 +48,6 @@ unfoldable pub wrapBy : Step → List ℕ → Step
 wrapBy deep s w bound uses =
     let g = deep (moved w (textPast s (w .at))) bound uses in
     (moved (g .0) (textPast s (g .0 .at)), g .1, g .2)
-
-unfoldable pub labelPast : List ℕ → ℕ → ℕ → ℕ
-labelPast s at kind = pick (eqb kind 1) (namePast s at) (textPast s at)
 
 unfoldable pub caseBy : Step → List ℕ → ℕ → Step
 caseBy deep s kind w bound uses = deep (moved w (labelPast s (w .at) kind)) bound uses
@@ -144,11 +88,7 @@ innerBy deep arg s w bound uses =
     (pick (eqb tag 16) (macroBy arg s v bound uses)
     (moved w (textPast s a), bound, uses)))))))))
 
--- "Chains are collected only on Bytes and Tail."
-unfoldable pub standsOn : ℕ → Bool
-standsOn tag = pick (eqb tag 10) true (eqb tag 11)
-
--- a chain on an inner with this tag. On another tag it is gone over with no use recorded, and what it meets is forgotten
+-- "Chains are collected only on Bytes and Tail.": a chain on an inner with this tag. On another tag it is gone over with no use recorded, and what it meets is forgotten
 unfoldable pub chainBy : Step → ℕ → Step
 chainBy deep tag w bound uses =
     let g = deep (counted w (w .at) (length uses + 1)) bound uses in

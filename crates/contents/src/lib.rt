@@ -1,9 +1,9 @@
 // The definitions that a book's contents list, by position over validated bytes: what stands before a format's body.
-use calls::Walk;
-use calls::skip_inner;
+use marks::Walk;
 use seek::name_past;
 use seek::number;
 use seek::past;
+use skip::skip_inner;
 ghost use Rattle.contents.specs.Params.{ParamPast, ParamsPast};
 
 // The place behind a parameter: a name and a type.

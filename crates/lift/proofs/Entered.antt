@@ -17,7 +17,7 @@ use Rattle.definition.specs.Tree.{Name}
 use Rattle.lookup.specs.Name.{nameAt}
 use Rattle.writer.specs.Buf.{put, nameBytes}
 use Rattle.writer.proofs.Put.{length-put, getD-put-at}
-use Rattle.collect.specs.Uses.{namesIn}
+use Rattle.uses.specs.Uses.{namesIn}
 use Rattle.tables.specs.Rows.{Row, rowAt, rowsOf, namesFrom, typesFrom}
 use Rattle.fresh.specs.Taken.{both, taken, Table, Hints, Packed, Grown, Took}
 use Rattle.lift.specs.declared.Counts.{Counts}

@@ -14,7 +14,7 @@ use lib.Seq.{take-suc, drop-cons, take-take, take-nil, getD-set-same, getD-set-o
 use Rattle.definition.specs.Res.{Maybe, absent, just}
 use Rattle.definition.specs.Tree.{Name}
 use Rattle.tables.specs.Rows.{TypeAt, namesFrom, typesFrom}
-use Rattle.collect.specs.Uses.{nameIn, namesIn}
+use Rattle.uses.specs.Uses.{nameIn, namesIn}
 use Rattle.lift.specs.declared.Built.{Built}
 use Rattle.lift.specs.declared.Built.the-variants.{All, Missing}
 use Rattle.lift.specs.Bound.{Bound, typeOf, boundAt, firstOf, joined, bindersOf, namesSize, typesSize, withParam, Filled, Within, Builds}

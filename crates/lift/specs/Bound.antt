@@ -12,7 +12,7 @@ use Rattle.definition.specs.Tree.{Name}
 use Rattle.definition.specs.Names.{eqName}
 use Rattle.lookup.specs.Name.{nameAt}
 use Rattle.tables.specs.Rows.{TypeAt, namesFrom, typesFrom}
-use Rattle.collect.specs.Uses.{nameIn, namesIn}
+use Rattle.uses.specs.Uses.{nameIn, namesIn}
 use Rattle.lift.specs.declared.Built.{Built}
 use Rattle.lift.specs.declared.Built.the-variants.{All, Missing}
 

@@ -1,12 +1,12 @@
 // One lift of the naming pass: its parameters and their binders, its row, its name.
-use collect::name_of_use;
 use fresh::take_name;
 use lookup::name_at;
 use lookup::same_name;
+use uses::name_of_use;
 ghost use mathlib.Core.Path.{_≡_};
 ghost use Prim.Native.Nat.{_≤_, _<_, _+_, _*_, _/_, _%_, min};
 ghost use lib.ListN.{length, take, getD, set};
-ghost use Rattle.collect.specs.Uses.{namesIn};
+ghost use Rattle.uses.specs.Uses.{namesIn};
 ghost use Rattle.lift.specs.Bound.{boundFrom, Sized, First, withParam, Builds};
 ghost use Rattle.lift.specs.Sheet.{Tables, withRow};
 ghost use Rattle.lift.specs.Enters.{Adds, Enters};

@@ -15,9 +15,9 @@ use Rattle.definition.specs.Size.{size, levels, levelsI, levelsF, levelsC}
 use Rattle.definition.specs.Macros.{subst, limited, instance, innerOf, Macro, expandBy, expandMacro, expand}
 use Rattle.laws.proofs.Tests.{both-true}
 use Rattle.laws.proofs.Steps.{Yields, stops, yields, next, where-true}
-use Rattle.calls.specs.Pieces.{Piece, raw, pieces, piecesI, piecesF, piecesC}
-use Rattle.calls.proofs.Expanded.{All}
-use Rattle.calls.proofs.Deeper.{grown}
+use Rattle.pieces.specs.Pieces.{Piece, raw, pieces, piecesI, piecesF, piecesC}
+use Rattle.pieces.proofs.Expanded.{All}
+use Rattle.pieces.proofs.Deeper.{grown}
 use Rattle.substitution.proofs.Opening.{inner-deep}
 use Rattle.macros.specs.Deep.{DeepM, DeepP}
 

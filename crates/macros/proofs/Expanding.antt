@@ -16,9 +16,9 @@ use Rattle.lookup.specs.Name.{nameAt}
 use Rattle.writer.specs.Buf.{part, Wrote}
 use Rattle.writer.proofs.Put.{part-none, part-split}
 use Rattle.writer.proofs.Wrote.{same-length}
-use Rattle.calls.specs.Pieces.{Piece, raw, call, macro-call, places, written, rewritten, expanded}
+use Rattle.pieces.specs.Pieces.{Piece, raw, call, macro-call, places, written, rewritten, expanded}
 use Rattle.laws.proofs.Splits.{s-inner}
-use Rattle.calls.proofs.Expanded.{onto}
+use Rattle.pieces.proofs.Expanded.{onto}
 use Rattle.macros.specs.declared.table.Found.{Found}
 use Rattle.macros.specs.declared.table.Found.the-variants.{At, Unknown}
 use Rattle.substitution.specs.Instance.{Areas}

@@ -22,13 +22,14 @@ use Rattle.seek.proofs.Here.{place, past-here, byte-here, name-here}
 use Rattle.writer.specs.Buf.{part, Wrote}
 use Rattle.writer.proofs.Put.{part-none, put-fits, take-written}
 use Rattle.writer.proofs.Wrote.{fitted, place-is, same-length, glue}
-use Rattle.calls.specs.declared.Walk.{Walk}
-use Rattle.calls.specs.Walk.{walk, combinatorAt}
+use Rattle.marks.specs.declared.Walk.{Walk}
+use Rattle.marks.specs.Steps.{walk}
+use Rattle.calls.specs.Walk.{combinatorAt}
 use Rattle.calls.specs.Walked.{Walked}
-use Rattle.calls.specs.Pieces.{pieces, places, written, expanded}
+use Rattle.pieces.specs.Pieces.{pieces, places, written, expanded}
 use Rattle.laws.proofs.Splits.{s-comb}
-use Rattle.calls.proofs.Written.{written-is}
-use Rattle.calls.proofs.Expanded.{expansion}
+use Rattle.pieces.proofs.Written.{written-is}
+use Rattle.pieces.proofs.Expanded.{expansion}
 use Rattle.calls.proofs.Link.{walked}
 use Rattle.macros.specs.Deep.{DeepM}
 use Rattle.macros.specs.Table.{Rows}
@@ -36,8 +37,8 @@ use Rattle.contents.specs.Params.{ParamsPast}
 use Rattle.substitution.specs.Call.{Puts}
 use Rattle.macros.specs.Expand.{front, Expanding}
 use Rattle.macros.specs.Left.{Counting, KeptOf, keptOf, shallow, expandOne, Whole, Formatted}
-use Rattle.calls.proofs.Spliced.{part-here}
-use Rattle.calls.proofs.Room.{room-enough}
+use Rattle.pieces.proofs.Spliced.{part-here}
+use Rattle.pieces.proofs.Room.{room-enough}
 use Rattle.macros.proofs.Depth.{expand-deep, pieces-deep}
 use Rattle.substitution.proofs.Turns.{size-here}
 use Rattle.macros.proofs.Next.{front-none}

@@ -14,15 +14,15 @@ use Rattle.seek.specs.Here.{Here}
 use Rattle.writer.specs.Buf.{after, part, Wrote}
 use Rattle.writer.proofs.Put.{part-none, part-split, put-past}
 use Rattle.writer.proofs.Wrote.{glue, place-is, same-length}
-use Rattle.calls.specs.Pieces.{Piece, raw, call, macro-call, places, written, rewritten, expanded}
+use Rattle.pieces.specs.Pieces.{Piece, raw, call, macro-call, places, written, rewritten, expanded}
 use Rattle.laws.proofs.Splits.{s-inner}
-use Rattle.calls.proofs.Expanded.{onto}
+use Rattle.pieces.proofs.Expanded.{onto}
 use Rattle.macros.specs.Deep.{DeepP}
 use Rattle.substitution.specs.Call.{Puts}
 use Rattle.macros.specs.Expand.{IsCall, a-call, a-macro, front}
 use Rattle.substitution.proofs.Copied.{drop-two}
 use Rattle.substitution.proofs.Stands.{step-here}
-use Rattle.calls.proofs.Spliced.{part-here}
+use Rattle.pieces.proofs.Spliced.{part-here}
 
 pub front-none : (t : Out (List ℕ)) → front [] t ≡ t
 front-none (refused k) = refl

@@ -3,7 +3,7 @@ use mathlib.Core.List.{List, [], _∷_}
 use Prim.Native.Nat.{_≤_}
 use Rattle.definition.specs.Size.{levels, levelsA}
 use Rattle.definition.specs.Macros.{Macro}
-use Rattle.calls.specs.Pieces.{Piece, raw, call, macro-call}
+use Rattle.pieces.specs.Pieces.{Piece, raw, call, macro-call}
 
 -- "At most 64 levels."
 abbrev pub DeepM : List Macro → Type 0

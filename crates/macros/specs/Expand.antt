@@ -9,7 +9,7 @@ use Rattle.definition.specs.Write.{wInner}
 use Rattle.definition.specs.Macros.{Macro, instance, innerOf, expandI}
 use Rattle.seek.specs.Here.{Here}
 use Rattle.writer.specs.Buf.{part}
-use Rattle.calls.specs.Pieces.{Piece, places, written, expanded}
+use Rattle.pieces.specs.Pieces.{Piece, places, written, expanded}
 use Rattle.substitution.specs.Instance.{Areas}
 use Rattle.substitution.specs.Call.{Defined, Puts}
 use Rattle.macros.specs.Table.{Rows}

@@ -1,8 +1,8 @@
 // The book that is left: macros removed, order kept, contents made anew, and each format's body expanded.
 use crate::expand::expand_macros_in_combinator;
-use calls::Walk;
-use calls::first_marks;
 use contents::params_past;
+use marks::Walk;
+use marks::first_marks;
 use seek::byte;
 use seek::name_past;
 use seek::number;

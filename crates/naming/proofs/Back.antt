@@ -15,10 +15,9 @@ use Rattle.laws.proofs.Splits.{s-comb, s-open, s-label, s-name, Splits}
 use Rattle.lifting.proofs.Ranges.{size-some}
 use Rattle.lookup.specs.Name.{nameAt}
 use Rattle.lookup.proofs.Names.{stands}
-use Rattle.seek.specs.At.{byteAt, pastAt}
+use Rattle.seek.specs.At.{byteAt, pastAt, pick}
 use Rattle.seek.specs.Here.{Here}
 use Rattle.seek.proofs.Here.{here-length, past-here, byte-here, next-here}
-use Rattle.collect.specs.Uses.{pick}
 use Rattle.lift.specs.Bound.{Bound, boundFrom, withParam}
 use Rattle.lifting.specs.After.{fieldAt, caseAt, shellAt}
 use Rattle.naming.specs.declared.Frame.{Frame}

@@ -14,14 +14,14 @@ use Rattle.definition.specs.Write.{wU16, wName, wText, wSelector, wLen, wList, 
 use Rattle.definition.specs.Size.{size, levels, levelsI}
 use Rattle.laws.proofs.Sizes.{adds, sizeI}
 use Rattle.laws.proofs.Splits.{s-comb, s-selector}
-use Rattle.seek.specs.At.{byteAt, pastAt, numberAt}
+use Rattle.seek.specs.At.{byteAt, pastAt, numberAt, pick}
 use Rattle.seek.specs.Here.{Here}
 use Rattle.seek.proofs.Here.{here-length, place, byte-here, next-here, number-here, number-past, name-here}
-use Rattle.calls.specs.Walk.{walk, skipAt}
+use Rattle.marks.specs.Steps.{walk}
+use Rattle.calls.specs.Walk.{skipAt}
 use Rattle.seek.specs.At.{selectorPast}
 use Rattle.calls.specs.Walked.{Skipped}
 use Rattle.calls.proofs.Link.{skipped}
-use Rattle.collect.specs.Uses.{pick}
 use Rattle.naming.specs.Nodes.{Rest, fields, cases, one, tail, restOf, skip}
 use Rattle.naming.specs.Frames.{innerEnd, combinatorEnd, start, casesBegin, beginAt, RestIs, Begins}
 

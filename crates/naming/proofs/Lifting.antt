@@ -20,7 +20,7 @@ use Rattle.laws.proofs.Tests.{yes-no}
 use Rattle.laws.proofs.Sizes.{adds}
 use Rattle.laws.proofs.Splits.{s-comb}
 use Rattle.seek.proofs.Here.{here-length}
-use Rattle.collect.specs.Uses.{namesIn}
+use Rattle.uses.specs.Uses.{namesIn}
 use Rattle.collect.proofs.Room.{free-room}
 use Rattle.params.specs.declared.Params.{Params}
 use Rattle.params.specs.declared.Params.the-variants.{Sorted, Leftover}

@@ -16,10 +16,9 @@ use Rattle.laws.proofs.Sizes.{adds, sizeI, sizeF, sizeC, size-struct, size-choi
 use Rattle.laws.proofs.Splits.{s-name, s-text, s-len}
 use Rattle.lookup.specs.Name.{nameAt}
 use Rattle.lookup.proofs.Names.{stands}
-use Rattle.seek.specs.At.{byteAt, pastAt, numberAt, namePast, textPast, lengthPast}
+use Rattle.seek.specs.At.{byteAt, pastAt, numberAt, namePast, textPast, lengthPast, pick}
 use Rattle.seek.specs.Here.{Here}
 use Rattle.seek.proofs.Here.{here-length, byte-here, next-here, name-here, text-here, len-here}
-use Rattle.collect.specs.Uses.{pick}
 use Rattle.names.specs.Name.{Held}
 use Rattle.lift.specs.Bound.{Bound, boundFrom}
 use Rattle.lift.specs.Sheet.{Sheet}

@@ -11,11 +11,11 @@ use Rattle.lookup.specs.Name.{nameAt}
 use Rattle.definition.specs.Write.{wInner, wCombinator, wFields, wCases, wOpen, wShut, countF, countC, caseByte}
 use Rattle.definition.specs.Size.{size, levels, levelsI, levelsF, levelsC}
 use Rattle.laws.proofs.Sizes.{sizeI, sizeF, sizeC}
-use Rattle.seek.specs.At.{byteAt, pastAt, numberAt}
+use Rattle.seek.specs.At.{byteAt, pastAt, numberAt, pick}
 use Rattle.seek.specs.Here.{Here}
-use Rattle.calls.specs.Walk.{walk, skipAt}
+use Rattle.marks.specs.Steps.{walk}
+use Rattle.calls.specs.Walk.{skipAt}
 use Rattle.seek.specs.At.{selectorPast}
-use Rattle.collect.specs.Uses.{pick}
 use Rattle.names.specs.Name.{Held}
 use Rattle.lift.specs.Bound.{boundFrom, withParam}
 use Rattle.lift.specs.Sheet.{Sheet}

@@ -2,8 +2,7 @@
 use mathlib.Core.List.{List}
 use Prim.Native.Nat.{ℕ}
 use lib.Dec.{eqb}
-use Rattle.seek.specs.At.{byteAt, pastAt, namePast, textPast, lengthPast}
-use Rattle.collect.specs.Uses.{pick}
+use Rattle.seek.specs.At.{byteAt, pastAt, namePast, textPast, lengthPast, pick}
 use Rattle.naming.specs.declared.Frame.{Frame}
 use Rattle.naming.specs.declared.Next.{Next}
 use Rattle.naming.specs.declared.Next.the-variants.{Done, Pass, Chain, Label, Case, Anon, Item}

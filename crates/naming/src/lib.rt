@@ -1,14 +1,14 @@
 // The naming pass of lifting: the walk over the expanded book in walk order, one frame for each level.
-use calls::Walk;
-use calls::skip_inner;
 use lift::Counts;
 use lift::store;
+use marks::Walk;
 use seek::byte;
 use seek::length_past;
 use seek::name_past;
 use seek::number;
 use seek::past;
 use seek::text_past;
+use skip::skip_inner;
 ghost use mathlib.Core.Path.{_≡_};
 ghost use Prim.Native.Nat.{_-_, _≤_, min};
 ghost use Rattle.lift.specs.Bound.{withParam};

@@ -1,7 +1,5 @@
-pub mod Tables
-pub mod Merging
-pub mod Sorting
-pub mod Once
-pub mod Unique
-pub mod Sorted
+mod Whole
+mod Once
+mod Unique
+mod Sorted
 pub mod Parameters

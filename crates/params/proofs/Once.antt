@@ -11,9 +11,9 @@ use lib.Seq.{set-getD, drop-set-lt, getD-drop, drop-drop}
 use Rattle.definition.specs.Names.{eqName}
 use Rattle.writer.specs.Buf.{put, part}
 use Rattle.writer.proofs.Put.{put-nil, part-back}
-use Rattle.collect.specs.Uses.{nameIn}
-use Rattle.params.specs.Sort.{onceAfter, once}
-use Rattle.params.proofs.Tables.{part-cons, put-step}
+use Rattle.uses.specs.Uses.{nameIn}
+use Rattle.params.specs.Once.{onceAfter, once}
+use Rattle.order.proofs.Tables.{part-cons, put-step}
 
 -- whoever finishes from i and m has dropped all repeats
 pub record Dropping (s : List ℕ) (n : ℕ) (uses₀ : List ℕ) (last m i : ℕ) (uses : List ℕ) : Type 0 where

@@ -17,14 +17,15 @@ use Rattle.writer.proofs.Put.{length-put, take-written}
 use Rattle.seek.specs.At.{byteAt}
 use Rattle.seek.specs.Here.{Here}
 use Rattle.seek.proofs.Here.{here-length}
-use Rattle.collect.specs.Uses.{namesIn}
+use Rattle.uses.specs.Uses.{namesIn}
 use Rattle.collect.specs.Walk.{collectAt}
 use Rattle.collect.proofs.Room.{free-room}
 use Rattle.collect.proofs.Free.{length-names, collect-leftover, collect-uses, collect-names, uses-long}
 use Rattle.params.specs.declared.Params.the-variants.{Sorted, Leftover}
-use Rattle.params.specs.Sort.{ordered, once, sortedBy}
+use Rattle.order.specs.Sort.{ordered}
+use Rattle.params.specs.Once.{once, sortedBy}
 use Rattle.params.specs.Params.{sortedOr, paramsAt}
-use Rattle.params.proofs.Sorting.{ordered-length}
+use Rattle.order.proofs.Sorting.{ordered-length}
 use Rattle.params.proofs.Sorted.{sorted-names, once-short}
 
 -- the first n uses of a table

@@ -15,10 +15,11 @@ use Rattle.laws.specs.Laws.{Ascending}
 use Rattle.laws.proofs.Tests.{yes-no, not-both}
 use Rattle.laws.proofs.Members.{eqName-true}
 use Rattle.laws.proofs.Order.{sorted-ascends, elem-sorted}
-use Rattle.collect.specs.Uses.{nameIn, namesIn}
-use Rattle.collect.proofs.Without.{names-append}
-use Rattle.params.specs.Sort.{merged, orderedBy, ordered, onceAfter, once}
-use Rattle.params.proofs.Sorting.{ordered-length}
+use Rattle.uses.specs.Uses.{nameIn, namesIn}
+use Rattle.uses.proofs.Without.{names-append}
+use Rattle.order.specs.Sort.{merged, orderedBy, ordered}
+use Rattle.params.specs.Once.{onceAfter, once}
+use Rattle.order.proofs.Sorting.{ordered-length}
 use Rattle.params.proofs.Unique.{less-of, unique}
 
 -- of two names one is not before the other

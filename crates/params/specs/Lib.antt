@@ -1,2 +1,2 @@
-pub mod Sort
+pub mod Once
 pub mod Params

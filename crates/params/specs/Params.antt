@@ -6,7 +6,7 @@ use Prim.Native.Nat.{ℕ}
 use Rattle.collect.specs.declared.Collected.{Collected}
 use Rattle.collect.specs.declared.Collected.the-variants.{Uses, Leftover}
 use Rattle.collect.specs.Walk.{collectAt, answerOf}
-use Rattle.params.specs.Sort.{sortedBy}
+use Rattle.params.specs.Once.{sortedBy}
 use Rattle.params.specs.declared.Params.{Params}
 use Rattle.params.specs.declared.Params.the-variants as params
 

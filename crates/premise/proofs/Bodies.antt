@@ -3,38 +3,37 @@
 use mathlib.Core.Path.{_≡_, refl, sym, ap, _∙_, fun-ext}
 use mathlib.Core.List.{List, [], _∷_}
 use mathlib.Core.Bool.{Bool, true, false, _&&_}
-use Prim.Native.Nat.{ℕ, _+_, _-_, _*_, _≤_, _<_, max}
+use Prim.Native.Nat.{ℕ, _+_, _-_, _*_, _≤_, _<_}
 use native.Mathlib.Omega.{arith}
 use lib.ListN.{length, take, length-append}
 use Rattle.definition.specs.Tree.{Name, Combinator, Param, Definition, format, constant, byte-order, macro}
 use Rattle.definition.specs.Names.{elem}
-use Rattle.definition.specs.Write.{wName, wList, wParam, wCombinator, wDefinition, kindOf, kindByte, sizeOf, wBook}
+use Rattle.definition.specs.Write.{wCombinator, wDefinition, kindOf, kindByte}
 use Rattle.definition.specs.Size.{size, sizeBook, levels, levelsP, levelsBook}
 use Rattle.definition.specs.Bodies.{everyInvocation, chainsOk, everyBody}
-use Rattle.definition.specs.Lift.{names}
 use Rattle.definition.specs.Premise.{callsKnown, chainsPlain}
-use Rattle.laws.specs.Book.{IsBook}
 use Rattle.seek.specs.At.{byteAt, pastAt, numberAt, namePast}
 use Rattle.seek.specs.Here.{Here}
 use Rattle.seek.proofs.Here.{here-length, name-here}
-use Rattle.writer.specs.Buf.{put}
 use Rattle.writer.proofs.Put.{take-written}
-use Rattle.calls.specs.declared.Walk.{Walk}
-use Rattle.calls.specs.Walk.{walk, combinatorAt}
+use Rattle.marks.specs.declared.Walk.{Walk}
+use Rattle.marks.specs.Steps.{walk}
+use Rattle.calls.specs.Walk.{combinatorAt}
 use Rattle.calls.specs.Walked.{Walked}
-use Rattle.calls.specs.Pieces.{pieces, places}
-use Rattle.calls.specs.Splice.{everyPlace}
+use Rattle.pieces.specs.Pieces.{pieces, places}
+use Rattle.pieces.specs.Splice.{everyPlace}
 use Rattle.laws.proofs.Splits.{s-comb}
 use Rattle.calls.proofs.Link.{walked}
-use Rattle.calls.proofs.Room.{room-enough}
-use Rattle.calls.proofs.Spliced.{every-by}
+use Rattle.pieces.proofs.Room.{room-enough}
+use Rattle.pieces.proofs.Spliced.{every-by}
 use Rattle.contents.specs.Listed.{Listed}
 use Rattle.contents.specs.Params.{ParamsPast}
 use Rattle.contents.proofs.Listed.{listed-kind, listed-size, listed-body, listed-deep, listed-next, book-listed}
-use Rattle.premise.specs.Known.{rowNames, Named, knownAt}
+use Rattle.known.specs.Known.{rowNames, Named, knownAt}
 use Rattle.premise.specs.Holds.{passes, FormatHolds, DefinitionHolds, BodiesLeft, BodiesHold, Holds}
-use Rattle.premise.proofs.Bools.{and-true, and-both}
-use Rattle.premise.proofs.Every.{call-known, macro-known}
+use Rattle.pieces.proofs.Bools.{and-true}
+use Rattle.known.proofs.Bools.{and-both}
+use Rattle.known.proofs.Every.{call-known, macro-known}
 
 size-here : {s : List ℕ} {p : ℕ} (c : Combinator) (z : List ℕ) → Here s p (wCombinator c z) → p + size c ≤ length s
 unfolding size

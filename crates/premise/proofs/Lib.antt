@@ -1,4 +1,1 @@
-mod Bools
-mod Known
-mod Every
 mod Bodies

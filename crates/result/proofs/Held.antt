@@ -15,7 +15,7 @@ use Rattle.laws.proofs.Splits.{s-inner}
 use Rattle.laws.proofs.Sizes.{adds, sizeI}
 use Rattle.writer.specs.Buf.{part, nameBytes}
 use Rattle.writer.proofs.Put.{part-none, part-more}
-use Rattle.calls.specs.Walk.{walk}
+use Rattle.marks.specs.Steps.{walk}
 use Rattle.calls.proofs.Link.{skipped}
 use Rattle.tables.specs.Rows.{typeAt, rowOf}
 use Rattle.lifting.specs.Records.{Ref, own, passed, Record, find, call}

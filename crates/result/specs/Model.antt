@@ -9,7 +9,8 @@ use Rattle.definition.specs.Tree.{Name}
 use Rattle.definition.specs.Write.{wU16}
 use Rattle.writer.specs.Buf.{part, nameBytes}
 use Rattle.seek.specs.At.{byteAt, numberAt}
-use Rattle.calls.specs.Walk.{walk, skipAt}
+use Rattle.marks.specs.Steps.{walk}
+use Rattle.calls.specs.Walk.{skipAt}
 use Rattle.tables.specs.Rows.{TypeAt, Row, rowAt}
 
 abbrev pub pick : {A : Type 0} → Bool → A → A → A

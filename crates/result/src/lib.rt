@@ -1,9 +1,9 @@
 // The writing pass: the finished book from the expanded book and the tables that the naming pass leaves. It goes in layout order, writes each
 // body once at its final place, and cannot fail: every function is total on any bytes and any numbers.
-use calls::Walk;
-use calls::skip_inner;
 use lookup::name_at;
+use marks::Walk;
 use seek::byte;
+use skip::skip_inner;
 use writer::put_byte;
 use writer::put_name;
 use writer::put_part;

@@ -48,3 +48,7 @@ selectorPast s at = pick (eqb (byteAt s at) 1) (namePast s (pastAt s at 1)) (pas
 -- "each case a label (Enums) or text"
 unfoldable pub labelPast : List ℕ → ℕ → ℕ → ℕ
 labelPast s at kind = pick (eqb kind 1) (namePast s at) (textPast s at)
+
+-- "every chain there stands on Bytes or Tail": the tag of the inner that a chain stands on
+unfoldable pub standsOn : ℕ → Bool
+standsOn tag = pick (eqb tag 10) true (eqb tag 11)

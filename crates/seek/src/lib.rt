@@ -1,6 +1,6 @@
 // Going over validated bytes by position. Every function is total: past the end a byte is 0, and no place lies past the end.
 ghost use mathlib.Core.Path.{_≡_};
-ghost use Rattle.seek.specs.At.{byteAt, pastAt, numberAt, namePast, textPast, namesPast, listPast, lengthPast, selectorPast, labelPast};
+ghost use Rattle.seek.specs.At.{byteAt, pastAt, numberAt, namePast, textPast, namesPast, listPast, lengthPast, selectorPast, labelPast, standsOn};
 
 // The byte at a place.
 pub fn byte(s: &[u8], at: usize) -> u8
@@ -104,4 +104,14 @@ pub fn label_past(s: &[u8], at: usize, kind: u8) -> usize
         return name_past(s, at);
     }
     text_past(s, at)
+}
+
+// Whether a chain may stand on an inner with this tag, and is collected there: Bytes or Tail.
+pub fn stands_on(tag: u8) -> bool
+    ensures { λ r. ⌜ r ≡ standsOn tag ⌝ }
+{
+    if tag == 10 {
+        return true;
+    }
+    tag == 11
 }

@@ -17,17 +17,18 @@ use Rattle.seek.proofs.Here.{next-here, number-here, number-past, name-here, na
 use Rattle.lookup.proofs.Names.{clash}
 use Rattle.writer.specs.Buf.{put, part, Wrote}
 use Rattle.writer.proofs.Put.{length-put}
-use Rattle.calls.specs.declared.Walk.{Walk}
-use Rattle.calls.specs.Walk.{walk, combinatorAt, skipAt}
-use Rattle.calls.specs.Pieces.{pieces, places}
+use Rattle.marks.specs.declared.Walk.{Walk}
+use Rattle.marks.specs.Steps.{walk}
+use Rattle.calls.specs.Walk.{combinatorAt, skipAt}
+use Rattle.pieces.specs.Pieces.{pieces, places}
 use Rattle.laws.proofs.Splits.{s-comb}
 use Rattle.calls.proofs.Link.{walked, skipped}
-use Rattle.calls.proofs.Spliced.{part-here}
+use Rattle.pieces.proofs.Spliced.{part-here}
 use Rattle.substitution.specs.declared.Turn.{Turn}
 use Rattle.substitution.specs.Instance.{Areas, Made, Instanced}
 use Rattle.substitution.specs.Call.{Defined, Puts, Opened, Paired, Called}
 use Rattle.substitution.proofs.Stands.{inner-here}
-use Rattle.calls.proofs.Room.{room-enough}
+use Rattle.pieces.proofs.Room.{room-enough}
 use Rattle.substitution.proofs.Turns.{size-here, holds}
 
 module _ {macros : List ℕ} {def : ℕ} (m : Macro) (d : Defined macros def m) where

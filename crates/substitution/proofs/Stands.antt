@@ -15,7 +15,7 @@ use Rattle.lookup.proofs.Names.{stands}
 use Rattle.writer.specs.Buf.{part}
 use Rattle.writer.proofs.Put.{part-split}
 use Rattle.laws.proofs.Splits.{s-inner}
-use Rattle.calls.proofs.Spliced.{part-here}
+use Rattle.pieces.proofs.Spliced.{part-here}
 
 module _ {s : List ℕ} {p : ℕ} where
   pub step-here : (b : List ℕ) {z : List ℕ} → Here s p (b ++ z) → Here s (p + length b) z

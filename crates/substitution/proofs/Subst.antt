@@ -14,9 +14,9 @@ use Rattle.definition.specs.Macros.{same, subst}
 use Rattle.seek.specs.Here.{Here}
 use Rattle.writer.specs.Buf.{part}
 use Rattle.writer.proofs.Put.{part-none}
-use Rattle.calls.specs.Pieces.{Piece, raw, call, macro-call, pieces, places, written, replaced}
+use Rattle.pieces.specs.Pieces.{Piece, raw, call, macro-call, pieces, places, written, replaced}
 use Rattle.laws.proofs.Splits.{s-inner}
-use Rattle.calls.proofs.Written.{written-is, subst-is}
+use Rattle.pieces.proofs.Written.{written-is, subst-is}
 use Rattle.substitution.specs.Substituted.{pick, callsName, substituted}
 use Rattle.substitution.proofs.Stands.{step-here, inner-here, part-on, call-tag, macro-tag, call-name}
 

@@ -23,15 +23,16 @@ use Rattle.lookup.proofs.Names.{stands, yes-no, clash}
 use Rattle.writer.specs.Buf.{put, part, Wrote}
 use Rattle.writer.proofs.Put.{put-fits, part-written, take-written, length-put}
 use Rattle.writer.proofs.Wrote.{fitted, place-is}
-use Rattle.calls.specs.declared.Walk.{Walk}
-use Rattle.calls.specs.Walk.{walk, combinatorAt, skipAt}
+use Rattle.marks.specs.declared.Walk.{Walk}
+use Rattle.marks.specs.Steps.{walk}
+use Rattle.calls.specs.Walk.{combinatorAt, skipAt}
 use Rattle.calls.specs.Walked.{Walked, Skipped}
-use Rattle.calls.specs.Pieces.{pieces, places}
+use Rattle.pieces.specs.Pieces.{pieces, places}
 use Rattle.laws.proofs.Splits.{s-comb}
 use Rattle.calls.proofs.Link.{walked, skipped}
-use Rattle.calls.proofs.Spliced.{part-here}
-use Rattle.calls.proofs.Deeper.{deeper}
-use Rattle.calls.proofs.Room.{room-enough}
+use Rattle.pieces.proofs.Spliced.{part-here}
+use Rattle.pieces.proofs.Deeper.{deeper}
+use Rattle.pieces.proofs.Room.{room-enough}
 use Rattle.substitution.specs.declared.Turn.{Turn}
 use Rattle.substitution.specs.Substituted.{substituted}
 use Rattle.substitution.specs.Instance.{Areas, Holds, Went, Turned, Made, Instanced}

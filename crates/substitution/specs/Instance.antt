@@ -10,7 +10,7 @@ use Rattle.definition.specs.Write.{wName, wAll, wInner, wInners, wCombinator, c
 use Rattle.definition.specs.Size.{size, levels, levelsI, levelsA}
 use Rattle.definition.specs.Macros.{subst, limited, instance}
 use Rattle.seek.specs.Here.{Here}
-use Rattle.calls.specs.Pieces.{pieces, places}
+use Rattle.pieces.specs.Pieces.{pieces, places}
 use Rattle.substitution.specs.declared.Turn.{Turn}
 
 -- the areas of an expansion: both books and two combinators of at most 16,384 bytes, and the marks

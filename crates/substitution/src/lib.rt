@@ -1,22 +1,23 @@
 // Substitution on validated bytes, and a macro's instance at a call of it: document 01's "Macro rules", 3 and 4.
 pub mod call;
 
-use calls::Walk;
 use calls::combinator;
-use calls::first_marks;
-use calls::skip_inner;
 use lookup::name_at;
 use lookup::same_name;
+use marks::Walk;
+use marks::first_marks;
 use seek::byte;
 use seek::name_past;
 use seek::past;
+use skip::skip_inner;
 use writer::least;
 use writer::put_bytes;
 use writer::put_part;
 ghost use mathlib.Core.Path.{_≡_};
 ghost use mathlib.Core.Bool.{true, false};
 ghost use Rattle.writer.specs.Buf.{part, Wrote};
-ghost use Rattle.calls.specs.Walk.{walk, combinatorAt, skipAt};
+ghost use Rattle.marks.specs.Steps.{walk};
+ghost use Rattle.calls.specs.Walk.{combinatorAt, skipAt};
 ghost use Rattle.substitution.specs.Instance.{Turned, Instanced};
 ghost use Rattle.substitution.specs.Substituted.{callsName, substituted};
 

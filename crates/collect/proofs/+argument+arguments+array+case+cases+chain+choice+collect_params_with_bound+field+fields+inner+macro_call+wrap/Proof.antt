@@ -4,7 +4,8 @@ use native.Mathlib.Omega.{arith}
 use Prim.Native.Nat.{_+_, _*_}
 use mathlib.Core.Path.{_≡_, refl, _∙_}
 use lib.ListN.{length}
-use Rattle.collect.specs.Walk.{moved, counted, times, many, fieldBy, fieldsBy, wrapBy, caseBy, choiceBy, arrayBy, macroBy, innerBy, chainBy, tailBy, combinatorBy, argumentBy, argumentAt, fieldAt, caseAt}
+use Rattle.uses.specs.Steps.{moved, counted}
+use Rattle.collect.specs.Walk.{times, many, fieldBy, fieldsBy, wrapBy, caseBy, choiceBy, arrayBy, macroBy, innerBy, chainBy, tailBy, combinatorBy, argumentBy, argumentAt, fieldAt, caseAt}
 use Rattle.collect.proofs.Level.{combinator-level, argument-level, more, done}
 use Prim.Native.Nat.{ℕ, _<_}
 use borrow.Fn.Kinds.{In}
@@ -48,15 +49,15 @@ use Rattle.collect.proofs.+argument+arguments+array+case+cases+chain+ch
 use Rattle.collect.proofs.wrap.Reads as wrap
 use Rattle.collect.proofs.wrap.Kinds as wrap-kinds
 use Rattle.collect.proofs.+argument+arguments+array+case+cases+chain+choice+collect_params_with_bound+field+fields+inner+macro_call+wrap.Lts-wrap as wrap-lts
-use Rattle.collect.proofs.bind.Reads as bind-reads
-use Rattle.collect.proofs.call.Reads as call-reads
-use Rattle.collect.proofs.counted.Reads as counted-reads
-use Rattle.collect.proofs.label_past.Reads as label-past-reads
-use Rattle.collect.proofs.moved.Reads as moved-reads
-use Rattle.collect.proofs.roots.Reads as roots-reads
-use Rattle.collect.proofs.selector.Reads as selector-reads
-use Rattle.collect.proofs.stands_on.Reads as stands-on-reads
-use Rattle.collect.proofs.unbound.Reads as unbound-reads
+use Rattle.uses.proofs.bind.Reads as bind-reads
+use Rattle.uses.proofs.call.Reads as call-reads
+use Rattle.uses.proofs.counted.Reads as counted-reads
+use Rattle.seek.proofs.label_past.Reads as label-past-reads
+use Rattle.uses.proofs.moved.Reads as moved-reads
+use Rattle.uses.proofs.roots.Reads as roots-reads
+use Rattle.uses.proofs.selector.Reads as selector-reads
+use Rattle.seek.proofs.stands_on.Reads as stands-on-reads
+use Rattle.uses.proofs.unbound.Reads as unbound-reads
 use Rattle.seek.proofs.byte.Reads as byte-reads
 use Rattle.seek.proofs.name_past.Reads as name-past-reads
 use Rattle.seek.proofs.number.Reads as number-reads

@@ -6,7 +6,7 @@ use Rattle.contents.proofs.param_past.Statement.{statement}
 use Rattle.contents.proofs.param_past.Tie as tie
 use Rattle.contents.proofs.param_past.Reads as reads
 use Rattle.contents.proofs.param_past.Lts as lts
-use Rattle.calls.proofs.skip_inner.Reads as skip-inner-reads
+use Rattle.skip.proofs.skip_inner.Reads as skip-inner-reads
 use Rattle.seek.proofs.name_past.Reads as name-past-reads
 
 name-past-requires : tie.Need-name-past-requires

@@ -5,7 +5,7 @@ use Prim.Native.Nat.{_-_, _*_, _≤_}
 use native.Mathlib.Omega.{arith}
 use lib.ListN.{length}
 use borrow.Author.Needs.{needs}
-use Rattle.collect.specs.Uses.{nameIn}
+use Rattle.uses.specs.Uses.{nameIn}
 use Rattle.lift.specs.Bound.{boundFrom, Filled, Within, Builds}
 use Rattle.lift.proofs.Params.{filled-none, filled-missing, filled-more, use-short}
 use Rattle.lift.proofs.build_param_defns.Statement.{statement}

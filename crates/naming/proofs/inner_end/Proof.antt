@@ -1,7 +1,7 @@
 -- `naming::inner_end` meets its contract.
 -- Assumes nothing.
 use mathlib.Core.Path.{ap}
-use Rattle.calls.specs.declared.Walk.{Walk}
+use Rattle.marks.specs.declared.Walk.{Walk}
 use Rattle.naming.specs.Frames.{innerEnd}
 use borrow.Author.Needs.{needs}
 use Rattle.naming.proofs.inner_end.Statement.{statement}

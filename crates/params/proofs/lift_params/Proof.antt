@@ -1,5 +1,5 @@
 use mathlib.Core.Path.{refl}
-use Rattle.params.proofs.Sorting.{got}
+use Rattle.params.proofs.Whole.{got}
 use Rattle.params.specs.Params.{paramsAt, sortedOr}
 use borrow.Author.Needs.{needs}
 use Rattle.params.proofs.lift_params.Statement.{statement}

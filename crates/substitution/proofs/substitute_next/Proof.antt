@@ -11,7 +11,7 @@ use Rattle.substitution.proofs.substitute_next.Reads as reads
 use Rattle.substitution.proofs.substitute_next.Lts as lts
 use Rattle.lookup.proofs.name_at.Reads as name-at-reads
 use Rattle.substitution.proofs.between.Reads as between-reads
-use Rattle.calls.proofs.first_marks.Reads as first-marks-reads
+use Rattle.marks.proofs.first_marks.Reads as first-marks-reads
 use Rattle.substitution.proofs.substitute_in_combinator.Reads as substitute-in-combinator-reads
 use Rattle.seek.proofs.name_past.Reads as name-past-reads
 use Rattle.writer.proofs.put_part.Reads as put-part-reads

@@ -10,7 +10,7 @@ use Rattle.macros.proofs.book.expand_format.Reads as reads
 use Rattle.macros.proofs.book.expand_format.Lts as lts
 use Rattle.contents.proofs.params_past.Reads as params-past-reads
 use Rattle.macros.proofs.expand.expand_macros_in_combinator.Reads as expand-macros-in-combinator-reads
-use Rattle.calls.proofs.first_marks.Reads as first-marks-reads
+use Rattle.marks.proofs.first_marks.Reads as first-marks-reads
 use Rattle.seek.proofs.name_past.Reads as name-past-reads
 use Rattle.writer.proofs.put_part.Reads as put-part-reads
 

@@ -1,0 +1,2 @@
+mod Level
+pub mod Anonymous

@@ -1,0 +1,3 @@
+pub mod Bools
+mod Known
+pub mod Every

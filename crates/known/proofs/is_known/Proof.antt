@@ -1,0 +1,45 @@
+-- `known::is_known` meets its contract.
+-- Assumes nothing.
+use borrow.Author.Needs.{needs}
+use Rattle.known.proofs.Every.{other-known, found-known}
+use Rattle.known.proofs.is_known.Statement.{statement}
+use Rattle.known.proofs.is_known.Tie as tie
+use Rattle.known.proofs.is_known.Reads as reads
+use Rattle.known.proofs.is_known.Lts as lts
+use Rattle.lookup.proofs.name_at.Reads as name-at-reads
+use Rattle.fresh.proofs.find_name.Reads as find-name-reads
+use Rattle.seek.proofs.byte.Reads as byte-reads
+use Rattle.seek.proofs.past.Reads as past-reads
+
+byte-requires : tie.Need-byte-requires
+byte-requires c κs = search needs
+
+past-requires : tie.Need-past-requires
+past-requires c κs = search needs
+
+name-at-requires : tie.Need-name-at-requires
+name-at-requires c κs = search needs
+
+slice-aggregate-find-name : tie.Need-slice-aggregate-find-name
+slice-aggregate-find-name c = search needs
+
+find-name-requires : tie.Need-find-name-requires
+find-name-requires c κs = c .before .before .before .before .before .before .before .before .pre .table _
+
+returns : tie.Need-returns
+returns c = found-known _ _ _ _ _ (c .before .before .before .before .before .byte .ensures) (c .before .before .before .if1 .taken) _ (c .before .before .before .before .past .ensures) _ (c .before .before .name-at .ensures) (c .find-name .ensures)
+
+returns-2 : tie.Need-returns-2
+returns-2 c = other-known _ _ _ _ _ (c .before .before .byte .ensures) (c .if1 .left)
+
+pub is-known-spec : {M : Type 1} → statement M
+is-known-spec =
+    tie.close
+    (tie.spec
+    byte-requires
+    past-requires
+    name-at-requires
+    slice-aggregate-find-name
+    find-name-requires
+    returns
+    returns-2)

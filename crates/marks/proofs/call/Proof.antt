@@ -1,0 +1,31 @@
+-- `marks::call` meets its contract.
+-- Assumes nothing.
+use Rattle.marks.specs.Steps.{callAt}
+use borrow.Author.Needs.{needs}
+use Rattle.marks.proofs.call.Statement.{statement}
+use Rattle.marks.proofs.call.Tie as tie
+use Rattle.marks.proofs.call.Reads as reads
+use Rattle.marks.proofs.call.Lts as lts
+use Rattle.marks.proofs.mark.Reads as mark-reads
+use Rattle.seek.proofs.list_past.Reads as list-past-reads
+use Rattle.seek.proofs.name_past.Reads as name-past-reads
+
+name-past-requires : tie.Need-name-past-requires
+name-past-requires c κs = search needs
+
+list-past-requires : tie.Need-list-past-requires
+list-past-requires c κs = search needs
+
+mark-requires : tie.Need-mark-requires
+mark-requires c κs = search needs
+
+same-length : tie.Need-same-length
+same-length c = search needs
+
+returns : tie.Need-returns
+unfolding callAt
+returns c = rw (← (c .before .before .before .before .before .name-past .ensures), ← (c .before .before .before .before .list-past .ensures)) (c .before .before .mark .ensures)
+
+pub call-spec : {M : Type 1} → statement M
+call-spec =
+    tie.close (tie.spec name-past-requires list-past-requires mark-requires same-length returns)

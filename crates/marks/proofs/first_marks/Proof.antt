@@ -1,0 +1,23 @@
+-- `marks::first_marks` meets its contract.
+-- Assumes nothing.
+use native.Mathlib.Omega.{arith}
+use lib.ListN.{length-take}
+use Rattle.marks.proofs.Marks.{take-least}
+use borrow.Author.Needs.{needs}
+use Rattle.marks.proofs.first_marks.Statement.{statement}
+use Rattle.marks.proofs.first_marks.Tie as tie
+use Rattle.marks.proofs.first_marks.Reads as reads
+use Rattle.marks.proofs.first_marks.Lts as lts
+use Rattle.writer.proofs.least.Reads as least-reads
+
+least-requires : tie.Need-least-requires
+least-requires c κs = search needs
+
+slice-aggregate-result : tie.Need-slice-aggregate-result
+slice-aggregate-result c = simp length-take (omega (arith, c .before .least .ensures))
+
+returns : tie.Need-returns
+returns c = take-least _ _ _ (c .before .least .ensures)
+
+pub first-marks-spec : {M : Type 1} → statement M
+first-marks-spec = tie.close (tie.spec least-requires slice-aggregate-result returns)

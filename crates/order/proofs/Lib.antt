@@ -1,0 +1,3 @@
+pub mod Tables
+mod Merging
+pub mod Sorting

@@ -1,0 +1,3 @@
+mod Uses
+mod Level
+pub mod Without

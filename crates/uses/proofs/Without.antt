@@ -1,0 +1,129 @@
+-- Lists of names without those that are bound, and the name that a use means.
+-- Assumes nothing.
+use mathlib.Core.Path.{_≡_, refl, ap, _∙_}
+use mathlib.Core.Logic.{⊎-elim}
+use mathlib.Core.List.{List, [], _∷_, _++_}
+use mathlib.Core.Bool.{Bool, true, false, cond, _||_}
+use Prim.Native.Nat.{ℕ, _+_, _-_, _*_, _/_, _%_, _≤_, _<_, min}
+use native.Mathlib.Omega.{arith}
+use lib.Dec.{eqb}
+use lib.ListN.{length, take}
+use lib.Seq.{take-append-seam}
+use Rattle.definition.specs.Tree.{Name}
+use Rattle.definition.specs.Names.{eqName, elem, remove, root}
+use Rattle.definition.specs.Write.{wName}
+use Rattle.laws.proofs.Tests.{yes-no}
+use Rattle.laws.proofs.Members.{eqName-true, eqName-swap}
+use Rattle.lookup.specs.Name.{nameAt}
+use Rattle.lookup.proofs.Names.{stands}
+use Rattle.seek.specs.At.{byteAt, pastAt, pick}
+use Rattle.seek.specs.Here.{Here}
+use Rattle.seek.proofs.Here.{byte-here, next-here}
+use Rattle.uses.specs.Uses.{useOf, nameIn, namesIn, useAt}
+
+-- the names that are not among the bound ones
+unfoldable pub without : List Name → List Name → List Name
+without bound [] = []
+without bound (n ∷ ns) = let r = without bound ns in cond (elem n bound) r (n ∷ r)
+
+pub without-append : (bound a b : List Name) → without bound (a ++ b) ≡ without bound a ++ without bound b
+unfolding without
+without-append bound [] b = refl
+without-append bound (n ∷ a) b = ⊎-elim
+    (λ (e : elem n bound ≡ true). rw e (without-append bound a b))
+    (λ (e : elem n bound ≡ false). rw e (ap (λ (l : List Name). n ∷ l) (without-append bound a b)))
+    (yes-no (elem n bound))
+
+pub without-none : (ns : List Name) → without [] ns ≡ ns
+unfolding without elem
+without-none [] = refl
+without-none (n ∷ ns) = ap (λ (l : List Name). n ∷ l) (without-none ns)
+
+pub without-here : (bound : List Name) (n : Name) → elem n bound ≡ true → without bound (n ∷ []) ≡ []
+unfolding without
+without-here bound n e = rw e
+
+pub without-new : (bound : List Name) (n : Name) → elem n bound ≡ false → without bound (n ∷ []) ≡ n ∷ []
+unfolding without
+without-new bound n e = rw e
+
+eqName-sym : (a b : Name) → eqName a b ≡ eqName b a
+eqName-sym a b = ⊎-elim
+    (λ (p : eqName a b ≡ true). let q = eqName-true a b p in rw q)
+    (λ (p : eqName a b ≡ false). rw (p, eqName-swap a b p))
+    (yes-no (eqName a b))
+
+elem-snoc-is : (n l : Name) (bound : List Name) → elem n (bound ++ (l ∷ [])) ≡ elem n bound || eqName l n
+unfolding elem
+elem-snoc-is n l [] = rw (eqName-sym n l) (itself (eqName l n))
+  where
+    itself : (b : Bool) → cond b true false ≡ b
+    itself true = refl
+    itself false = refl
+elem-snoc-is n l (m ∷ bound) = rw (elem-snoc-is n l bound) (first (eqName n m) (elem n bound) (eqName l n))
+  where
+    first : (a b c : Bool) → cond a true (b || c) ≡ cond a true b || c
+    first true b c = refl
+    first false b c = refl
+
+-- one more name that is bound is a name removed
+pub without-bind : (bound : List Name) (l : Name) (ns : List Name) → without (bound ++ (l ∷ [])) ns ≡ without bound (remove l ns)
+unfolding without remove
+without-bind bound l [] = refl
+without-bind bound l (n ∷ ns) = rw (elem-snoc-is n l bound) (⊎-elim
+    (λ (e : elem n bound ≡ true). ⊎-elim
+    (λ (f : eqName l n ≡ true). rw (e, f) (without-bind bound l ns))
+    (λ (f : eqName l n ≡ false). rw (e, f, e) (without-bind bound l ns))
+    (yes-no (eqName l n)))
+    (λ (e : elem n bound ≡ false). ⊎-elim
+    (λ (f : eqName l n ≡ true). rw (e, f) (without-bind bound l ns))
+    (λ (f : eqName l n ≡ false). rw (e, f, e) (ap (λ (m : List Name). n ∷ m) (without-bind bound l ns)))
+    (yes-no (eqName l n)))
+    (yes-no (elem n bound)))
+
+pub names-append : (s a b : List ℕ) → namesIn s (a ++ b) ≡ namesIn s a ++ namesIn s b
+unfolding namesIn
+names-append s [] b = refl
+names-append s (x ∷ a) b = ap (λ (l : List Name). nameIn s x ∷ l) (names-append s a b)
+
+-- the part before the first '.'
+root-short : (m : Name) → length (root m) ≤ length m
+unfolding root
+root-short [] = omega arith
+root-short (b ∷ m) = ⊎-elim
+    (λ (e : eqb b 46 ≡ true). rw e (omega arith))
+    (λ (e : eqb b 46 ≡ false). rw e (let h = root-short m in omega arith))
+    (yes-no (eqb b 46))
+
+root-take : (m z : List ℕ) → take (length (root m)) (m ++ z) ≡ root m
+unfolding root
+root-take [] z = refl
+root-take (b ∷ m) z = ⊎-elim
+    (λ (e : eqb b 46 ≡ true). rw e)
+    (λ (e : eqb b 46 ≡ false). rw e (ap (λ (l : List ℕ). b ∷ l) (root-take m z)))
+    (yes-no (eqb b 46))
+
+abbrev pub cutBy : Bool → Name → Name
+cutBy cut m = pick cut (root m) m
+
+cut-short : (cut : Bool) (m : Name) → length (cutBy cut m) ≤ length m
+cut-short true m = root-short m
+cut-short false m = omega arith
+
+cut-take : (cut : Bool) (m z : List ℕ) → take (length (cutBy cut m)) (m ++ z) ≡ cutBy cut m
+cut-take true m z = root-take m z
+cut-take false m z = take-append-seam m z
+
+-- where a name stands, its use means it
+pub use-here : {s : List ℕ} {p : ℕ} → ((i : ℕ) → byteAt s i < 256) → length s < 16777216 → (cut : Bool) (m z : List ℕ) → Here s p (wName m z) → nameIn s (useAt s p cut) ≡ cutBy cut m
+unfolding wName nameIn useAt useOf pastAt
+use-here {s} {p} small short cut m z h =
+    let n : ℕ = length (cutBy cut m) in
+    let a : ℕ = min (p + 1) (length s) in
+    let named : nameAt s p ≡ m = stands s p m z (h .is) in
+    let long : length m < 256 = rw (byte-here h) at (small p) in
+    let less : n ≤ length m = cut-short cut m in
+    let x : ℕ = a % 16777216 * 256 + n % 256 in
+    let place : x / 256 ≡ a = omega arith in
+    let len : x % 256 ≡ n = omega arith in
+    rw (named, place, len) (ap (take n) (next-here h .is) ∙ cut-take cut m z)

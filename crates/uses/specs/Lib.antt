@@ -1,0 +1,2 @@
+pub mod Uses
+pub mod Steps
