@@ -29,11 +29,11 @@ use Rattle.pieces.proofs.Spliced.{every-by}
 use Rattle.contents.specs.Listed.{Listed}
 use Rattle.contents.specs.Params.{ParamsPast}
 use Rattle.contents.proofs.Listed.{listed-kind, listed-size, listed-body, listed-deep, listed-next, book-listed}
-use Rattle.known.specs.Known.{rowNames, Named, knownAt}
+use Rattle.called.specs.Known.{rowNames, Named, knownAt}
 use Rattle.premise.specs.Holds.{passes, FormatHolds, DefinitionHolds, BodiesLeft, BodiesHold, Holds}
 use Rattle.pieces.proofs.Bools.{and-true}
-use Rattle.known.proofs.Bools.{and-both}
-use Rattle.known.proofs.Every.{call-known, macro-known}
+use Rattle.called.proofs.Bools.{and-both}
+use Rattle.called.proofs.Every.{call-known, macro-known}
 
 size-here : {s : List ℕ} {p : ℕ} (c : Combinator) (z : List ℕ) → Here s p (wCombinator c z) → p + size c ≤ length s
 unfolding size

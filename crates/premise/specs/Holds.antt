@@ -13,7 +13,7 @@ use Rattle.definition.specs.Premise.{callsKnown, chainsPlain}
 use Rattle.laws.specs.Book.{IsBook}
 use Rattle.seek.specs.Here.{Here}
 use Rattle.contents.specs.Listed.{Listed}
-use Rattle.known.specs.Known.{rowNames}
+use Rattle.called.specs.Known.{rowNames}
 
 -- a body's calls are of these names, and its chains stand on Bytes or Tail
 unfoldable pub passes : List Name → Combinator → Bool

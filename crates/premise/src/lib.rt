@@ -1,15 +1,15 @@
 // The premise test over an expanded book, on validated bytes: document 01's "Premise test and listing".
 use calls::combinator;
 use contents::params_past;
-use known::all_known;
-use known::take_names;
+use called::all_known;
+use called::take_names;
 use marks::Walk;
 use marks::first_marks;
 use seek::byte;
 use seek::name_past;
 use seek::number;
 use seek::past;
-ghost use Rattle.known.specs.Known.{Rows};
+ghost use Rattle.called.specs.Known.{Rows};
 ghost use Rattle.premise.specs.Holds.{DefinitionHolds, FormatHolds, BodiesHold, Holds};
 
 // The format at a place: its body, behind its name and its parameters.

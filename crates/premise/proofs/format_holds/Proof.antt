@@ -8,7 +8,7 @@ use Rattle.premise.proofs.format_holds.Reads as reads
 use Rattle.premise.proofs.format_holds.Lts as lts
 use Rattle.calls.proofs.combinator.Reads as combinator-reads
 use Rattle.contents.proofs.params_past.Reads as params-past-reads
-use Rattle.known.proofs.all_known.Reads as all-known-reads
+use Rattle.called.proofs.all_known.Reads as all-known-reads
 use Rattle.marks.proofs.first_marks.Reads as first-marks-reads
 use Rattle.seek.proofs.name_past.Reads as name-past-reads
 

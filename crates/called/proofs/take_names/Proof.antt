@@ -1,14 +1,14 @@
 -- `known::take_names` meets its contract.
 -- Assumes nothing.
 use borrow.Author.Needs.{needs}
-use Rattle.known.proofs.Known.{Going, taking-none, taking-step, named}
+use Rattle.called.proofs.Known.{Going, taking-none, taking-step, named}
 use mathlib.Core.Path.{refl, _∙_}
 use native.Mathlib.Omega.{arith}
-use Rattle.known.proofs.take_names.Statement.{statement}
-use Rattle.known.proofs.take_names.Tie as tie
-use Rattle.known.proofs.take_names.Reads as reads
-use Rattle.known.proofs.take_names.Lts as lts
-use Rattle.known.proofs.take_defined.Reads as take-defined-reads
+use Rattle.called.proofs.take_names.Statement.{statement}
+use Rattle.called.proofs.take_names.Tie as tie
+use Rattle.called.proofs.take_names.Reads as reads
+use Rattle.called.proofs.take_names.Lts as lts
+use Rattle.called.proofs.take_defined.Reads as take-defined-reads
 use Rattle.seek.proofs.byte.Reads as byte-reads
 use Rattle.seek.proofs.number.Reads as number-reads
 use Rattle.seek.proofs.past.Reads as past-reads

@@ -18,8 +18,8 @@ use Rattle.lookup.proofs.Names.{stands}
 use Rattle.fresh.specs.Taken.{both, taken, Grown, Listed as Row}
 use Rattle.contents.specs.Listed.{Listed}
 use Rattle.contents.proofs.Listed.{listed-kind, listed-size, listed-body, listed-next, book-listed}
-use Rattle.known.specs.Known.{Hinted, rowNames, Room, Adds, Takes, Taking, Named}
-use Rattle.known.proofs.Bools.{or-one, or-more, or-false}
+use Rattle.called.specs.Known.{Hinted, rowNames, Room, Adds, Takes, Taking, Named}
+use Rattle.called.proofs.Bools.{or-one, or-more, or-false}
 
 -- a definition that gets no row
 module _ {s : List ℕ} {kind at : ℕ} {pl hs hi : List ℕ} {n : ℕ} where

@@ -7,7 +7,7 @@ use seek::number;
 use seek::past;
 ghost use mathlib.Core.Path.{_≡_};
 ghost use Rattle.pieces.specs.Splice.{everyPlace};
-ghost use Rattle.known.specs.Known.{Takes, Named, Rows, knownAt};
+ghost use Rattle.called.specs.Known.{Takes, Named, Rows, knownAt};
 
 // The definition at a place gets row n if it is a format or a constant; the number of rows then.
 fn take_defined(

@@ -1,19 +1,19 @@
 -- `known::all_known` meets its contract.
 -- Assumes nothing.
 use borrow.Author.Needs.{needs}
-use Rattle.known.proofs.Bools.{not-true, not-false}
-use Rattle.known.proofs.Every.{every-next, every-stop, every-end}
-use Rattle.known.specs.Known.{knownAt}
+use Rattle.called.proofs.Bools.{not-true, not-false}
+use Rattle.called.proofs.Every.{every-next, every-stop, every-end}
+use Rattle.called.specs.Known.{knownAt}
 use Rattle.pieces.specs.Splice.{everyPlace}
 use lib.ListN.{length, drop}
 use Prim.Native.Nat.{_-_, _≤_}
 use mathlib.Core.Path.{_≡_, refl}
 use native.Mathlib.Omega.{arith}
-use Rattle.known.proofs.all_known.Statement.{statement}
-use Rattle.known.proofs.all_known.Tie as tie
-use Rattle.known.proofs.all_known.Reads as reads
-use Rattle.known.proofs.all_known.Lts as lts
-use Rattle.known.proofs.is_known.Reads as is-known-reads
+use Rattle.called.proofs.all_known.Statement.{statement}
+use Rattle.called.proofs.all_known.Tie as tie
+use Rattle.called.proofs.all_known.Reads as reads
+use Rattle.called.proofs.all_known.Lts as lts
+use Rattle.called.proofs.is_known.Reads as is-known-reads
 
 abbrev Inv-loop : tie.InvT-loop
 Inv-loop s marks places hashes n i₀ i = (i ≤ length marks) × (everyPlace (knownAt s places n) marks ≡ everyPlace (knownAt s places n) (drop i marks))

@@ -22,7 +22,7 @@ use Rattle.writer.proofs.Put.{within}
 use Rattle.fresh.specs.Taken.{both, Found}
 use Rattle.fresh.proofs.Rows.{found-not, found-is}
 use Rattle.pieces.specs.Splice.{everyPlace}
-use Rattle.known.specs.Known.{rowNames, knownAt}
+use Rattle.called.specs.Known.{rowNames, knownAt}
 
 -- a call
 module _ (s places : List ℕ) (n at tag : ℕ) (et : tag ≡ byteAt s at) where

@@ -1,11 +1,11 @@
 -- `known::is_known` meets its contract.
 -- Assumes nothing.
 use borrow.Author.Needs.{needs}
-use Rattle.known.proofs.Every.{other-known, found-known}
-use Rattle.known.proofs.is_known.Statement.{statement}
-use Rattle.known.proofs.is_known.Tie as tie
-use Rattle.known.proofs.is_known.Reads as reads
-use Rattle.known.proofs.is_known.Lts as lts
+use Rattle.called.proofs.Every.{other-known, found-known}
+use Rattle.called.proofs.is_known.Statement.{statement}
+use Rattle.called.proofs.is_known.Tie as tie
+use Rattle.called.proofs.is_known.Reads as reads
+use Rattle.called.proofs.is_known.Lts as lts
 use Rattle.lookup.proofs.name_at.Reads as name-at-reads
 use Rattle.fresh.proofs.find_name.Reads as find-name-reads
 use Rattle.seek.proofs.byte.Reads as byte-reads

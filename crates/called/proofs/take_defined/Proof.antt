@@ -1,11 +1,11 @@
 -- `known::take_defined` meets its contract.
 -- Assumes nothing.
 use borrow.Author.Needs.{needs}
-use Rattle.known.proofs.Known.{takes-low, takes-high, takes-far, takes-full, takes-full-2, takes-full-3, takes-row}
-use Rattle.known.proofs.take_defined.Statement.{statement}
-use Rattle.known.proofs.take_defined.Tie as tie
-use Rattle.known.proofs.take_defined.Reads as reads
-use Rattle.known.proofs.take_defined.Lts as lts
+use Rattle.called.proofs.Known.{takes-low, takes-high, takes-far, takes-full, takes-full-2, takes-full-3, takes-row}
+use Rattle.called.proofs.take_defined.Statement.{statement}
+use Rattle.called.proofs.take_defined.Tie as tie
+use Rattle.called.proofs.take_defined.Reads as reads
+use Rattle.called.proofs.take_defined.Lts as lts
 use Rattle.fresh.proofs.take_source_name.Reads as take-source-name-reads
 
 returns : tie.Need-returns
