@@ -103,7 +103,7 @@ fn step(most: f64) -> f64 {
 fn axes(svg: &mut String, scale: &Scale, step: f64) {
     let (start, end, floor) = (scale.x(0.0), scale.x(LARGEST_KILOBYTES), scale.y(0.0));
     for quarter in 0..=4 {
-        let value = step * f64::from(quarter);
+        let value = (step * f64::from(quarter) * 1000.0).round() / 1000.0;
         let y = scale.y(value);
         let shade = if quarter == 0 { "#222" } else { "#ddd" };
         let _ = writeln!(
