@@ -4,16 +4,9 @@
 # The archive is x86-64 code. Elsewhere a cross compiler links it and an emulator runs it:
 #   SAMULSTO_CC       the compiler (else cc, or x86_64-linux-gnu-gcc)
 #   SAMULSTO_RUN      what runs an x86-64 program (else nothing, or qemu-x86_64 from PATH or from rt's toolchain)
-#   SAMULSTO_ARCHIVE  an archive that is there already (else `rt staticlib elab` writes one)
-set -eu
+# and archive.sh says where the archive comes from.
+. "$(dirname "$0")/archive.sh"
 
-die() { printf '%s: %s\n' "$0" "$*" >&2; exit 2; }
-
-root=$(cd "$(dirname "$0")/.." && pwd)
-made=$root/target/compare
-mkdir -p "$made"
-
-machine=$(uname -m)
 flags=''
 emulated=''
 if [ "$machine" = x86_64 ]; then
@@ -33,14 +26,8 @@ else
     emulated='GLIBC_TUNABLES=glibc.cpu.hwcaps=-ERMS,-FSRM'
 fi
 command -v "$cc" >/dev/null || die "no $cc: install a C compiler for x86-64 (Debian: gcc, or gcc-x86-64-linux-gnu with libc6-dev-amd64-cross) or set SAMULSTO_CC"
-command -v cargo >/dev/null || die 'no cargo: install Rust'
 
-archive=${SAMULSTO_ARCHIVE:-}
-if [ -z "$archive" ]; then
-    command -v rt >/dev/null || die 'no rt: install the Rattle toolchain and put its bin/ into PATH, or set SAMULSTO_ARCHIVE'
-    (cd "$root" && rt staticlib elab) >"$made/rt.log" 2>&1 || { tail -5 "$made/rt.log" >&2; die 'the archive is not proved'; }
-    archive=$root/target/staticlib/libelab.a
-fi
+take_archive
 # shellcheck disable=SC2086
 "$cc" -O2 $flags -Wall -Wextra -std=c99 -pedantic -I"$root/include" "$root/compare/harness.c" "$archive" -o "$made/harness"
 (cd "$root/oracle" && cargo build --release --offline --quiet -p compare)

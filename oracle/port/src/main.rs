@@ -1,7 +1,5 @@
 //! The port's text, compiled natively: reading compared with the driver's and timed against size, the whole call timed beside the Rust.
 
-mod speed;
-
 use driver::cases::case;
 use driver::read::read;
 use std::hint::black_box;
@@ -16,7 +14,9 @@ fn main() {
             _ => fail("SEED and COUNT are numbers"),
         },
         ["times"] => times(),
-        ["speed"] => speed::speed(),
+        ["speed"] => {
+            speed::on_a_large_stack(|| speed::tables::measure(port::elaborate));
+        }
         _ => fail("the words are: read SEED COUNT, times, speed"),
     }
 }

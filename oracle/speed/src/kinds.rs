@@ -1,0 +1,126 @@
+//! The kinds of books on which speed is measured. All of them are accepted ones.
+
+use crate::Named;
+use driver::answer::{answer, Answer};
+use driver::build::{
+    book, bytes, dependent, enumeration, field, format, int, nothing, structure, vec,
+};
+use driver::cases::case;
+use driver::expand::Mode;
+use driver::tree::{Definition, Inner};
+use driver::write::write;
+use std::fs;
+use std::path::Path;
+
+/// A kind of books: its name, and its books.
+pub type Kind = (&'static str, Vec<Named>);
+
+pub const TYPICAL: &str = "typical, 200 to 4,000 bytes";
+pub const HURTING: &str = "made to hurt";
+
+/// The length of the result, if there is one.
+pub fn result(book: &[u8]) -> Option<usize> {
+    match answer(book, Mode::Plain) {
+        Ok(Answer::Done(done)) => Some(done.book.len()),
+        Ok(Answer::Refused(_)) => None,
+        Err(message) => panic!("a fault of the oracle: {message}"),
+    }
+}
+
+fn accepted(book: &[u8]) -> bool {
+    result(book).is_some()
+}
+
+pub fn kinds() -> Vec<Kind> {
+    let (worked, examples) = files();
+    let mut generated: Vec<Named> = (0..20000)
+        .map(|number| (format!("case {number}"), case(1, number).bytes))
+        .filter(|(_, book)| accepted(book))
+        .collect();
+    let typical = generated
+        .iter()
+        .filter(|(_, book)| (200..=4000).contains(&book.len()))
+        .take(2000)
+        .cloned()
+        .collect();
+    generated.sort_by_key(|(_, book)| std::cmp::Reverse(book.len()));
+    generated.truncate(100);
+    vec![
+        ("worked", worked),
+        ("examples", examples),
+        (TYPICAL, typical),
+        ("100 largest", generated),
+        (HURTING, hurting()),
+    ]
+}
+
+/// The worked books of document 01 and the other examples.
+fn files() -> (Vec<Named>, Vec<Named>) {
+    let folder = Path::new(env!("CARGO_MANIFEST_DIR")).join("../../examples");
+    let mut found: Vec<Named> = fs::read_dir(folder)
+        .expect("examples")
+        .filter_map(|entry| {
+            let path = entry.expect("an entry").path();
+            let name = path
+                .file_name()?
+                .to_str()?
+                .strip_suffix(".book")?
+                .to_string();
+            Some((name, fs::read(&path).expect("a book")))
+        })
+        .filter(|(_, book)| accepted(book))
+        .collect();
+    found.sort();
+    found
+        .into_iter()
+        .partition(|(name, _)| name.starts_with('p') && name.as_bytes()[1].is_ascii_digit())
+}
+
+/// Books that cost much for their size.
+pub fn hurting() -> Vec<Named> {
+    let roots = |count| bytes(&vec!["n"; count]);
+    let lone = |inner| {
+        let root = structure(vec![dependent("n", int()), field("x", inner)]);
+        vec![format("m", root)]
+    };
+    let lifts = structure(vec![field("a", enumeration()); 480]);
+    let small = |number: usize| {
+        let name = format!("f{number}");
+        format(&name, structure(vec![field("x", nothing())]))
+    };
+    [
+        ("480 lifts under one base", vec![format("", lifts)]),
+        (
+            "4,000 roots in one length",
+            lone(structure(vec![field("b", roots(4000))])),
+        ),
+        (
+            "a lift at each of 64 levels",
+            lone(nested(62, enumeration(), |inner| {
+                structure(vec![field("a", inner)])
+            })),
+        ),
+        (
+            "the same around 1,500 roots",
+            lone(nested(61, roots(1500), |inner| {
+                structure(vec![field("a", inner)])
+            })),
+        ),
+        (
+            "62 Vecs around 7,000 roots",
+            lone(nested(62, roots(7000), vec)),
+        ),
+        ("500 small definitions", (0..500).map(small).collect()),
+    ]
+    .map(|(name, definitions)| (name.to_string(), written(definitions).expect("a book")))
+    .to_vec()
+}
+
+/// A node inside so many others.
+pub fn nested(levels: usize, inside: Inner, around: fn(Inner) -> Inner) -> Inner {
+    (0..levels).fold(inside, |inner, _| around(inner))
+}
+
+pub fn written(definitions: Vec<Definition>) -> Result<Vec<u8>, String> {
+    write(&book(definitions))
+}
