@@ -12,7 +12,7 @@ use Rattle.macros.proofs.expand_macros.Lts as lts
 use Rattle.macros.proofs.book.count_kept.Reads as count-kept-reads
 use Rattle.macros.proofs.book.expand_all.Reads as expand-all-reads
 use Rattle.writer.proofs.least.Reads as least-reads
-use Rattle.macros.proofs.table.table.Reads as table-reads
+use Rattle.known.proofs.table.Reads as table-reads
 use Rattle.writer.proofs.put_u16.Reads as put-u16-reads
 
 slice-aggregate-table : tie.Need-slice-aggregate-table
@@ -68,7 +68,7 @@ same-length c = search needs
 
 returns : tie.Need-returns
 returns c =
-    passed-grown (c .before .before .before .before .before .before .before .before .before .before .before .before .before .before .before .before .before .before .before .before .before .before .before .table .ensures) (length-replicate {0} {A = ℕ} 512 0) (length-replicate {0} {A = ℕ} 512 0) (length-replicate {0} {A = ℕ} 16384 0) (length-replicate {0} {A = ℕ} 16384 0) (length-replicate {0} {A = ℕ} 8192 0) (length-replicate {0} {A = ℕ} 8192 0)
+    passed-grown (c .before .before .before .before .before .before .before .before .before .before .before .before .before .before .before .before .before .before .before .before .before .before .before .table .ensures) (length-replicate {0} {A = ℕ} 512 0) (length-replicate {0} {A = ℕ} 512 0) (length-replicate {0} {A = ℕ} 8192 0) (length-replicate {0} {A = ℕ} 8192 0)
     (c .before .before .before .before .before .before .before .before .before .before .before .before .before .before .before .before .before .before .before .before .count-kept .ensures) (c .before .before .before .before .before .before .before .before .before .before .before .before .before .before .before .before .before .before .before .least .ensures) (c .before .before .before .before .before .before .before .before .before .before .before .before .before .before .before .before .before .put-u16 .ensures) refl (c .before .before .before .before .before .before .before .expand-all .ensures) (c .before .before .out2 .given) (c .if1 .taken)
 
 same-length-2 : tie.Need-same-length-2
@@ -76,7 +76,7 @@ same-length-2 c = search needs
 
 returns-2 : tie.Need-returns-2
 returns-2 c =
-    passed-book (c .before .before .before .before .before .before .before .before .before .before .before .before .before .before .before .before .before .before .before .before .before .before .before .table .ensures) (length-replicate {0} {A = ℕ} 512 0) (length-replicate {0} {A = ℕ} 512 0) (length-replicate {0} {A = ℕ} 16384 0) (length-replicate {0} {A = ℕ} 16384 0) (length-replicate {0} {A = ℕ} 8192 0) (length-replicate {0} {A = ℕ} 8192 0)
+    passed-book (c .before .before .before .before .before .before .before .before .before .before .before .before .before .before .before .before .before .before .before .before .before .before .before .table .ensures) (length-replicate {0} {A = ℕ} 512 0) (length-replicate {0} {A = ℕ} 512 0) (length-replicate {0} {A = ℕ} 8192 0) (length-replicate {0} {A = ℕ} 8192 0)
     (c .before .before .before .before .before .before .before .before .before .before .before .before .before .before .before .before .before .before .before .before .count-kept .ensures) (c .before .before .before .before .before .before .before .before .before .before .before .before .before .before .before .before .before .before .before .least .ensures) (c .before .before .before .before .before .before .before .before .before .before .before .before .before .before .before .before .before .put-u16 .ensures) refl (c .before .before .before .before .before .before .before .expand-all .ensures) (c .before .before .out2 .given) (c .if1 .left)
 
 pub expand-macros-spec : {M : Type 1} → statement M
