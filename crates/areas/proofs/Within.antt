@@ -28,9 +28,9 @@ copied-on s from n to i hf ht apart h =
     let k : length (take i (drop from s)) ≡ i = length-take-le i (drop from s) (omega arith) in
     let o : to + i ≡ to + length (take i (drop from s)) = omega arith in
     let unread : getD (put s to (take i (drop from s))) (from + i) 0 ≡ getD s (from + i) 0 = ⊎-elim
-        (λ (a : from + n ≤ to). getD-put-before s to (take i (drop from s)) (from + i) (omega arith))
-        (λ (a : to ≤ from). getD-put-past s to (take i (drop from s)) (from + i) (omega arith))
-        apart in
+    (λ (a : from + n ≤ to). getD-put-before s to (take i (drop from s)) (from + i) (omega arith))
+    (λ (a : to ≤ from). getD-put-past s to (take i (drop from s)) (from + i) (omega arith))
+    apart in
     rw (unread, add-one i, take-suc (drop from s) i 0 l, getD-drop) (put-push s to (take i (drop from s)) (getD s (from + i) 0) (to + i) o (omega arith))
 
 -- a part of the first area

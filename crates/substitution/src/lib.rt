@@ -130,13 +130,7 @@ fn stopped(t: Turn) -> Turn
 }
 
 // One parameter's turn: the combinator in the first area is made anew in the second, and goes back to the first. Over 16,384 bytes or 64 levels it is not good.
-fn substitute_next(
-    macros: &[u8],
-    book: &[u8],
-    t: Turn,
-    areas: &mut [u8],
-    marks: &mut [u16],
-) -> Turn
+fn substitute_next(macros: &[u8], book: &[u8], t: Turn, areas: &mut [u8], marks: &mut [u16]) -> Turn
     ensures { λ r. ⌜ Turned (now (macros .entry)) (now (book .entry)) (now (areas .entry)) (now (marks .entry)) t (now (areas .exit)) (now (marks .exit)) r ⌝ }
 {
     let param = t.param;

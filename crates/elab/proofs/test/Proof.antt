@@ -1,7 +1,8 @@
 -- `elab::test` meets its contract.
 -- Assumes nothing.
 use borrow.Author.Needs.{needs}
-use lib.ListN.{length-take}
+use Prim.Native.Nat.{ℕ}
+use lib.ListN.{length-replicate, length-take}
 use Rattle.elab.proofs.Telling.{tells-code, tells-yes, tells-no}
 use native.Mathlib.Omega.{arith}
 use Rattle.elab.proofs.test.Statement.{statement}
@@ -21,10 +22,10 @@ enum-known-opened-2 : tie.Need-enum-known-opened-2
 enum-known-opened-2 c = search needs
 
 slice-reshare-prefix-holds : tie.Need-slice-reshare-prefix-holds
-slice-reshare-prefix-holds c = omega (arith, (rw (c .before .opened2 .given .1) at (c .before .before .before .before .before .open-book .ensures)) .by .fits)
+slice-reshare-prefix-holds c = omega (arith, (rw (c .before .opened2 .given .1) at (c .before .before .before .before .before .open-book .ensures)) .by (length-replicate {0} {A = ℕ} 16384 0) .fits)
 
 slice-aggregate-holds : tie.Need-slice-aggregate-holds
-slice-aggregate-holds c = simp length-take (omega (arith, (rw (c .before .before .opened2 .given .1) at (c .before .before .before .before .before .before .open-book .ensures)) .by .fits, c .before .before .before .before .before .work .given))
+slice-aggregate-holds c = simp length-take (omega (arith, (rw (c .before .before .opened2 .given .1) at (c .before .before .before .before .before .before .open-book .ensures)) .by (length-replicate {0} {A = ℕ} 16384 0) .fits, c .before .before .before .before .before .expanded .given))
 
 holds-requires : tie.Need-holds-requires
 holds-requires c κs = search needs
@@ -33,19 +34,19 @@ same-length : tie.Need-same-length
 same-length c = search needs
 
 returns : tie.Need-returns
-returns c = tells-yes (rw (c .before .before .before .before .opened2 .given .1) at (c .before .before .before .before .before .before .before .before .open-book .ensures)) (c .before .holds .ensures) (c .if1 .taken)
+returns c = tells-yes (length-replicate {0} {A = ℕ} 16384 0) (rw (c .before .before .before .before .opened2 .given .1) at (c .before .before .before .before .before .before .before .before .open-book .ensures)) (c .before .holds .ensures) (c .if1 .taken)
 
 same-length-2 : tie.Need-same-length-2
 same-length-2 c = search needs
 
 returns-2 : tie.Need-returns-2
-returns-2 c = tells-code (rw (c .before .opened .given .1) at (c .before .before .before .before .before .open-book .ensures))
+returns-2 c = tells-code (length-replicate {0} {A = ℕ} 16384 0) (rw (c .before .opened .given .1) at (c .before .before .before .before .before .open-book .ensures))
 
 same-length-3 : tie.Need-same-length-3
 same-length-3 c = search needs
 
 returns-3 : tie.Need-returns-3
-returns-3 c = tells-no (rw (c .before .before .before .before .opened2 .given .1) at (c .before .before .before .before .before .before .before .before .open-book .ensures)) (c .before .holds .ensures) (c .if1 .left)
+returns-3 c = tells-no (length-replicate {0} {A = ℕ} 16384 0) (rw (c .before .before .before .before .opened2 .given .1) at (c .before .before .before .before .before .before .before .before .open-book .ensures)) (c .before .holds .ensures) (c .if1 .left)
 
 pub test-spec : {M : Type 1} → statement M
 test-spec =

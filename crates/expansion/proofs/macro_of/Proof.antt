@@ -8,7 +8,7 @@ use Rattle.expansion.proofs.macro_of.Tie as tie
 use Rattle.expansion.proofs.macro_of.Reads as reads
 use Rattle.expansion.proofs.macro_of.Lts as lts
 use Rattle.lookup.proofs.name_at.Reads as name-at-reads
-use Rattle.known.proofs.find_macro.Reads as find-macro-reads
+use Rattle.rows.proofs.find_macro.Reads as find-macro-reads
 use Rattle.seek.proofs.byte.Reads as byte-reads
 use Rattle.seek.proofs.past.Reads as past-reads
 
@@ -33,4 +33,10 @@ returns-2 c = no-macro (λ e. c .if1 .left (c .before .before .byte .ensures ∙
 pub macro-of-spec : {M : Type 1} → statement M
 macro-of-spec =
     tie.close
-    (tie.spec byte-requires past-requires name-at-requires find-macro-requires returns returns-2)
+    (tie.spec
+    byte-requires
+    past-requires
+    name-at-requires
+    find-macro-requires
+    returns
+    returns-2)

@@ -1,7 +1,8 @@
 -- `elab::elaboration::attempt` meets its contract.
 -- Assumes nothing.
 use borrow.Author.Needs.{needs}
-use lib.ListN.{length-take}
+use Prim.Native.Nat.{ℕ}
+use lib.ListN.{length-replicate, length-take}
 use native.Mathlib.Omega.{arith}
 use Rattle.elab.proofs.Answering.{opened-book, reports-code, reports-lifts}
 use Rattle.opening.proofs.Opening.{all-bytes}
@@ -22,19 +23,19 @@ enum-known-opened-2 : tie.Need-enum-known-opened-2
 enum-known-opened-2 c = search needs
 
 slice-reshare-prefix-lift-book : tie.Need-slice-reshare-prefix-lift-book
-slice-reshare-prefix-lift-book c = omega (arith, (rw (c .before .opened2 .given .1) at (c .before .before .before .before .before .open-book .ensures)) .by .fits)
+slice-reshare-prefix-lift-book c = omega (arith, (rw (c .before .opened2 .given .1) at (c .before .before .before .before .before .open-book .ensures)) .by (length-replicate {0} {A = ℕ} 16384 0) .fits)
 
 slice-aggregate-lift-book : tie.Need-slice-aggregate-lift-book
-slice-aggregate-lift-book c = simp length-take (omega (arith, (rw (c .before .before .opened2 .given .1) at (c .before .before .before .before .before .before .open-book .ensures)) .by .fits, c .before .before .before .before .before .work .given))
+slice-aggregate-lift-book c = simp length-take (omega (arith, (rw (c .before .before .opened2 .given .1) at (c .before .before .before .before .before .before .open-book .ensures)) .by (length-replicate {0} {A = ℕ} 16384 0) .fits, c .before .before .before .before .before .expanded .given))
 
 lift-book-requires : tie.Need-lift-book-requires
-lift-book-requires c κs = opened-book (rw (c .before .before .before .opened2 .given .1) at (c .before .before .before .before .before .before .before .open-book .ensures))
+lift-book-requires c κs = opened-book (length-replicate {0} {A = ℕ} 16384 0) (rw (c .before .before .before .opened2 .given .1) at (c .before .before .before .before .before .before .before .open-book .ensures))
 
 same-length : tie.Need-same-length
 same-length c = search needs
 
 returns : tie.Need-returns
-returns c = reports-code (rw (c .before .opened .given .1) at (c .before .before .before .before .before .open-book .ensures))
+returns c = reports-code (length-replicate {0} {A = ℕ} 16384 0) (rw (c .before .opened .given .1) at (c .before .before .before .before .before .open-book .ensures))
 
 same-length-2 : tie.Need-same-length-2
 same-length-2 c = search needs
@@ -43,7 +44,7 @@ same-length-3 : tie.Need-same-length-3
 same-length-3 c = search needs
 
 returns-2 : tie.Need-returns-2
-returns-2 c = reports-lifts (rw (c .before .before .before .before .before .before .opened2 .given .1) at (c .before .before .before .before .before .before .before .before .before .before .open-book .ensures)) (all-bytes (c .before .before .before .before .before .before .before .before .before .before .before .before .before .before .before .args .book .now) (λ i. omega (arith, c .before .before .before .before .before .before .before .before .before .before .before .before .before .before .shared-slice-known .given i))) (c .before .before .lift-book .ensures)
+returns-2 c = reports-lifts (length-replicate {0} {A = ℕ} 16384 0) (rw (c .before .before .before .before .before .before .opened2 .given .1) at (c .before .before .before .before .before .before .before .before .before .before .open-book .ensures)) (all-bytes (c .before .before .before .before .before .before .before .before .before .before .before .before .before .before .before .args .book .now) (λ i. omega (arith, c .before .before .before .before .before .before .before .before .before .before .before .before .before .before .shared-slice-known .given i))) (c .before .before .lift-book .ensures)
 
 pub attempt-spec : {M : Type 1} → statement M
 attempt-spec =
