@@ -45,8 +45,8 @@ pub all-bytes : (s : List ℕ) → ((i : ℕ) → getD s i 0 < 256) → Bytes s
 all-bytes [] f = tt
 all-bytes (b ∷ s) f = (f 0, all-bytes s (λ i. f (suc i)))
 
-module _ (b : List ℕ) (n m : ℕ) (out : List ℕ) where
-  pub opens-1 : n < 65536 → Opens b n m out (Refused 1)
+module _ (b : List ℕ) (n size : ℕ) (out : List ℕ) where
+  pub opens-1 : n < 65536 → Opens b n size out (Refused 1)
   unfolding opened number
   opens-1 h = record { by = λ _. record { reason = work-short; is = rw (lt-leb 65536 n h); numbered = refl } }
 
@@ -55,7 +55,7 @@ module _ (b : List ℕ) (n m : ℕ) (out : List ℕ) where
     unfolding opened
     opened-is = rw (le-leb 65536 n h)
 
-    pub opens-2 : 16384 < length b → Opens b n m out (Refused 2)
+    pub opens-2 : 16384 < length b → Opens b n size out (Refused 2)
     unfolding expanded source number
     opens-2 l = record { by = λ _. record { reason = book-long; is = opened-is ∙ rw (lt-leb (length b) 16384 l); numbered = refl } }
 
@@ -69,11 +69,11 @@ module _ (b : List ℕ) (n m : ℕ) (out : List ℕ) where
       ok-is ds z e = opened-is ∙ rw (le-leb (length b) 16384 l, read-says b ∙ e) (expand-says ds)
 
       -- codes 3 to 5
-      pub opens-bad : {v : Verdict} {f : Fault} → v ≡ verdict (length b) (bookOf 6 b) → v ≡ Judged f → Opens b n m out (Refused (f .code))
+      pub opens-bad : {v : Verdict} {f : Fault} → v ≡ verdict (length b) (bookOf 6 b) → v ≡ Judged f → Opens b n size out (Refused (f .code))
       unfolding verdict
       opens-bad {v} {f} e g = judged (bookOf 6 b) refl (sym e ∙ g)
         where
-          judged : (m : Res (List ℕ) (List Definition)) → bookOf 6 b ≡ m → verdict (length b) m ≡ Judged f → Opens b n m out (Refused (f .code))
+          judged : (m : Res (List ℕ) (List Definition)) → bookOf 6 b ≡ m → verdict (length b) m ≡ Judged f → Opens b n size out (Refused (f .code))
           judged (bad k z) q t = record { by = λ _. record { reason = k; is = bad-is k z q; numbered = cc } }
           judged (ok ds z) q t = absurd (let x : _≡_ {A = ℕ} 0 1 = cc in omega arith)
 
@@ -86,9 +86,9 @@ module _ (b : List ℕ) (n m : ℕ) (out : List ℕ) where
           judged (bad k z) q t = absurd (let x : _≡_ {A = ℕ} 0 1 = cc in omega arith)
           judged (ok ds z) q t = let w = read-is-written b h l ds z (read-says b ∙ q) in go ds (ok-is ds z q) (w .0) (w .1)
 
-      module _ {v : Verdict} (e : v ≡ verdict (length b) (bookOf 6 b)) (g : v ≡ Sound) (small : Bytes b) {areas area : List ℕ} (long : length areas ≡ 32768) (is : m ≡ length area) {x : Expanded} (p : Passed b b areas area out x) where
+      module _ {v : Verdict} (e : v ≡ verdict (length b) (bookOf 6 b)) (g : v ≡ Sound) (small : Bytes b) {areas area : List ℕ} (long : length areas ≡ 32768) (is : size ≡ length area) {x : Expanded} (p : Passed b b areas area out x) where
         -- code 6
-        pub opens-6 : x ≡ Grown → Opens b n m out (Refused 6)
+        pub opens-6 : x ≡ Grown → Opens b n size out (Refused 6)
         unfolding number
         opens-6 t = record { by = λ h. sound e g small (λ ds o w i. grown o (only-six ds) (sym (p .says ds ds w i w i long (sym is ∙ h) .0) ∙ t)) }
           where
@@ -96,7 +96,7 @@ module _ (b : List ℕ) (n m : ℕ) (out : List ℕ) where
             grown o six q = record { reason = macro-growth; is = o; numbered = refl }
             grown o (none es) q = absurd (let z : _≡_ {A = ℕ} 0 1 = cc in omega arith)
 
-        pub opens-book : (len : ℕ) → x ≡ Whole len → Opens b n m out (Book len)
+        pub opens-book : (len : ℕ) → x ≡ Whole len → Opens b n size out (Book len)
         unfolding sizeBook
         opens-book len t = record { by = λ h. sound e g small (λ ds o w i. let s = p .says ds ds w i w i long (sym is ∙ h) in written (pass ds ds) o (sym t ∙ s .0) (s .1)) }
           where

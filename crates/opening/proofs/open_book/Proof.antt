@@ -49,14 +49,20 @@ returns-3 c = opens-bad _ _ _ _ (c .before .before .before .before .before .if1 
 same-length : tie.Need-same-length
 same-length c = search needs
 
-returns-4 : tie.Need-returns-4
-returns-4 c = opens-6 _ _ _ _ (c .before .before .before .before .before .before .before .before .before .before .if1 .left) (c .before .before .before .before .before .before .before .before .before .if2 .left) (c .before .before .before .before .before .before .before .before .read .ensures) (c .before .before .before .before .before .before .enum-told .given .1) (all-bytes (c .before .before .before .before .before .before .before .before .before .before .before .before .before .args .book .now) (λ i. omega (arith, c .before .before .before .before .before .before .before .before .before .before .before .before .shared-slice-known .given i))) (length-take-le 32768 (c .before .before .before .before .before .before .before .before .before .before .before .before .before .args .work .now) (omega (arith, c .before .before .before .before .before .before .before .before .before .before .if1 .left))) refl (c .before .before .before .before .expand-macros .ensures) (c .enum-told2 .given .1)
-
 same-length-2 : tie.Need-same-length-2
 same-length-2 c = search needs
 
+returns-4 : tie.Need-returns-4
+returns-4 c = opens-6 _ _ _ _ (c .before .before .before .before .before .before .before .before .before .before .before .before .before .if1 .left) (c .before .before .before .before .before .before .before .before .before .before .before .before .if2 .left) (c .before .before .before .before .before .before .before .before .before .before .before .read .ensures) (c .before .before .before .before .before .before .before .before .before .enum-told .given .1) (all-bytes (c .before .before .before .before .before .before .before .before .before .before .before .before .before .before .before .before .before .args .book .now) (λ i. omega (arith, c .before .before .before .before .before .before .before .before .before .before .before .before .before .before .before .before .shared-slice-known .given i))) (length-take-le 32768 (c .before .before .before .before .before .before .before .before .before .before .before .before .before .before .before .before .before .args .work .now) (omega (arith, c .before .before .before .before .before .before .before .before .before .before .before .before .before .if1 .left))) refl (c .before .before .before .before .before .before .expand-macros .ensures) (c .enum-told2 .given .1)
+
+same-length-3 : tie.Need-same-length-3
+same-length-3 c = search needs
+
+same-length-4 : tie.Need-same-length-4
+same-length-4 c = search needs
+
 returns-5 : tie.Need-returns-5
-returns-5 c = opens-book _ _ _ _ (c .before .before .before .before .before .before .before .before .before .before .before .if1 .left) (c .before .before .before .before .before .before .before .before .before .before .if2 .left) (c .before .before .before .before .before .before .before .before .before .read .ensures) (c .before .before .before .before .before .before .before .enum-told .given .1) (all-bytes (c .before .before .before .before .before .before .before .before .before .before .before .before .before .before .args .book .now) (λ i. omega (arith, c .before .before .before .before .before .before .before .before .before .before .before .before .before .shared-slice-known .given i))) (length-take-le 32768 (c .before .before .before .before .before .before .before .before .before .before .before .before .before .before .args .work .now) (omega (arith, c .before .before .before .before .before .before .before .before .before .before .before .if1 .left))) refl (c .before .before .before .before .before .expand-macros .ensures) _ (c .before .got .given .1)
+returns-5 c = opens-book _ _ _ _ (c .before .before .before .before .before .before .before .before .before .before .before .before .before .before .if1 .left) (c .before .before .before .before .before .before .before .before .before .before .before .before .before .if2 .left) (c .before .before .before .before .before .before .before .before .before .before .before .before .read .ensures) (c .before .before .before .before .before .before .before .before .before .before .enum-told .given .1) (all-bytes (c .before .before .before .before .before .before .before .before .before .before .before .before .before .before .before .before .before .before .args .book .now) (λ i. omega (arith, c .before .before .before .before .before .before .before .before .before .before .before .before .before .before .before .before .before .shared-slice-known .given i))) (length-take-le 32768 (c .before .before .before .before .before .before .before .before .before .before .before .before .before .before .before .before .before .before .args .work .now) (omega (arith, c .before .before .before .before .before .before .before .before .before .before .before .before .before .before .if1 .left))) refl (c .before .before .before .before .before .before .before .expand-macros .ensures) _ (c .before .got .given .1)
 
 pub open-book-spec : {M : Type 1} → statement M
 open-book-spec =
@@ -74,6 +80,8 @@ open-book-spec =
     enum-known-got
     returns-3
     same-length
-    returns-4
     same-length-2
+    returns-4
+    same-length-3
+    same-length-4
     returns-5)
