@@ -19,10 +19,10 @@ use Rattle.writer.proofs.Wrote.{same-length}
 use Rattle.calls.specs.Pieces.{Piece, raw, call, macro-call, places, written, rewritten, expanded}
 use Rattle.laws.proofs.Splits.{s-inner}
 use Rattle.calls.proofs.Expanded.{onto}
-use Rattle.rows.specs.declared.Found.{Found}
-use Rattle.rows.specs.declared.Found.the-variants.{At, Unknown}
+use Rattle.known.specs.declared.Found.{Found}
+use Rattle.known.specs.declared.Found.the-variants.{At, Unknown}
 use Rattle.substitution.specs.Instance.{Areas}
-use Rattle.rows.specs.Table.{Rows, Finds, FindsMacro}
+use Rattle.known.specs.Table.{Rows, Finds, FindsMacro}
 use Rattle.substitution.specs.Call.{Puts, Called}
 use Rattle.expansion.specs.Expand.{IsCall, a-call, a-macro, Replaced, Becomes, MacroOf, front, Expanding}
 use Rattle.substitution.proofs.Stands.{part-on, inner-here, step-here, call-tag, macro-tag, macro-name}

@@ -12,10 +12,10 @@ use Rattle.writer.specs.Buf.{part}
 use Rattle.calls.specs.Pieces.{Piece, places, written, expanded}
 use Rattle.substitution.specs.Instance.{Areas}
 use Rattle.substitution.specs.Call.{Defined, Puts}
-use Rattle.rows.specs.Table.{Rows}
+use Rattle.known.specs.Table.{Rows}
 use Rattle.expansion.specs.Deep.{DeepP}
-use Rattle.rows.specs.declared.Found.{Found}
-use Rattle.rows.specs.declared.Found.the-variants.{At, Unknown}
+use Rattle.known.specs.declared.Found.{Found}
+use Rattle.known.specs.declared.Found.the-variants.{At, Unknown}
 
 -- what stands at a place where the walk met a call
 pub data IsCall : Inner → Type 0 where

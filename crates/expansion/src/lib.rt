@@ -1,7 +1,7 @@
 // The calls of a combinator, one after the other: the bytes between are copied, and a known macro's call is expanded.
 use lookup::name_at;
-use rows::Found;
-use rows::find_macro;
+use known::Found;
+use known::find_macro;
 use seek::byte;
 use seek::past;
 use substitution::call::expand_call;

@@ -31,7 +31,7 @@ use Rattle.calls.proofs.Written.{written-is}
 use Rattle.calls.proofs.Expanded.{expansion}
 use Rattle.calls.proofs.Link.{walked}
 use Rattle.expansion.specs.Deep.{DeepM}
-use Rattle.rows.specs.Table.{Rows}
+use Rattle.known.specs.Table.{Rows}
 use Rattle.contents.specs.Params.{ParamsPast}
 use Rattle.substitution.specs.Call.{Puts}
 use Rattle.expansion.specs.Expand.{front, Expanding}

@@ -23,7 +23,7 @@ use Rattle.writer.proofs.Put.{put-put, put-fits}
 use Rattle.writer.proofs.Wrote.{same-length}
 use Rattle.calls.proofs.Expanded.{Grows, grows}
 use Rattle.macros.specs.declared.Expanded.the-variants.{Book, Grown}
-use Rattle.rows.specs.Table.{Tabled}
+use Rattle.known.specs.Table.{Tabled}
 use Rattle.macros.specs.Left.{keptOf, shallow, expandOne, andOne, shallowAll, KeptOf, WritesBy, Writes, Booked}
 use Rattle.macros.specs.Pass.{pass, answerOf, leaves, Passed}
 use Rattle.contents.proofs.Listed.{entries-apart, entries-size}

@@ -17,7 +17,7 @@ use Rattle.writer.specs.Buf.{put}
 use Rattle.contents.specs.Listed.{Listed}
 use Rattle.substitution.specs.Instance.{Areas}
 use Rattle.substitution.specs.Call.{Puts}
-use Rattle.rows.specs.Table.{Rows}
+use Rattle.known.specs.Table.{Rows}
 
 -- rule 5: "or the book left when expansion is done .. is over either": the levels, body by body
 unfoldable pub shallow : Combinator → Out Combinator

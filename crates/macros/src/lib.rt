@@ -1,7 +1,7 @@
 // Macro expansion on validated bytes: document 01's "Macro rules".
 mod book;
 
-use rows::table;
+use known::table;
 use writer::least;
 use writer::put_u16;
 ghost use Rattle.macros.specs.Pass.{Passed};

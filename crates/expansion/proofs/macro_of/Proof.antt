@@ -8,7 +8,7 @@ use Rattle.expansion.proofs.macro_of.Tie as tie
 use Rattle.expansion.proofs.macro_of.Reads as reads
 use Rattle.expansion.proofs.macro_of.Lts as lts
 use Rattle.lookup.proofs.name_at.Reads as name-at-reads
-use Rattle.rows.proofs.find_macro.Reads as find-macro-reads
+use Rattle.known.proofs.find_macro.Reads as find-macro-reads
 use Rattle.seek.proofs.byte.Reads as byte-reads
 use Rattle.seek.proofs.past.Reads as past-reads
 

@@ -12,7 +12,7 @@ use Rattle.macros.proofs.expand_macros.Lts as lts
 use Rattle.macros.proofs.book.count_kept.Reads as count-kept-reads
 use Rattle.macros.proofs.book.expand_all.Reads as expand-all-reads
 use Rattle.writer.proofs.least.Reads as least-reads
-use Rattle.rows.proofs.table.Reads as table-reads
+use Rattle.known.proofs.table.Reads as table-reads
 use Rattle.writer.proofs.put_u16.Reads as put-u16-reads
 
 slice-aggregate-table : tie.Need-slice-aggregate-table

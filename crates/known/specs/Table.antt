@@ -15,8 +15,8 @@ use Rattle.seek.specs.Here.{Here}
 use Rattle.fresh.specs.Taken.{hashOf}
 use Rattle.contents.specs.Listed.{Listed}
 use Rattle.substitution.specs.Call.{Defined}
-use Rattle.rows.specs.declared.Found.{Found}
-use Rattle.rows.specs.declared.Found.the-variants.{At, Unknown}
+use Rattle.known.specs.declared.Found.{Found}
+use Rattle.known.specs.declared.Found.the-variants.{At, Unknown}
 
 pub record Row (s places hashes : List ℕ) (i : ℕ) (m : Macro) : Type 0 where
   pub places-long : i < length places

@@ -1,12 +1,12 @@
 -- `rows::same_row` meets its contract.
 -- Assumes nothing.
 use native.Mathlib.Omega.{arith}
-use Rattle.rows.proofs.Rows.{row-past-places, row-past-hashes, row-other-hash, row-is, row-not}
+use Rattle.known.proofs.Rows.{row-past-places, row-past-hashes, row-other-hash, row-is, row-not}
 use borrow.Author.Needs.{needs}
-use Rattle.rows.proofs.same_row.Statement.{statement}
-use Rattle.rows.proofs.same_row.Tie as tie
-use Rattle.rows.proofs.same_row.Reads as reads
-use Rattle.rows.proofs.same_row.Lts as lts
+use Rattle.known.proofs.same_row.Statement.{statement}
+use Rattle.known.proofs.same_row.Tie as tie
+use Rattle.known.proofs.same_row.Reads as reads
+use Rattle.known.proofs.same_row.Lts as lts
 use Rattle.lookup.proofs.name_at.Reads as name-at-reads
 use Rattle.lookup.proofs.same_name.Reads as same-name-reads
 

@@ -5,7 +5,7 @@ use lookup::same_name;
 use seek::byte;
 use seek::number;
 use seek::past;
-ghost use Rattle.rows.specs.Table.{SameRow, FindsMacro, Taken, Tabled};
+ghost use Rattle.known.specs.Table.{SameRow, FindsMacro, Taken, Tabled};
 
 // Where the definition of a macro stands, if there is one.
 pub enum Found {

@@ -3,12 +3,12 @@
 use borrow.Author.Needs.{needs}
 use mathlib.Core.Path.{refl, _∙_}
 use native.Mathlib.Omega.{arith}
-use Rattle.rows.proofs.Rows.{Filling, tabling-none, tabling-step, tabled}
-use Rattle.rows.proofs.table.Statement.{statement}
-use Rattle.rows.proofs.table.Tie as tie
-use Rattle.rows.proofs.table.Reads as reads
-use Rattle.rows.proofs.table.Lts as lts
-use Rattle.rows.proofs.take_macro.Reads as take-macro-reads
+use Rattle.known.proofs.Rows.{Filling, tabling-none, tabling-step, tabled}
+use Rattle.known.proofs.table.Statement.{statement}
+use Rattle.known.proofs.table.Tie as tie
+use Rattle.known.proofs.table.Reads as reads
+use Rattle.known.proofs.table.Lts as lts
+use Rattle.known.proofs.take_macro.Reads as take-macro-reads
 use Rattle.seek.proofs.byte.Reads as byte-reads
 use Rattle.seek.proofs.number.Reads as number-reads
 use Rattle.seek.proofs.past.Reads as past-reads

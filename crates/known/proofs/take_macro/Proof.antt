@@ -1,11 +1,11 @@
 -- `rows::take_macro` meets its contract.
 -- Assumes nothing.
-use Rattle.rows.proofs.Rows.{taken-not, taken-full, taken-full-2, taken-row}
+use Rattle.known.proofs.Rows.{taken-not, taken-full, taken-full-2, taken-row}
 use borrow.Author.Needs.{needs}
-use Rattle.rows.proofs.take_macro.Statement.{statement}
-use Rattle.rows.proofs.take_macro.Tie as tie
-use Rattle.rows.proofs.take_macro.Reads as reads
-use Rattle.rows.proofs.take_macro.Lts as lts
+use Rattle.known.proofs.take_macro.Statement.{statement}
+use Rattle.known.proofs.take_macro.Tie as tie
+use Rattle.known.proofs.take_macro.Reads as reads
+use Rattle.known.proofs.take_macro.Lts as lts
 use Rattle.lookup.proofs.name_at.Reads as name-at-reads
 use Rattle.fresh.proofs.name_hash.Reads as name-hash-reads
 

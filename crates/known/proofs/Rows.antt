@@ -19,11 +19,11 @@ use Rattle.lookup.specs.Name.{nameAt}
 use Rattle.lookup.proofs.Names.{stands}
 use Rattle.fresh.specs.Taken.{hashOf}
 use Rattle.fresh.proofs.Rows.{hash-ne}
-use Rattle.rows.specs.declared.Found.{Found}
-use Rattle.rows.specs.declared.Found.the-variants.{At, Unknown}
+use Rattle.known.specs.declared.Found.{Found}
+use Rattle.known.specs.declared.Found.the-variants.{At, Unknown}
 use Rattle.contents.specs.Listed.{Listed}
 use Rattle.substitution.specs.Call.{Defined}
-use Rattle.rows.specs.Table.{Row, Rows, SameRow, Known, Finds, FindsMacro, Taken, Tabling, Tabled}
+use Rattle.known.specs.Table.{Row, Rows, SameRow, Known, Finds, FindsMacro, Taken, Tabling, Tabled}
 use Rattle.contents.proofs.Listed.{listed-kind, listed-size, listed-body, listed-deep, listed-next, book-listed}
 
 pub defined-name : {s : List ℕ} {at : ℕ} (m : Macro) → Defined s at m → nameAt s at ≡ m .name
