@@ -47,18 +47,18 @@ result-book b h n ds e q g = did-out (given (leb 65536 n) work-short b) (λ c. e
     let k : expanded b ≡ done ds = ap (λ (a : List ℕ). expanded a) (did-given (leb 65536 n) work-short b c i .1) ∙ j in
     yielded {a = q} (elaborated-book b h) (elaborated-says b ∙ rw k g)
 
-module _ {b : List ℕ} {n : ℕ} {work : List ℕ} where
+module _ {b : List ℕ} {n m : ℕ} {book : List ℕ} (long : m ≡ 16384) where
   -- codes 1 to 6
-  pub reports-code : {out : List ℕ} {code : ℕ} → Opens b n work (Stopped code) → Reports (attempt b (length out) n) out out (Refused code)
+  pub reports-code : {out : List ℕ} {code : ℕ} → Opens b n m book (Stopped code) → Reports (attempt b (length out) n) out out (Refused code)
   unfolding reported answered filled
-  reports-code {out} o = record { answers = rw (attempt-is b (length out) n, o .by .is, o .by .numbered); fills = rw (attempt-is b (length out) n, o .by .is) }
+  reports-code {out} o = record { answers = rw (attempt-is b (length out) n, o .by long .is, o .by long .numbered); fills = rw (attempt-is b (length out) n, o .by long .is) }
 
-  module _ {len : ℕ} (o : Opens b n work (Book len)) where
-    pub opened-book : Expanded (take len work)
-    opened-book = record { of = o .by .left; book = o .by .holds; isBook = o .by .isBook }
+  module _ {len : ℕ} (o : Opens b n m book (Book len)) where
+    pub opened-book : Expanded (take len book)
+    opened-book = record { of = o .by long .left; book = o .by long .holds; isBook = o .by long .isBook }
 
-    pub reports-lifts : {out out′ : List ℕ} {r : Elaborated} → Bytes b → Lifts (take len work) out out′ r → Reports (attempt b (length out) n) out out′ r
-    reports-lifts {out} h l = rw (attempt-is b (length out) n, o .by .is) (l .lifts (o .by .left) (o .by .holds) (o .by .isBook) (result-book b h n (o .by .left) (o .by .is)))
+    pub reports-lifts : {out out′ : List ℕ} {r : Elaborated} → Bytes b → Lifts (take len book) out out′ r → Reports (attempt b (length out) n) out out′ r
+    reports-lifts {out} h l = rw (attempt-is b (length out) n, o .by long .is) (l .lifts (o .by long .left) (o .by long .holds) (o .by long .isBook) (result-book b h n (o .by long .left) (o .by long .is)))
 
 module _ (b : List ℕ) {out out′ : List ℕ} (n : ℕ) {r : Elaborated} (p : Reports (attempt b (length out) n) out out′ r) where
   pub answers-it : reported r ≡ answer b (length out) n

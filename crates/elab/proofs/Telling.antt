@@ -34,14 +34,14 @@ tested-is b n = both (leb 65536 n)
     both true = refl
     both false = refl
 
-module _ {b : List ℕ} {n : ℕ} {work : List ℕ} where
-  pub tells-code : {code : ℕ} → Opens b n work (Stopped code) → told (Refused code) ≡ premise b n
+module _ {b : List ℕ} {n m : ℕ} {book : List ℕ} (long : m ≡ 16384) where
+  pub tells-code : {code : ℕ} → Opens b n m book (Stopped code) → told (Refused code) ≡ premise b n
   unfolding told toldOf
-  tells-code o = rw (premise-says b n, tested-is b n, o .by .is, o .by .numbered)
+  tells-code o = rw (premise-says b n, tested-is b n, o .by long .is, o .by long .numbered)
 
-  module _ {len : ℕ} (o : Opens b n work (Book len)) {r : Bool} (h : Passes (take len work) r) where
+  module _ {len : ℕ} (o : Opens b n m book (Book len)) {r : Bool} (h : Passes (take len book) r) where
     answer : premise b n ≡ toldOf (done r)
-    answer = rw (premise-says b n, tested-is b n, o .by .is, h .says (o .by .left) (o .by .holds) (o .by .isBook))
+    answer = rw (premise-says b n, tested-is b n, o .by long .is, h .says (o .by long .left) (o .by long .holds) (o .by long .isBook))
 
     pub tells-yes : r ≡ true → told Holds ≡ premise b n
     unfolding told toldOf

@@ -22,10 +22,11 @@ pub struct Report {
 fn attempt(book: &[u8], out: &mut [u8], work: &mut [u8]) -> Elaborated
     ensures { λ r. ⌜ Reports (attempt (now (book .entry)) (length (now (out .entry))) (length (now (work .entry)))) (now (out .entry)) (now (out .exit)) r ⌝ }
 {
-    let opened = open_book(book, work);
+    let mut expanded = [0u8; 16384];
+    let opened = open_book(book, work, &mut expanded);
     match opened {
         Opened::Refused { code } => Elaborated::Refused { code },
-        Opened::Book { len } => lift_book(&work[..len], out),
+        Opened::Book { len } => lift_book(&expanded[..len], out),
     }
 }
 

@@ -29,11 +29,12 @@ pub struct Numbers {
 fn test(book: &[u8], work: &mut [u8]) -> Tested
     ensures { λ r. ⌜ told r ≡ premise (now (book .entry)) (length (now (work .entry))) ⌝ }
 {
-    let opened = open_book(book, work);
+    let mut expanded = [0u8; 16384];
+    let opened = open_book(book, work, &mut expanded);
     match opened {
         Opened::Refused { code } => Tested::Refused { code },
         Opened::Book { len } => {
-            if holds(&work[..len]) {
+            if holds(&expanded[..len]) {
                 return Tested::Holds;
             }
             Tested::Fails

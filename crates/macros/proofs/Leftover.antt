@@ -29,19 +29,19 @@ use Rattle.pieces.proofs.Spliced.{part-here}
 use Rattle.contents.proofs.Listed.{past-is, listed-kind, listed-size, listed-body, listed-deep, listed-next, entries-size, book-listed}
 
 -- one definition
-module _ {kind size : ℕ} {macros pl hs : List ℕ} {rows : ℕ} {book : List ℕ} {at : ℕ} {a b marks row out : List ℕ} {o : ℕ} {out′ : List ℕ} {r : ℕ} where
-  pub kept-format : kind ≡ 1 → Formatted macros pl hs rows book at a b marks row out o out′ r → Kept kind size macros pl hs rows book at a b marks row out o out′ r
+module _ {kind size : ℕ} {macros pl hs : List ℕ} {rows : ℕ} {book : List ℕ} {at : ℕ} {areas marks row out : List ℕ} {o : ℕ} {out′ : List ℕ} {r : ℕ} where
+  pub kept-format : kind ≡ 1 → Formatted macros pl hs rows book at areas marks row out o out′ r → Kept kind size macros pl hs rows book at areas marks row out o out′ r
   unfolding kindByte kindOf levelsBook
   kept-format e f = record { says = λ ms wh d z h k n s l. go ms wh d z h k l }
     where
-      go : (ms : List Macro) → Whole macros pl hs rows book a b marks row out ms → (d : Definition) (z : List ℕ) → Here book at (wDefinition d z) → kind ≡ kindByte (kindOf d) → levelsBook (d ∷ []) ≤ 64
+      go : (ms : List Macro) → Whole macros pl hs rows book areas marks row out ms → (d : Definition) (z : List ℕ) → Here book at (wDefinition d z) → kind ≡ kindByte (kindOf d) → levelsBook (d ∷ []) ≤ 64
           → Puts out o (expandOne d ms >>= λ x. done (wDefinition x [])) out′ r
       go ms wh (format n ps c) z h k l = f .says ms wh n ps c z h (omega arith) (omega arith)
       go ms wh (constant n x) z h k l = absurd (omega arith)
       go ms wh (byte-order x) z h k l = absurd (omega arith)
       go ms wh (macro n ps c) z h k l = absurd (omega arith)
 
-  pub kept-copied : (kind ≡ 1 → ⊥) → {end : ℕ} → end ≡ pastAt book at size → Wrote out o (part at end book) out′ r → Kept kind size macros pl hs rows book at a b marks row out o out′ r
+  pub kept-copied : (kind ≡ 1 → ⊥) → {end : ℕ} → end ≡ pastAt book at size → Wrote out o (part at end book) out′ r → Kept kind size macros pl hs rows book at areas marks row out o out′ r
   unfolding kindByte kindOf expandOne sizeOf
   kept-copied f {end} e w = record { says = λ ms wh d z h k n s l. go ms d z h k n s }
     where
@@ -205,8 +205,8 @@ on : {book : List ℕ} {entry at size at₁ entry₁ : ℕ} {d : Definition} {ds
     → Listed book entry at (d ∷ ds) → Listed book entry₁ at₁ ds
 on hz ha he l = rw (ha, hz, he, listed-size l) (listed-next l)
 
-module _ {macros pl hs : List ℕ} {rows : ℕ} {book a b marks row out : List ℕ} {entry at left e o : ℕ} where
-  pub listing-none : left ≤ 0 → Listing macros pl hs rows book a b marks row out entry at left e o out o
+module _ {macros pl hs : List ℕ} {rows : ℕ} {book areas marks row out : List ℕ} {entry at left e o : ℕ} where
+  pub listing-none : left ≤ 0 → Listing macros pl hs rows book areas marks row out entry at left e o out o
   unfolding shallowAll wAll wEntries
   listing-none k = record { says = λ ms wh ds l el h ho. none ms ds el ho }
     where
@@ -215,39 +215,39 @@ module _ {macros pl hs : List ℕ} {rows : ℕ} {book a b marks row out : List �
       none ms (d ∷ ds) el ho = absurd (omega arith)
 
   module _ (k : 0 < left) {kind size : ℕ} (hk : kind ≡ byteAt book entry) (hz : size ≡ numberAt book (pastAt book entry 4)) {at₁ entry₁ : ℕ} (ha : at₁ ≡ pastAt book at size) (he : entry₁ ≡ pastAt book entry 6) where
-    pub listing-macro : kind ≡ 4 → {out′ : List ℕ} {r : ℕ} → Listing macros pl hs rows book a b marks row out entry₁ at₁ (left - 1) e o out′ r → Listing macros pl hs rows book a b marks row out entry at left e o out′ r
+    pub listing-macro : kind ≡ 4 → {out′ : List ℕ} {r : ℕ} → Listing macros pl hs rows book areas marks row out entry₁ at₁ (left - 1) e o out′ r → Listing macros pl hs rows book areas marks row out entry at left e o out′ r
     listing-macro f {out′} {r} next = record { says = λ ms wh ds l el h ho. step ms wh ds l el h ho }
       where
-        step : (ms : List Macro) → Whole macros pl hs rows book a b marks row out ms → (ds : List Definition) → Listed book entry at ds → left ≡ length ds → e + 6 * keptOf ds ≤ o → o ≤ length out → Writes out e o (shallowAll ds ms) out′ r
+        step : (ms : List Macro) → Whole macros pl hs rows book areas marks row out ms → (ds : List Definition) → Listed book entry at ds → left ≡ length ds → e + 6 * keptOf ds ≤ o → o ≤ length out → Writes out e o (shallowAll ds ms) out′ r
         step ms wh [] l el h ho = absurd (omega arith)
         step ms wh (d ∷ ds) l el h ho =
             let s = shallow-macro d ds ms (sym (hk ∙ listed-kind l) ∙ f) in
             rw (s .0) (next .says ms wh ds (on hz ha he l) (omega arith) (omega (arith, s .1)) ho)
 
-    module _ (f : kind ≡ 4 → ⊥) {out₁ : List ℕ} {r₁ : ℕ} (kp : Kept kind size macros pl hs rows book at a b marks row out o out₁ r₁) (lo : length out₁ ≡ length out) where
-      pub listing-stop : length out₁ < r₁ → Listing macros pl hs rows book a b marks row out entry at left e o out₁ r₁
+    module _ (f : kind ≡ 4 → ⊥) {out₁ : List ℕ} {r₁ : ℕ} (kp : Kept kind size macros pl hs rows book at areas marks row out o out₁ r₁) (lo : length out₁ ≡ length out) where
+      pub listing-stop : length out₁ < r₁ → Listing macros pl hs rows book areas marks row out entry at left e o out₁ r₁
       listing-stop g = record { says = λ ms wh ds l el h ho. step ms wh ds l el }
         where
-          step : (ms : List Macro) → Whole macros pl hs rows book a b marks row out ms → (ds : List Definition) → Listed book entry at ds → left ≡ length ds → Writes out e o (shallowAll ds ms) out₁ r₁
+          step : (ms : List Macro) → Whole macros pl hs rows book areas marks row out ms → (ds : List Definition) → Listed book entry at ds → left ≡ length ds → Writes out e o (shallowAll ds ms) out₁ r₁
           step ms wh [] l el = absurd (omega arith)
           step ms wh (d ∷ ds) l el =
               rw (shallow-kept d ds ms (λ q. f (hk ∙ listed-kind l ∙ q)) .0)
               (too-long out out₁ o r₁ e (expandOne d ms) (shallowAll ds ms) (kp .says ms wh d _ (listed-body l) (hk ∙ listed-kind l) f (hz ∙ listed-size l) (listed-deep l)) (omega arith))
 
       pub listing-step : r₁ ≤ length out₁ → {long : ℕ} → long ≡ r₁ - o → {out₂ : List ℕ} {e₂ : ℕ} → Wrote out₁ e (entryBytes kind o long) out₂ e₂
-          → {a₁ b₁ marks₁ row₁ : List ℕ} → length a₁ ≡ length a → length b₁ ≡ length b → length marks₁ ≡ length marks → length row₁ ≡ length row
-          → {out′ : List ℕ} {r : ℕ} → Listing macros pl hs rows book a₁ b₁ marks₁ row₁ out₂ entry₁ at₁ (left - 1) e₂ r₁ out′ r → Listing macros pl hs rows book a b marks row out entry at left e o out′ r
-      listing-step g {long} hl {out₂} {e₂} w₂ {a₁} {b₁} {marks₁} {row₁} la lb lm lr {out′} {r} next = record { says = λ ms wh ds l el h ho. step ms wh ds l el h ho }
+          → {areas₁ marks₁ row₁ : List ℕ} → length areas₁ ≡ length areas → length marks₁ ≡ length marks → length row₁ ≡ length row
+          → {out′ : List ℕ} {r : ℕ} → Listing macros pl hs rows book areas₁ marks₁ row₁ out₂ entry₁ at₁ (left - 1) e₂ r₁ out′ r → Listing macros pl hs rows book areas marks row out entry at left e o out′ r
+      listing-step g {long} hl {out₂} {e₂} w₂ {areas₁} {marks₁} {row₁} la lm lr {out′} {r} next = record { says = λ ms wh ds l el h ho. step ms wh ds l el h ho }
         where
-          still : (ms : List Macro) → Whole macros pl hs rows book a b marks row out ms → Whole macros pl hs rows book a₁ b₁ marks₁ row₁ out₂ ms
+          still : (ms : List Macro) → Whole macros pl hs rows book areas marks row out ms → Whole macros pl hs rows book areas₁ marks₁ row₁ out₂ ms
           still ms wh = record {
-            areas = record { macros-short = wh .areas .macros-short; book-short = wh .areas .book-short; a-long = la ∙ wh .areas .a-long; b-long = lb ∙ wh .areas .b-long; marks-long = lr ∙ wh .areas .marks-long };
+            sized = record { macros-short = wh .sized .macros-short; book-short = wh .sized .book-short; areas-long = la ∙ wh .sized .areas-long; marks-long = lr ∙ wh .sized .marks-long };
             marks-long = lm ∙ wh .marks-long;
             out-long = same-length w₂ ∙ lo ∙ wh .out-long;
             table = wh .table;
           }
 
-          by-one : (ms : List Macro) → Whole macros pl hs rows book a b marks row out ms → (d : Definition) (ds : List Definition) → Listed book entry at (d ∷ ds) → left - 1 ≡ length ds → e + 6 * suc (keptOf ds) ≤ o
+          by-one : (ms : List Macro) → Whole macros pl hs rows book areas marks row out ms → (d : Definition) (ds : List Definition) → Listed book entry at (d ∷ ds) → left - 1 ≡ length ds → e + 6 * suc (keptOf ds) ≤ o
               → (v : Out Definition) → Yields (λ x. kindOf x ≡ kindOf d) v → Puts out o (v >>= λ x. done (wDefinition x [])) out₁ r₁ → Writes out e o (andOne v (shallowAll ds ms)) out′ r
           by-one ms wh d ds l el h (refused c) y p = absurd (omega arith)
           by-one ms wh d ds l el h (done x) y p =
@@ -257,14 +257,14 @@ module _ {macros pl hs : List ℕ} {rows : ℕ} {book a b marks row out : List �
               (omega (arith, place-2 x (wh .out-long) p (omega arith) w (omega arith), r₁-is x (wh .out-long) p (omega arith) w)) (omega (arith, same-length w₂)) in
               one-more x (wh .out-long) p (omega arith) w (keptOf ds) (shallowAll ds ms) (kept-count ds ms) h out′ r z
 
-          step : (ms : List Macro) → Whole macros pl hs rows book a b marks row out ms → (ds : List Definition) → Listed book entry at ds → left ≡ length ds → e + 6 * keptOf ds ≤ o → o ≤ length out → Writes out e o (shallowAll ds ms) out′ r
+          step : (ms : List Macro) → Whole macros pl hs rows book areas marks row out ms → (ds : List Definition) → Listed book entry at ds → left ≡ length ds → e + 6 * keptOf ds ≤ o → o ≤ length out → Writes out e o (shallowAll ds ms) out′ r
           step ms wh [] l el h ho = absurd (omega arith)
           step ms wh (d ∷ ds) l el h ho =
               let s = shallow-kept d ds ms (λ q. f (hk ∙ listed-kind l ∙ q)) in
               rw (s .0) (by-one ms wh d ds l (omega arith) (omega (arith, s .1)) (expandOne d ms) (kind-kept d ms) (kp .says ms wh d _ (listed-body l) (hk ∙ listed-kind l) f (hz ∙ listed-size l) (listed-deep l)))
 
-pub booked : {macros pl hs : List ℕ} {rows : ℕ} {book a b marks row out : List ℕ} {left entry at o : ℕ} → left ≡ numberAt book 0 → entry ≡ pastAt book 0 2 → at ≡ pastAt book 2 (6 * left)
-    → {out′ : List ℕ} {r : ℕ} → Listing macros pl hs rows book a b marks row out entry at left 2 o out′ r → Booked macros pl hs rows book a b marks row out o out′ r
+pub booked : {macros pl hs : List ℕ} {rows : ℕ} {book areas marks row out : List ℕ} {left entry at o : ℕ} → left ≡ numberAt book 0 → entry ≡ pastAt book 0 2 → at ≡ pastAt book 2 (6 * left)
+    → {out′ : List ℕ} {r : ℕ} → Listing macros pl hs rows book areas marks row out entry at left 2 o out′ r → Booked macros pl hs rows book areas marks row out o out′ r
 booked {macros} {pl} {hs} {rows} {book} el ee ea l = record {
   says = λ ms wh ds e b eo ho.
       let w = book-listed book ds e b in
@@ -272,10 +272,9 @@ booked {macros} {pl} {hs} {rows} {book} el ee ea l = record {
 }
 
 -- the loop over the definitions
-pub record Going (macros pl hs : List ℕ) (rows : ℕ) (book a₀ b₀ marks₀ row₀ out₀ : List ℕ) (entry₀ at₀ left₀ e₀ o₀ : ℕ) (a b marks row out : List ℕ) (entry at left e o : ℕ) : Type 0 where
-  pub a-long : length a ≡ length a₀
-  pub b-long : length b ≡ length b₀
+pub record Going (macros pl hs : List ℕ) (rows : ℕ) (book areas₀ marks₀ row₀ out₀ : List ℕ) (entry₀ at₀ left₀ e₀ o₀ : ℕ) (areas marks row out : List ℕ) (entry at left e o : ℕ) : Type 0 where
+  pub areas-long : length areas ≡ length areas₀
   pub marks-long : length marks ≡ length marks₀
   pub row-long : length row ≡ length row₀
   pub out-long : length out ≡ length out₀
-  pub goes : (out′ : List ℕ) (r : ℕ) → Listing macros pl hs rows book a b marks row out entry at left e o out′ r → Listing macros pl hs rows book a₀ b₀ marks₀ row₀ out₀ entry₀ at₀ left₀ e₀ o₀ out′ r
+  pub goes : (out′ : List ℕ) (r : ℕ) → Listing macros pl hs rows book areas marks row out entry at left e o out′ r → Listing macros pl hs rows book areas₀ marks₀ row₀ out₀ entry₀ at₀ left₀ e₀ o₀ out′ r

@@ -1,7 +1,3 @@
-mod Depth
-mod Rows
-mod Next
-mod Expanding
 mod Format
 mod Leftover
 mod Passing

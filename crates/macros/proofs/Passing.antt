@@ -23,7 +23,7 @@ use Rattle.writer.specs.Buf.{put, Wrote}
 use Rattle.writer.proofs.Put.{put-put, put-fits}
 use Rattle.writer.proofs.Wrote.{same-length}
 use Rattle.macros.specs.declared.Expanded.the-variants.{Book, Grown}
-use Rattle.macros.specs.Table.{Tabled}
+use Rattle.known.specs.Table.{Tabled}
 use Rattle.macros.specs.Left.{keptOf, shallow, expandOne, andOne, shallowAll, KeptOf, WritesBy, Writes, Booked}
 use Rattle.macros.specs.Pass.{pass, answerOf, leaves, Passed}
 use Rattle.contents.proofs.Listed.{entries-apart, entries-size}
@@ -150,21 +150,20 @@ finished out out₂ n o end es e eo lo w k =
     let c : wBook es ≡ (wU16 n [] ++ E) ++ B = rw (← e, ← p) (book-apart es) in
     (w .0 ∙ z, w .1 ∙ t ∙ rw (c, z))
 
-module _ {lib book out out₁ out₂ pl hs pl₁ hs₁ a b marks row : List ℕ} {rows n o end q : ℕ} (tb : Tabled lib pl hs pl₁ hs₁ rows) (lp : length pl ≡ 512) (lh : length hs ≡ 512) (la : length a ≡ 16384) (lb : length b ≡ 16384)
+module _ {lib book out out₁ out₂ pl hs pl₁ hs₁ areas marks row : List ℕ} {rows n o end q : ℕ} (tb : Tabled lib pl hs pl₁ hs₁ rows) (lp : length pl ≡ 512) (lh : length hs ≡ 512)
     (lm : length marks ≡ 8192) (lr : length row ≡ 8192) {k : ℕ} (kp : KeptOf book k) (nk : n ≡ min k 512) (w : Wrote out 0 (wU16 n []) out₁ q) (eo : o ≡ 2 + 6 * n)
-    (bk : Booked lib pl₁ hs₁ rows book a b marks row out₁ o out₂ end) (lo : length out₂ ≡ length out₁) where
-  module _ (ms ds : List Definition) (el : lib ≡ wBook ms) (im : IsBook ms) (eb : book ≡ wBook ds) (id : IsBook ds) (ol : length out ≡ 16384) where
+    (bk : Booked lib pl₁ hs₁ rows book areas marks row out₁ o out₂ end) (lo : length out₂ ≡ length out₁) where
+  module _ (ms ds : List Definition) (el : lib ≡ wBook ms) (im : IsBook ms) (eb : book ≡ wBook ds) (id : IsBook ds) (al : length areas ≡ 32768) (ol : length out ≡ 16384) where
     kept : n ≡ keptOf ds
     kept = omega (arith, kp .says ds eb id, kept-few ds, id .few)
 
     written : Writes out₁ 2 o (shallowAll ds (macros ms [])) out₂ end
     written = bk .says (macros ms [])
         (record {
-          areas = record {
+          sized = record {
             macros-short = omega (arith, ap length el, size-length ms, im .short);
             book-short = omega (arith, ap length eb, size-length ds, id .short);
-            a-long = la;
-            b-long = lb;
+            areas-long = al;
             marks-long = lr;
           };
           marks-long = lm;
@@ -173,11 +172,11 @@ module _ {lib book out out₁ out₂ pl hs pl₁ hs₁ a b marks row : List ℕ}
         })
         ds eb id (omega (arith, kept)) (omega (arith, same-length w))
 
-  pub passed-grown : length out₂ < end → Passed lib book out out₂ Grown
+  pub passed-grown : length out₂ < end → Passed lib book areas out out₂ Grown
   passed-grown g = record {
-    says = λ ms ds el im eb id ol.
+    says = λ ms ds el im eb id al ol.
         rw (pass-is ms ds (id .deep))
-        (go (shallowAll ds (macros ms [])) (λ es e. yielded (kept-count ds (macros ms [])) e ∙ sym (kept ms ds el im eb id ol)) (written ms ds el im eb id ol) ol);
+        (go (shallowAll ds (macros ms [])) (λ es e. yielded (kept-count ds (macros ms [])) e ∙ sym (kept ms ds el im eb id al ol)) (written ms ds el im eb id al ol) ol);
   }
     where
       go : (x : Out (List Definition)) → ((es : List Definition) → x ≡ done es → length es ≡ n) → Writes out₁ 2 o x out₂ end → length out ≡ 16384
@@ -189,11 +188,11 @@ module _ {lib book out out₁ out₂ pl hs pl₁ hs₁ a b marks row : List ℕ}
           rw (lt-leb (sizeBook es) 16384 (omega (arith, leb-false (o + length (wAll wDefinition es [])) (length out₁) h, book-size es, f es refl, same-length w))) (refl, lo ∙ same-length w))
           (yes-no (leb (o + length (wAll wDefinition es [])) (length out₁)))
 
-  pub passed-book : end ≤ length out₂ → Passed lib book out out₂ (Book end)
+  pub passed-book : end ≤ length out₂ → Passed lib book areas out out₂ (Book end)
   passed-book g = record {
-    says = λ ms ds el im eb id ol.
+    says = λ ms ds el im eb id al ol.
         rw (pass-is ms ds (id .deep))
-        (go (shallowAll ds (macros ms [])) (λ es e. yielded (kept-count ds (macros ms [])) e ∙ sym (kept ms ds el im eb id ol)) (written ms ds el im eb id ol) ol);
+        (go (shallowAll ds (macros ms [])) (λ es e. yielded (kept-count ds (macros ms [])) e ∙ sym (kept ms ds el im eb id al ol)) (written ms ds el im eb id al ol) ol);
   }
     where
       go : (x : Out (List Definition)) → ((es : List Definition) → x ≡ done es → length es ≡ n) → Writes out₁ 2 o x out₂ end → length out ≡ 16384

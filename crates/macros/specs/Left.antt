@@ -17,7 +17,7 @@ use Rattle.writer.specs.Buf.{put}
 use Rattle.contents.specs.Listed.{Listed}
 use Rattle.substitution.specs.Instance.{Areas}
 use Rattle.substitution.specs.Call.{Puts}
-use Rattle.macros.specs.Table.{Rows}
+use Rattle.known.specs.Table.{Rows}
 
 -- rule 5: "or the book left when expansion is done .. is over either": the levels, body by body
 unfoldable pub shallow : Combinator → Out Combinator
@@ -54,18 +54,18 @@ pub record KeptOf (book : List ℕ) (r : ℕ) : Type 0 where
   pub says : (ds : List Definition) → book ≡ wBook ds → IsBook ds → r ≡ keptOf ds
 
 -- what an expansion of the whole book needs
-pub record Whole (macros pl hs : List ℕ) (rows : ℕ) (book a b marks row out : List ℕ) (ms : List Macro) : Type 0 where
-  pub areas : Areas macros book a b row
+pub record Whole (macros pl hs : List ℕ) (rows : ℕ) (book areas marks row out : List ℕ) (ms : List Macro) : Type 0 where
+  pub sized : Areas macros book areas row
   pub marks-long : length marks ≡ 8192
   pub out-long : length out ≡ 16384
   pub table : Rows macros pl hs rows ms
 
-pub record Formatted (macros pl hs : List ℕ) (rows : ℕ) (book : List ℕ) (at : ℕ) (a b marks row out : List ℕ) (o : ℕ) (out′ : List ℕ) (r : ℕ) : Type 0 where
-  pub says : (ms : List Macro) → Whole macros pl hs rows book a b marks row out ms → (n : Name) (ps : List Param) (c : Combinator) (z : List ℕ) → Here book at (wDefinition (format n ps c) z)
+pub record Formatted (macros pl hs : List ℕ) (rows : ℕ) (book : List ℕ) (at : ℕ) (areas marks row out : List ℕ) (o : ℕ) (out′ : List ℕ) (r : ℕ) : Type 0 where
+  pub says : (ms : List Macro) → Whole macros pl hs rows book areas marks row out ms → (n : Name) (ps : List Param) (c : Combinator) (z : List ℕ) → Here book at (wDefinition (format n ps c) z)
       → levelsP ps ≤ 64 → levels c ≤ 64 → Puts out o (expandOne (format n ps c) ms >>= λ e. done (wDefinition e [])) out′ r
 
-pub record Kept (kind size : ℕ) (macros pl hs : List ℕ) (rows : ℕ) (book : List ℕ) (at : ℕ) (a b marks row out : List ℕ) (o : ℕ) (out′ : List ℕ) (r : ℕ) : Type 0 where
-  pub says : (ms : List Macro) → Whole macros pl hs rows book a b marks row out ms → (d : Definition) (z : List ℕ) → Here book at (wDefinition d z)
+pub record Kept (kind size : ℕ) (macros pl hs : List ℕ) (rows : ℕ) (book : List ℕ) (at : ℕ) (areas marks row out : List ℕ) (o : ℕ) (out′ : List ℕ) (r : ℕ) : Type 0 where
+  pub says : (ms : List Macro) → Whole macros pl hs rows book areas marks row out ms → (d : Definition) (z : List ℕ) → Here book at (wDefinition d z)
       → kind ≡ kindByte (kindOf d) → (kind ≡ 4 → ⊥) → size ≡ sizeOf d → levelsBook (d ∷ []) ≤ 64 → Puts out o (expandOne d ms >>= λ e. done (wDefinition e [])) out′ r
 
 -- the entries stand in out from e on, the bodies from o on, if the bodies fit; else the place is past the end
@@ -78,10 +78,10 @@ Writes out e o (refused k) out′ r = length out < r
 Writes out e o (done es) out′ r = WritesBy out e o es out′ r (leb (o + length (wAll wDefinition es [])) (length out))
 
 -- the definitions that are left
-pub record Listing (macros pl hs : List ℕ) (rows : ℕ) (book a b marks row out : List ℕ) (entry at left e o : ℕ) (out′ : List ℕ) (r : ℕ) : Type 0 where
-  pub says : (ms : List Macro) → Whole macros pl hs rows book a b marks row out ms → (ds : List Definition) → Listed book entry at ds → left ≡ length ds → e + 6 * keptOf ds ≤ o → o ≤ length out
+pub record Listing (macros pl hs : List ℕ) (rows : ℕ) (book areas marks row out : List ℕ) (entry at left e o : ℕ) (out′ : List ℕ) (r : ℕ) : Type 0 where
+  pub says : (ms : List Macro) → Whole macros pl hs rows book areas marks row out ms → (ds : List Definition) → Listed book entry at ds → left ≡ length ds → e + 6 * keptOf ds ≤ o → o ≤ length out
       → Writes out e o (shallowAll ds ms) out′ r
 
-pub record Booked (macros pl hs : List ℕ) (rows : ℕ) (book a b marks row out : List ℕ) (o : ℕ) (out′ : List ℕ) (r : ℕ) : Type 0 where
-  pub says : (ms : List Macro) → Whole macros pl hs rows book a b marks row out ms → (ds : List Definition) → book ≡ wBook ds → IsBook ds → o ≡ 2 + 6 * keptOf ds → o ≤ length out
+pub record Booked (macros pl hs : List ℕ) (rows : ℕ) (book areas marks row out : List ℕ) (o : ℕ) (out′ : List ℕ) (r : ℕ) : Type 0 where
+  pub says : (ms : List Macro) → Whole macros pl hs rows book areas marks row out ms → (ds : List Definition) → book ≡ wBook ds → IsBook ds → o ≡ 2 + 6 * keptOf ds → o ≤ length out
       → Writes out 2 o (shallowAll ds ms) out′ r

@@ -31,5 +31,5 @@ abbrev pub leaves : Out (List Definition) → List ℕ → List ℕ → Type 0
 leaves (refused k) out out′ = length out′ ≡ length out
 leaves (done es) out out′ = out′ ≡ wBook es ++ drop (sizeBook es) out
 
-pub record Passed (lib book out out′ : List ℕ) (r : Expanded) : Type 0 where
-  pub says : (ms ds : List Definition) → lib ≡ wBook ms → IsBook ms → book ≡ wBook ds → IsBook ds → length out ≡ 16384 → (r ≡ answerOf (pass ms ds)) × leaves (pass ms ds) out out′
+pub record Passed (lib book areas out out′ : List ℕ) (r : Expanded) : Type 0 where
+  pub says : (ms ds : List Definition) → lib ≡ wBook ms → IsBook ms → book ≡ wBook ds → IsBook ds → length areas ≡ 32768 → length out ≡ 16384 → (r ≡ answerOf (pass ms ds)) × leaves (pass ms ds) out out′

@@ -1,6 +1,6 @@
 // The book that is left: macros removed, order kept, contents made anew, and each format's body expanded.
-use crate::expand::expand_macros_in_combinator;
 use contents::params_past;
+use expansion::expand_macros_in_combinator;
 use marks::Walk;
 use marks::first_marks;
 use seek::byte;
@@ -35,14 +35,13 @@ fn expand_format(
     rows: usize,
     book: &[u8],
     at: usize,
-    a: &mut [u8],
-    b: &mut [u8],
+    areas: &mut [u8],
     marks: &mut [u16],
     row: &mut [u16],
     out: &mut [u8],
     o: usize,
 ) -> usize
-    ensures { λ r. ⌜ Formatted (now (macros .entry)) (now (places .entry)) (now (hashes .entry)) rows (now (book .entry)) at (now (a .entry)) (now (b .entry)) (now (marks .entry)) (now (row .entry)) (now (out .entry)) o (now (out .exit)) r ⌝ }
+    ensures { λ r. ⌜ Formatted (now (macros .entry)) (now (places .entry)) (now (hashes .entry)) rows (now (book .entry)) at (now (areas .entry)) (now (marks .entry)) (now (row .entry)) (now (out .entry)) o (now (out .exit)) r ⌝ }
 {
     let params = name_past(book, at);
     let body = params_past(book, params, marks);
@@ -59,8 +58,7 @@ fn expand_format(
         body,
         end,
         first_marks(&marks[..], n),
-        a,
-        b,
+        areas,
         row,
         out,
         q,
@@ -86,14 +84,13 @@ fn expand_definition(
     rows: usize,
     book: &[u8],
     at: usize,
-    a: &mut [u8],
-    b: &mut [u8],
+    areas: &mut [u8],
     marks: &mut [u16],
     row: &mut [u16],
     out: &mut [u8],
     o: usize,
 ) -> usize
-    ensures { λ r. ⌜ Kept kind size (now (macros .entry)) (now (places .entry)) (now (hashes .entry)) rows (now (book .entry)) at (now (a .entry)) (now (b .entry)) (now (marks .entry)) (now (row .entry)) (now (out .entry)) o (now (out .exit)) r ⌝ }
+    ensures { λ r. ⌜ Kept kind size (now (macros .entry)) (now (places .entry)) (now (hashes .entry)) rows (now (book .entry)) at (now (areas .entry)) (now (marks .entry)) (now (row .entry)) (now (out .entry)) o (now (out .exit)) r ⌝ }
 {
     if kind == 1 {
         return expand_format(
@@ -103,8 +100,7 @@ fn expand_definition(
             rows,
             book,
             at,
-            a,
-            b,
+            areas,
             marks,
             row,
             out,
@@ -150,14 +146,13 @@ pub fn expand_all(
     hashes: &[u16],
     rows: usize,
     book: &[u8],
-    a: &mut [u8],
-    b: &mut [u8],
+    areas: &mut [u8],
     marks: &mut [u16],
     row: &mut [u16],
     out: &mut [u8],
     bodies: usize,
 ) -> usize
-    ensures { λ r. ⌜ Booked (now (macros .entry)) (now (places .entry)) (now (hashes .entry)) rows (now (book .entry)) (now (a .entry)) (now (b .entry)) (now (marks .entry)) (now (row .entry)) (now (out .entry)) bodies (now (out .exit)) r ⌝ }
+    ensures { λ r. ⌜ Booked (now (macros .entry)) (now (places .entry)) (now (hashes .entry)) rows (now (book .entry)) (now (areas .entry)) (now (marks .entry)) (now (row .entry)) (now (out .entry)) bodies (now (out .exit)) r ⌝ }
 {
     let mut left = number(book, 0) as usize;
     let mut entry = past(book, 0, 2);
@@ -183,8 +178,7 @@ pub fn expand_all(
             rows,
             book,
             at,
-            a,
-            b,
+            areas,
             marks,
             row,
             out,

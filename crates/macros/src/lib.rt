@@ -1,8 +1,7 @@
 // Macro expansion on validated bytes: document 01's "Macro rules".
 mod book;
-pub mod expand;
-pub mod table;
 
+use known::table;
 use writer::least;
 use writer::put_u16;
 ghost use Rattle.macros.specs.Pass.{Passed};
@@ -14,17 +13,15 @@ pub enum Expanded {
 }
 
 // One pass: the book with the calls of the macros that the other book defines expanded, and without macros of its own. It fills the first bytes
-// of out, which has 16,384.
-pub fn expand_macros(macros: &[u8], book: &[u8], out: &mut [u8]) -> Expanded
-    ensures { λ r. ⌜ Passed (now (macros .entry)) (now (book .entry)) (now (out .entry)) (now (out .exit)) r ⌝ }
+// of out, which has 16,384; the areas, two in one, have 32,768.
+pub fn expand_macros(macros: &[u8], book: &[u8], areas: &mut [u8], out: &mut [u8]) -> Expanded
+    ensures { λ r. ⌜ Passed (now (macros .entry)) (now (book .entry)) (now (areas .entry)) (now (out .entry)) (now (out .exit)) r ⌝ }
 {
     let mut places = [0u16; 512];
     let mut hashes = [0u16; 512];
-    let mut a = [0u8; 16384];
-    let mut b = [0u8; 16384];
     let mut marks = [0u16; 8192];
     let mut row = [0u16; 8192];
-    let rows = table::table(macros, &mut places, &mut hashes);
+    let rows = table(macros, &mut places, &mut hashes);
     let n = least(book::count_kept(book), 512);
     put_u16(n as u16, out, 0);
     let bodies = 2 + 6 * n;
@@ -34,8 +31,7 @@ pub fn expand_macros(macros: &[u8], book: &[u8], out: &mut [u8]) -> Expanded
         &hashes,
         rows,
         book,
-        &mut a,
-        &mut b,
+        areas,
         &mut marks,
         &mut row,
         out,

@@ -23,17 +23,17 @@ pub record Refuses (book : List ℕ) (workLength : ℕ) (code : ℕ) : Type 0 wh
   pub is : opened book workLength ≡ refused reason
   pub numbered : code ≡ number reason
 
--- the expanded book stands in the first bytes of the work area
-pub record Expands (book : List ℕ) (workLength : ℕ) (work : List ℕ) (len : ℕ) : Type 0 where
+-- the expanded book stands in the first bytes of the output
+pub record Expands (book : List ℕ) (workLength : ℕ) (out : List ℕ) (len : ℕ) : Type 0 where
   pub left : List Definition
   pub is : opened book workLength ≡ done left
   pub isBook : IsBook left
-  pub holds : take len work ≡ wBook left
-  pub fits : len ≤ workLength
+  pub holds : take len out ≡ wBook left
+  pub fits : len ≤ 16384
 
 abbrev pub OpensBy : List ℕ → ℕ → List ℕ → Opened → Type 0
-OpensBy book workLength work (Book len) = Expands book workLength work len
-OpensBy book workLength work (Refused code) = Refuses book workLength code
+OpensBy book workLength out (Book len) = Expands book workLength out len
+OpensBy book workLength out (Refused code) = Refuses book workLength code
 
-pub record Opens (book : List ℕ) (workLength : ℕ) (work : List ℕ) (r : Opened) : Type 0 where
-  pub by : OpensBy book workLength work r
+pub record Opens (book : List ℕ) (workLength outLength : ℕ) (out : List ℕ) (r : Opened) : Type 0 where
+  pub by : outLength ≡ 16384 → OpensBy book workLength out r

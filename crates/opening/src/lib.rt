@@ -6,15 +6,15 @@ use reader::Verdict;
 ghost use lib.ListN.{length};
 ghost use Rattle.opening.specs.Opens.{Opens};
 
-// The expanded book, which fills the work area's first bytes, or a code.
+// The expanded book, which fills the output's first bytes, or a code.
 pub enum Opened {
     Book { len: usize },
     Refused { code: u8 },
 }
 
-// Codes 1 to 6.
-pub fn open_book(book: &[u8], work: &mut [u8]) -> Opened
-    ensures { λ r. ⌜ Opens (now (book .entry)) (length (now (work .entry))) (now (work .exit)) r ⌝ }
+// Codes 1 to 6. The output has 16,384 bytes; the work area's first 32,768 are the two areas of an expansion.
+pub fn open_book(book: &[u8], work: &mut [u8], out: &mut [u8]) -> Opened
+    ensures { λ r. ⌜ Opens (now (book .entry)) (length (now (work .entry))) (length (now (out .entry))) (now (out .exit)) r ⌝ }
 {
     if work.len() < 65536 {
         return Opened::Refused { code: 1 };
@@ -26,7 +26,7 @@ pub fn open_book(book: &[u8], work: &mut [u8]) -> Opened
     match verdict {
         Verdict::Refused(f) => Opened::Refused { code: f.code },
         Verdict::Sound => {
-            let got = expand_macros(book, book, &mut work[..16384]);
+            let got = expand_macros(book, book, &mut work[..32768], out);
             match got {
                 Expanded::Grown => Opened::Refused { code: 6 },
                 Expanded::Book { len } => Opened::Book { len },

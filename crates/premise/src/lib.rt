@@ -1,8 +1,8 @@
 // The premise test over an expanded book, on validated bytes: document 01's "Premise test and listing".
-use calls::combinator;
-use contents::params_past;
 use called::all_known;
 use called::take_names;
+use calls::combinator;
+use contents::params_past;
 use marks::Walk;
 use marks::first_marks;
 use seek::byte;

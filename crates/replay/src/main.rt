@@ -136,7 +136,8 @@ fn expanded_of(c: Case) -> Bytes {
 // Whether macro expansion gives this book, which reads without fault, the recorded code and the recorded bytes.
 fn expands_as(book: &[u8], code: u8, expanded: &[u8]) -> bool {
     let mut out = [170u8; 16384];
-    match macros::expand_macros(book, book, &mut out) {
+    let mut areas = [85u8; 32768];
+    match macros::expand_macros(book, book, &mut areas, &mut out) {
         Expanded::Grown => code == 6,
         Expanded::Book { len } => {
             if code == 0 {

@@ -22,7 +22,9 @@ use Rattle.lookup.specs.Name.{nameAt}
 use Rattle.lookup.proofs.Names.{stands, yes-no, clash}
 use Rattle.writer.specs.Buf.{put, part, Wrote}
 use Rattle.writer.proofs.Put.{put-fits, part-written, take-written, length-put}
-use Rattle.writer.proofs.Wrote.{fitted, place-is}
+use Rattle.writer.proofs.Wrote.{fitted, place-is, same-length}
+use Rattle.areas.specs.First.{first}
+use Rattle.areas.proofs.First.{first-long, first-kept, first-put}
 use Rattle.marks.specs.declared.Walk.{Walk}
 use Rattle.marks.specs.Steps.{walk}
 use Rattle.calls.specs.Walk.{combinatorAt, skipAt}
@@ -50,7 +52,7 @@ front-here a c h =
     let z : 0 + length (wCombinator c []) ≡ length (wCombinator c []) = omega arith in
     record { is = put-fits a 0 (wCombinator c []) (omega arith) ∙ rw z (sym (s-comb c [] (drop (length (wCombinator c [])) a))); reach = omega arith }
 
-long-size : (d : Combinator) → length (wCombinator d []) ≡ size d
+pub long-size : (d : Combinator) → length (wCombinator d []) ≡ size d
 unfolding size
 long-size d = refl
 
@@ -88,105 +90,108 @@ module _ (d : Combinator) (dd : levels d ≤ 127) (fits : size d ≤ 16384) (a m
 deep-test : (n l : ℕ) → l ≡ min 129 (129 - n) → leb 65 l ≡ leb n 64
 deep-test n l e = ⊎-elim (λ (h : leb n 64 ≡ true). rw h (le-leb 65 l (omega (arith, leb-true n 64 h)))) (λ (h : leb n 64 ≡ false). rw h (lt-leb 65 l (omega (arith, leb-false n 64 h)))) (yes-no (leb n 64))
 
-module _ {macros book a b marks : List ℕ} (t : Turn) where
-  module _ (ar : Areas macros book a b marks) (p : Name) (x : Inner) (c : Combinator) (z y : List ℕ)
-      (hp : Here macros (t .param) (wName p z)) (hx : Here book (t .arg) (wInner x y)) (dx : levelsI x ≤ 63) (hc : Holds a marks (t .len) (t .n) c) where
+module _ {macros book areas marks : List ℕ} (t : Turn) where
+  module _ (ar : Areas macros book areas marks) (p : Name) (x : Inner) (c : Combinator) (z y : List ℕ)
+      (hp : Here macros (t .param) (wName p z)) (hx : Here book (t .arg) (wInner x y)) (dx : levelsI x ≤ 63) (hc : Holds (first areas) marks (t .len) (t .n) c) where
     over-arg : Skipped book x 64 y (walk (t .arg) 0 64 true) marks (skipAt 64 book (walk (t .arg) 0 64 true) marks .0) (skipAt 64 book (walk (t .arg) 0 64 true) marks .1)
     over-arg = skipped book (omega (arith, ar .book-short)) x 64 (omega arith) (walk (t .arg) 0 64 true) marks y hx
 
     bytes-are : {nm bt fm : List ℕ} (u : Walk) (m : List ℕ) → u ≡ skipAt 64 book (walk (t .arg) 0 64 true) marks .0 → m ≡ skipAt 64 book (walk (t .arg) 0 64 true) marks .1
-        → nm ≡ nameAt macros (t .param) → bt ≡ part (t .arg) (u .at) book → fm ≡ take (t .n) m → substituted a nm bt (t .len) fm 0 ≡ wCombinator (subst c p x) []
+        → nm ≡ nameAt macros (t .param) → bt ≡ part (t .arg) (u .at) book → fm ≡ take (t .n) m → substituted (first areas) nm bt (t .len) fm 0 ≡ wCombinator (subst c p x) []
     bytes-are u m hu hm e f g =
         rw (e, f, g, hu, hm, over-arg .place, over-arg .marks, stands macros (t .param) p z (hp .is), part-here (wInner x []) y (inner-here x y hx), hc .marked)
-        (substitution a p x (t .len) c 0 (hc .rest) (hc .here) (hc .end ∙ from-zero (size c)))
+        (substitution (first areas) p x (t .len) c 0 (hc .rest) (hc .here) (hc .end ∙ from-zero (size c)))
 
-    -- the combinator d that was written into b, and copied back to a
-    module _ (d : Combinator) (dd : levels d ≤ 127) (r : Turn) (a₁ m : List ℕ) (w : Walk) (m₂ : List ℕ) (fits : size d ≤ 16384) (ha : a₁ ≡ put a 0 (wCombinator d [])) (hm : m ≡ marks)
+    -- the combinator d that was made in the second area, and copied back to the first
+    module _ (d : Combinator) (dd : levels d ≤ 127) (r : Turn) (a₁ m : List ℕ) (w : Walk) (m₂ : List ℕ) (fits : size d ≤ 16384) (ha : a₁ ≡ put (first areas) 0 (wCombinator d [])) (hm : m ≡ marks)
         (hw : w ≡ combinatorAt 129 a₁ (walk 0 0 129 true) m .0) (hm₂ : m₂ ≡ combinatorAt 129 a₁ (walk 0 0 129 true) m .1) where
       -- the test tells what `limited` says
       went : r .good ≡ leb 65 (w .left) → r .len ≡ w .at → r .n ≡ w .n → Here macros (r .param) z → Here book (r .arg) y → Went macros book a₁ m₂ r z y (limited d)
       went e₁ e₂ e₃ g₁ g₂ =
           let lm = ap length hm ∙ ar .marks-long in
-          let q : leb 65 (w .left) ≡ leb (levels d) 64 = deep-test (levels d) (w .left) (over-made d dd fits a m (ar .a-long) lm w ha hw hm₂ .deep) in
+          let la = first-long areas (ar .areas-long) in
+          let q : leb 65 (w .left) ≡ leb (levels d) 64 = deep-test (levels d) (w .left) (over-made d dd fits (first areas) m la lm w ha hw hm₂ .deep) in
           ⊎-elim
-          (λ (h : leb (levels d) 64 ≡ true). rw (within-size d fits, h) (e₁ ∙ q ∙ h, g₁, g₂, rw (e₂, e₃) (holds d dd fits a m (ar .a-long) lm w ha hw hm₂ (leb-true (levels d) 64 h))))
+          (λ (h : leb (levels d) 64 ≡ true). rw (within-size d fits, h) (e₁ ∙ q ∙ h, g₁, g₂, rw (e₂, e₃) (holds d dd fits (first areas) m la lm w ha hw hm₂ (leb-true (levels d) 64 h))))
           (λ (h : leb (levels d) 64 ≡ false). rw (within-size d fits, h) (e₁ ∙ q ∙ h))
           (yes-no (leb (levels d) 64))
 
   module _ (u : Walk) (m : List ℕ) (hu : u ≡ skipAt 64 book (walk (t .arg) 0 64 true) marks .0) (hm : m ≡ skipAt 64 book (walk (t .arg) 0 64 true) marks .1)
-      {nm bt fm b₁ : List ℕ} {o : ℕ} (e : nm ≡ nameAt macros (t .param)) (f : bt ≡ part (t .arg) (u .at) book) (g : fm ≡ take (t .n) m)
-      (wb : Wrote b 0 (substituted a nm bt (t .len) fm 0) b₁ o) where
-    pub turned-cut : length b < o → (a′ m′ : List ℕ) (r : Turn) → r .good ≡ false → Turned macros book a b marks t a′ m′ r
+      {nm bt fm made : List ℕ} {o : ℕ} (e : nm ≡ nameAt macros (t .param)) (f : bt ≡ part (t .arg) (u .at) book) (g : fm ≡ take (t .n) m)
+      (wb : Wrote areas 16384 (substituted (first areas) nm bt (t .len) fm 0) made o) where
+    pub turned-cut : length areas < o → (a′ m′ : List ℕ) (r : Turn) → r .good ≡ false → Turned macros book areas marks t a′ m′ r
     turned-cut k a′ m′ r q = record {
       says = λ ar p x c z y hp hx dx hc.
           let v = ap length (sym (bytes-are ar p x c z y hp hx dx hc u m hu hm e f g)) in
-          rw (over-size (subst c p x) (omega (arith, place-is wb, ar .b-long, long-size (subst c p x)))) q;
+          rw (over-size (subst c p x) (omega (arith, place-is wb, ar .areas-long, long-size (subst c p x)))) q;
     }
 
-    pub turned-whole : o ≤ length b → {a₁ m₂ : List ℕ} {q : ℕ} → Wrote a 0 (part 0 o b₁) a₁ q → (w : Walk) → w ≡ combinatorAt 129 a₁ (walk 0 0 129 true) m .0 → m₂ ≡ combinatorAt 129 a₁ (walk 0 0 129 true) m .1
-        → (r : Turn) → r .param ≡ namePast macros (t .param) → r .arg ≡ u .at → r .len ≡ w .at → r .n ≡ w .n → r .good ≡ leb 65 (w .left) → Turned macros book a b marks t a₁ m₂ r
-    turned-whole k {a₁} {m₂} wa w hw hm₂ r r₁ r₂ r₃ r₄ r₅ = record {
+    pub turned-whole : o ≤ length areas → {areas′ m₂ : List ℕ} → areas′ ≡ put made 0 (part 16384 o made) → (w : Walk) → w ≡ combinatorAt 129 (first areas′) (walk 0 0 129 true) m .0 → m₂ ≡ combinatorAt 129 (first areas′) (walk 0 0 129 true) m .1
+        → (r : Turn) → r .param ≡ namePast macros (t .param) → r .arg ≡ u .at → r .len ≡ w .at → r .n ≡ w .n → r .good ≡ leb 65 (w .left) → Turned macros book areas marks t areas′ m₂ r
+    turned-whole k {areas′} {m₂} wa w hw hm₂ r r₁ r₂ r₃ r₄ r₅ = record {
       says = λ ar p x c z y hp hx dx hc.
           let d = subst c p x in
           let is = bytes-are ar p x c z y hp hx dx hc u m hu hm e f g in
           let sk = over-arg ar p x c z y hp hx dx hc in
-          let fits : 0 + length (wCombinator d []) ≤ length b = omega (arith, fitted wb k, ap length is) in
-          let oo : o ≡ 0 + length (wCombinator d []) = omega (arith, place-is wb, ap length is) in
-          let back : part 0 o b₁ ≡ wCombinator d [] = rw (oo, wb .holds, is) (part-written b 0 (wCombinator d []) fits) in
-          went ar p x c z y hp hx dx hc d (omega (arith, deeper p x c, hc .deep)) r a₁ m w m₂ (omega (arith, long-size d, ar .b-long)) (wa .holds ∙ rw back) (hm ∙ sk .marks) hw hm₂
+          let fits : 16384 + length (wCombinator d []) ≤ length areas = omega (arith, fitted wb k, ap length is) in
+          let oo : o ≡ 16384 + length (wCombinator d []) = omega (arith, place-is wb, ap length is) in
+          let back : part 16384 o made ≡ wCombinator d [] = rw (oo, wb .holds, is) (part-written areas 16384 (wCombinator d []) fits) in
+          let whole : areas′ ≡ put made 0 (wCombinator d []) = wa ∙ rw back in
+          let ha : first areas′ ≡ put (first areas) 0 (wCombinator d []) =
+          ap first whole ∙ first-put made (wCombinator d []) (omega (arith, ar .areas-long)) (omega (arith, same-length wb)) ∙ rw (first-kept wb (omega arith)) in
+          went ar p x c z y hp hx dx hc d (omega (arith, deeper p x c, hc .deep)) r (first areas′) m w m₂ (omega (arith, long-size d, ar .areas-long)) ha (hm ∙ sk .marks) hw hm₂
           r₅ r₃ r₄ (rw r₁ (name-here p hp)) (rw (r₂, hu) (sk .rest));
     }
 
 -- turns one after the other
-module _ {macros book a b marks : List ℕ} {t : Turn} where
-  pub instanced-none : (left : ℕ) → left ≤ 0 → t .good ≡ true → Instanced macros book a b marks t left a marks t
+module _ {macros book areas marks : List ℕ} {t : Turn} where
+  pub instanced-none : (left : ℕ) → left ≤ 0 → t .good ≡ true → Instanced macros book areas marks t left areas marks t
   unfolding instance countA
   instanced-none left k g = record { says = λ ar ps xs c z y hp hx dx e hc. none ps xs c e hc }
     where
-      none : (ps : List Name) (xs : Inners) (c : Combinator) → left ≡ min (length ps) (countA xs) → Holds a marks (t .len) (t .n) c → Made a marks t (instance ps xs c)
+      none : (ps : List Name) (xs : Inners) (c : Combinator) → left ≡ min (length ps) (countA xs) → Holds (first areas) marks (t .len) (t .n) c → Made (first areas) marks t (instance ps xs c)
       none [] xs c e hc = (g, hc)
       none (p ∷ ps) no-inner c e hc = (g, hc)
       none (p ∷ ps) (inner x xs) c e hc = absurd (omega arith)
 
-  module _ {a₁ m₁ : List ℕ} {t₁ : Turn} {left : ℕ} (v : Turned macros book a b marks t a₁ m₁ t₁) where
-    pub instanced-stop : 0 < left → t₁ .good ≡ false → Instanced macros book a b marks t left a₁ m₁ t₁
+  module _ {areas₁ m₁ : List ℕ} {t₁ : Turn} {left : ℕ} (v : Turned macros book areas marks t areas₁ m₁ t₁) where
+    pub instanced-stop : 0 < left → t₁ .good ≡ false → Instanced macros book areas marks t left areas₁ m₁ t₁
     unfolding instance countA wAll wInners levelsA
     instanced-stop k g = record { says = λ ar ps xs c z y hp hx dx e hc. stop ar ps xs c z y hp hx dx e hc }
       where
-        refusal : (o : Out Combinator) (ps : List Name) (xs : Inners) (z y : List ℕ) → Went macros book a₁ m₁ t₁ z y o → Made a₁ m₁ t₁ (o >>= instance ps xs)
+        refusal : (o : Out Combinator) (ps : List Name) (xs : Inners) (z y : List ℕ) → Went macros book (first areas₁) m₁ t₁ z y o → Made (first areas₁) m₁ t₁ (o >>= instance ps xs)
         refusal (refused k) ps xs z y w = w
         refusal (done d) ps xs z y w = clash (w .0) g
 
-        stop : Areas macros book a b marks → (ps : List Name) (xs : Inners) (c : Combinator) (z y : List ℕ) → Here macros (t .param) (wAll wName ps z) → Here book (t .arg) (wInners xs y) → levelsA xs ≤ 64
-            → left ≡ min (length ps) (countA xs) → Holds a marks (t .len) (t .n) c → Made a₁ m₁ t₁ (instance ps xs c)
+        stop : Areas macros book areas marks → (ps : List Name) (xs : Inners) (c : Combinator) (z y : List ℕ) → Here macros (t .param) (wAll wName ps z) → Here book (t .arg) (wInners xs y) → levelsA xs ≤ 64
+            → left ≡ min (length ps) (countA xs) → Holds (first areas) marks (t .len) (t .n) c → Made (first areas₁) m₁ t₁ (instance ps xs c)
         stop ar [] xs c z y hp hx dx e hc = absurd (omega arith)
         stop ar (p ∷ ps) no-inner c z y hp hx dx e hc = absurd (omega arith)
         stop ar (p ∷ ps) (inner x xs) c z y hp hx dx e hc =
             refusal (limited (subst c p x)) ps xs (wAll wName ps z) (wInners xs y) (v .says ar p x c (wAll wName ps z) (wInners xs y) hp hx (omega arith) hc)
 
-    pub instanced-step : 0 < left → t₁ .good ≡ true → length a₁ ≡ length a → length m₁ ≡ length marks → {b₁ : List ℕ} → length b₁ ≡ length b
-        → {a₂ m₂ : List ℕ} {r : Turn} → Instanced macros book a₁ b₁ m₁ t₁ (left - 1) a₂ m₂ r → Instanced macros book a b marks t left a₂ m₂ r
+    pub instanced-step : 0 < left → t₁ .good ≡ true → length areas₁ ≡ length areas → length m₁ ≡ length marks
+        → {areas₂ m₂ : List ℕ} {r : Turn} → Instanced macros book areas₁ m₁ t₁ (left - 1) areas₂ m₂ r → Instanced macros book areas marks t left areas₂ m₂ r
     unfolding instance countA wAll wInners levelsA
-    instanced-step k g la lm {b₁} lb {a₂} {m₂} {r} next = record { says = λ ar ps xs c z y hp hx dx e hc. step ar ps xs c z y hp hx dx e hc }
+    instanced-step k g la lm {areas₂} {m₂} {r} next = record { says = λ ar ps xs c z y hp hx dx e hc. step ar ps xs c z y hp hx dx e hc }
       where
-        go : Areas macros book a b marks → (o : Out Combinator) (ps : List Name) (xs : Inners) (z y : List ℕ) → levelsA xs ≤ 64 → left - 1 ≡ min (length ps) (countA xs)
-            → Went macros book a₁ m₁ t₁ (wAll wName ps z) (wInners xs y) o → Made a₂ m₂ r (o >>= instance ps xs)
+        go : Areas macros book areas marks → (o : Out Combinator) (ps : List Name) (xs : Inners) (z y : List ℕ) → levelsA xs ≤ 64 → left - 1 ≡ min (length ps) (countA xs)
+            → Went macros book (first areas₁) m₁ t₁ (wAll wName ps z) (wInners xs y) o → Made (first areas₂) m₂ r (o >>= instance ps xs)
         go ar (refused k) ps xs z y dx e w = clash g w
         go ar (done d) ps xs z y dx e w =
-            next .says (record { macros-short = ar .macros-short; book-short = ar .book-short; a-long = la ∙ ar .a-long; b-long = lb ∙ ar .b-long; marks-long = lm ∙ ar .marks-long })
+            next .says (record { macros-short = ar .macros-short; book-short = ar .book-short; areas-long = la ∙ ar .areas-long; marks-long = lm ∙ ar .marks-long })
             ps xs d z y (w .1) (w .2) dx e (w .3)
 
-        step : Areas macros book a b marks → (ps : List Name) (xs : Inners) (c : Combinator) (z y : List ℕ) → Here macros (t .param) (wAll wName ps z) → Here book (t .arg) (wInners xs y) → levelsA xs ≤ 64
-            → left ≡ min (length ps) (countA xs) → Holds a marks (t .len) (t .n) c → Made a₂ m₂ r (instance ps xs c)
+        step : Areas macros book areas marks → (ps : List Name) (xs : Inners) (c : Combinator) (z y : List ℕ) → Here macros (t .param) (wAll wName ps z) → Here book (t .arg) (wInners xs y) → levelsA xs ≤ 64
+            → left ≡ min (length ps) (countA xs) → Holds (first areas) marks (t .len) (t .n) c → Made (first areas₂) m₂ r (instance ps xs c)
         step ar [] xs c z y hp hx dx e hc = absurd (omega arith)
         step ar (p ∷ ps) no-inner c z y hp hx dx e hc = absurd (omega arith)
         step ar (p ∷ ps) (inner x xs) c z y hp hx dx e hc =
             go ar (limited (subst c p x)) ps xs z y (omega arith) (omega arith) (v .says ar p x c (wAll wName ps z) (wInners xs y) hp hx (omega arith) hc)
 
 -- the loop of turns: whoever goes on from here has gone from the start
-pub record Making (macros book a₀ b₀ marks₀ : List ℕ) (t₀ : Turn) (left₀ : ℕ) (a b marks : List ℕ) (t : Turn) (left : ℕ) : Type 0 where
+pub record Making (macros book areas₀ marks₀ : List ℕ) (t₀ : Turn) (left₀ : ℕ) (areas marks : List ℕ) (t : Turn) (left : ℕ) : Type 0 where
   pub good : t .good ≡ true
-  pub a-long : length a ≡ length a₀
-  pub b-long : length b ≡ length b₀
+  pub areas-long : length areas ≡ length areas₀
   pub marks-long : length marks ≡ length marks₀
-  pub goes : (a′ m′ : List ℕ) (r : Turn) → Instanced macros book a b marks t left a′ m′ r → Instanced macros book a₀ b₀ marks₀ t₀ left₀ a′ m′ r
+  pub goes : (a′ m′ : List ℕ) (r : Turn) → Instanced macros book areas marks t left a′ m′ r → Instanced macros book areas₀ marks₀ t₀ left₀ a′ m′ r

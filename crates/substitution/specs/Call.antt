@@ -11,6 +11,7 @@ use Rattle.definition.specs.Size.{levels, levelsA}
 use Rattle.definition.specs.Macros.{Macro, instance, innerOf}
 use Rattle.seek.specs.Here.{Here}
 use Rattle.writer.specs.Buf.{Wrote}
+use Rattle.areas.specs.First.{first}
 use Rattle.substitution.specs.declared.Turn.{Turn}
 use Rattle.substitution.specs.Instance.{Areas, Holds}
 
@@ -25,23 +26,23 @@ abbrev pub Puts : List ℕ → ℕ → Out (List ℕ) → List ℕ → ℕ → T
 Puts d at (refused k) d′ r = r ≡ suc (length d)
 Puts d at (done l) d′ r = Wrote d at l d′ r
 
--- a macro and a call of it before the first turn: the body stands in a
-pub record Open (macros book a marks : List ℕ) (t : Turn) (m : Macro) (xs : Inners) (z : List ℕ) : Type 0 where
+-- a macro and a call of it before the first turn: the body stands in the first area
+pub record Open (macros book areas marks : List ℕ) (t : Turn) (m : Macro) (xs : Inners) (z : List ℕ) : Type 0 where
   pub behind : List ℕ
   pub params : Here macros (t .param) (wAll wName (m .params) behind)
   pub args : Here book (t .arg) (wInners xs z)
-  pub holds : Holds a marks (t .len) (t .n) (m .body)
+  pub holds : Holds (first areas) marks (t .len) (t .n) (m .body)
 
-pub record Opened (macros : List ℕ) (def : ℕ) (book : List ℕ) (call : ℕ) (a marks a′ marks′ : List ℕ) (t : Turn) : Type 0 where
+pub record Opened (macros : List ℕ) (def : ℕ) (book : List ℕ) (call : ℕ) (areas marks areas′ marks′ : List ℕ) (t : Turn) : Type 0 where
   pub good : t .good ≡ true
-  pub says : length macros ≤ 16384 → length a ≡ 16384 → length marks ≡ 8192 → (m : Macro) → Defined macros def m → (n : Name) (xs : Inners) (z : List ℕ) → Here book call (wInner (macro-invocation n xs) z)
-      → Open macros book a′ marks′ t m xs z
+  pub says : length macros ≤ 16384 → length areas ≡ 32768 → length marks ≡ 8192 → (m : Macro) → Defined macros def m → (n : Name) (xs : Inners) (z : List ℕ) → Here book call (wInner (macro-invocation n xs) z)
+      → Open macros book areas′ marks′ t m xs z
 
 -- rule 4: "Parameters and arguments are paired from the front; extra ones on either side are ignored."
 pub record Paired (macros : List ℕ) (def : ℕ) (book : List ℕ) (call r : ℕ) : Type 0 where
   pub says : (m : Macro) → Defined macros def m → (n : Name) (xs : Inners) (z : List ℕ) → Here book call (wInner (macro-invocation n xs) z) → r ≡ min (length (m .params)) (countA xs)
 
 -- rule 3: "replaced by the macro body's inner"
-pub record Called (macros : List ℕ) (def : ℕ) (book : List ℕ) (call : ℕ) (a b marks out : List ℕ) (o : ℕ) (out′ : List ℕ) (r : ℕ) : Type 0 where
-  pub says : Areas macros book a b marks → (m : Macro) → Defined macros def m → (n : Name) (xs : Inners) (z : List ℕ) → Here book call (wInner (macro-invocation n xs) z) → levelsA xs ≤ 64
+pub record Called (macros : List ℕ) (def : ℕ) (book : List ℕ) (call : ℕ) (areas marks out : List ℕ) (o : ℕ) (out′ : List ℕ) (r : ℕ) : Type 0 where
+  pub says : Areas macros book areas marks → (m : Macro) → Defined macros def m → (n : Name) (xs : Inners) (z : List ℕ) → Here book call (wInner (macro-invocation n xs) z) → levelsA xs ≤ 64
       → Puts out o (instance (m .params) xs (m .body) >>= λ c. done (wInner (innerOf c) [])) out′ r

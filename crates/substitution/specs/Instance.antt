@@ -11,14 +11,14 @@ use Rattle.definition.specs.Size.{size, levels, levelsI, levelsA}
 use Rattle.definition.specs.Macros.{subst, limited, instance}
 use Rattle.seek.specs.Here.{Here}
 use Rattle.pieces.specs.Pieces.{pieces, places}
+use Rattle.areas.specs.First.{first}
 use Rattle.substitution.specs.declared.Turn.{Turn}
 
--- the areas of an expansion: both books and two combinators of at most 16,384 bytes, and the marks
-pub record Areas (macros book a b marks : List ℕ) : Type 0 where
+-- what an expansion works with: both books, two areas in one for combinators of at most 16,384 bytes, and the marks
+pub record Areas (macros book areas marks : List ℕ) : Type 0 where
   pub macros-short : length macros ≤ 16384
   pub book-short : length book ≤ 16384
-  pub a-long : length a ≡ 16384
-  pub b-long : length b ≡ 16384
+  pub areas-long : length areas ≡ 32768
   pub marks-long : length marks ≡ 8192
 
 -- c stands at the front of a and takes len bytes; the first n marks are the place and the end of each of its calls
@@ -35,15 +35,15 @@ Went macros book a marks r z y (refused k) = r .good ≡ false
 Went macros book a marks r z y (done d) = (r .good ≡ true) × Here macros (r .param) z × Here book (r .arg) y × Holds a marks (r .len) (r .n) d
 
 -- rule 4: one parameter
-pub record Turned (macros book a b marks : List ℕ) (t : Turn) (a′ marks′ : List ℕ) (r : Turn) : Type 0 where
-  pub says : Areas macros book a b marks → (p : Name) (x : Inner) (c : Combinator) (z y : List ℕ) → Here macros (t .param) (wName p z) → Here book (t .arg) (wInner x y) → levelsI x ≤ 63
-      → Holds a marks (t .len) (t .n) c → Went macros book a′ marks′ r z y (limited (subst c p x))
+pub record Turned (macros book areas marks : List ℕ) (t : Turn) (areas′ marks′ : List ℕ) (r : Turn) : Type 0 where
+  pub says : Areas macros book areas marks → (p : Name) (x : Inner) (c : Combinator) (z y : List ℕ) → Here macros (t .param) (wName p z) → Here book (t .arg) (wInner x y) → levelsI x ≤ 63
+      → Holds (first areas) marks (t .len) (t .n) c → Went macros book (first areas′) marks′ r z y (limited (subst c p x))
 
 abbrev pub Made : List ℕ → List ℕ → Turn → Out Combinator → Type 0
 Made a marks r (refused k) = r .good ≡ false
 Made a marks r (done d) = (r .good ≡ true) × Holds a marks (r .len) (r .n) d
 
 -- rule 4: "one parameter after the other", of so many pairs that are left
-pub record Instanced (macros book a b marks : List ℕ) (t : Turn) (left : ℕ) (a′ marks′ : List ℕ) (r : Turn) : Type 0 where
-  pub says : Areas macros book a b marks → (ps : List Name) (xs : Inners) (c : Combinator) (z y : List ℕ) → Here macros (t .param) (wAll wName ps z) → Here book (t .arg) (wInners xs y) → levelsA xs ≤ 64
-      → left ≡ min (length ps) (countA xs) → Holds a marks (t .len) (t .n) c → Made a′ marks′ r (instance ps xs c)
+pub record Instanced (macros book areas marks : List ℕ) (t : Turn) (left : ℕ) (areas′ marks′ : List ℕ) (r : Turn) : Type 0 where
+  pub says : Areas macros book areas marks → (ps : List Name) (xs : Inners) (c : Combinator) (z y : List ℕ) → Here macros (t .param) (wAll wName ps z) → Here book (t .arg) (wInners xs y) → levelsA xs ≤ 64
+      → left ≡ min (length ps) (countA xs) → Holds (first areas) marks (t .len) (t .n) c → Made (first areas′) marks′ r (instance ps xs c)

@@ -1,8 +1,9 @@
-// A call of a macro, expanded: the instance is made in one area over another, and its inner goes to the book under construction.
+// A call of a macro, expanded: the instance is made between two areas, and its inner goes to the book under construction.
 use crate::Turn;
 use crate::instance;
 use crate::skip_over;
 use crate::walk_over;
+use areas::first_area;
 use calls::combinator;
 use marks::Walk;
 use seek::name_past;
@@ -14,16 +15,16 @@ use writer::least;
 use writer::put_part;
 ghost use Rattle.substitution.specs.Call.{Opened, Paired, Called};
 
-// The body of the macro that is defined at `def` goes to a, and the first turn is that of its first parameter and the call's first argument.
+// The body of the macro that is defined at `def` goes to the first area, and the first turn is that of its first parameter and the call's first argument.
 fn opened(
     macros: &[u8],
     def: usize,
     book: &[u8],
     call: usize,
-    a: &mut [u8],
+    areas: &mut [u8],
     marks: &mut [u16],
 ) -> Turn
-    ensures { λ r. ⌜ Opened (now (macros .entry)) def (now (book .entry)) call (now (a .entry)) (now (marks .entry)) (now (a .exit)) (now (marks .exit)) r ⌝ }
+    ensures { λ r. ⌜ Opened (now (macros .entry)) def (now (book .entry)) call (now (areas .entry)) (now (marks .entry)) (now (areas .exit)) (now (marks .exit)) r ⌝ }
 {
     let p = name_past(macros, def);
     let k = number(macros, p);
@@ -31,8 +32,8 @@ fn opened(
     let body = names_past(macros, first, k);
     let u = walk_over(macros, body, 64, marks);
     let end = u.at;
-    put_part(macros, body, end, a, 0);
-    let w = walk_over(&a[..], 0, 129, marks);
+    put_part(macros, body, end, areas, 0);
+    let w = walk_over(first_area(&areas[..]), 0, 129, marks);
     let q = past(book, call, 1);
     let j = name_past(book, q);
     let arg = past(book, j, 2);
@@ -57,28 +58,27 @@ fn pairs(macros: &[u8], def: usize, book: &[u8], call: usize) -> usize
     least(k, n)
 }
 
-// Writes the inner of the instance. The body's own chain stays behind in a.
+// Writes the inner of the instance. The body's own chain stays behind.
 pub fn expand_call(
     macros: &[u8],
     def: usize,
     book: &[u8],
     call: usize,
-    a: &mut [u8],
-    b: &mut [u8],
+    areas: &mut [u8],
     marks: &mut [u16],
     out: &mut [u8],
     o: usize,
 ) -> usize
-    ensures { λ r. ⌜ Called (now (macros .entry)) def (now (book .entry)) call (now (a .entry)) (now (b .entry)) (now (marks .entry)) (now (out .entry)) o (now (out .exit)) r ⌝ }
+    ensures { λ r. ⌜ Called (now (macros .entry)) def (now (book .entry)) call (now (areas .entry)) (now (marks .entry)) (now (out .entry)) o (now (out .exit)) r ⌝ }
 {
-    let t = opened(macros, def, book, call, a, marks);
+    let t = opened(macros, def, book, call, areas, marks);
     let n = pairs(macros, def, book, call);
-    let made = instance(macros, book, t, n, a, b, marks);
+    let made = instance(macros, book, t, n, areas, marks);
     let good = made.good;
     if good {
-        let u = skip_over(&a[..], 0, marks);
+        let u = skip_over(first_area(&areas[..]), 0, marks);
         let end = u.at;
-        return put_part(&a[..], 0, end, out, o);
+        return put_part(first_area(&areas[..]), 0, end, out, o);
     }
     out.len() + 1
 }

@@ -1,6 +1,9 @@
 // Substitution on validated bytes, and a macro's instance at a call of it: document 01's "Macro rules", 3 and 4.
 pub mod call;
 
+use areas::first_area;
+use areas::put_across;
+use areas::put_back;
 use calls::combinator;
 use lookup::name_at;
 use lookup::same_name;
@@ -12,10 +15,10 @@ use seek::past;
 use skip::skip_inner;
 use writer::least;
 use writer::put_bytes;
-use writer::put_part;
 ghost use mathlib.Core.Path.{_≡_};
 ghost use mathlib.Core.Bool.{true, false};
 ghost use Rattle.writer.specs.Buf.{part, Wrote};
+ghost use Rattle.areas.specs.First.{first};
 ghost use Rattle.marks.specs.Steps.{walk};
 ghost use Rattle.calls.specs.Walk.{combinatorAt, skipAt};
 ghost use Rattle.substitution.specs.Instance.{Turned, Instanced};
@@ -33,33 +36,31 @@ fn calls_name(s: &[u8], at: usize, name: &[u8]) -> bool
     false
 }
 
-// The combinator that stands in s from `from` up to `to`, with the argument for each call of the parameter. The marks are the place and the end
-// of each of its calls. The argument goes into dst as it is, so it is not looked into.
+// The combinator that stands in the first area up to `to` is made anew in the second, with the argument for each call of the parameter. The marks
+// are the place and the end of each of its calls. The argument goes there as it is, so it is not looked into.
 fn substitute_in_combinator(
-    s: &[u8],
-    from: usize,
+    areas: &mut [u8],
     to: usize,
     marks: &[u16],
     param: &[u8],
     arg: &[u8],
-    dst: &mut [u8],
 ) -> usize
-    ensures { λ r. ⌜ Wrote (now (dst .entry)) 0 (substituted (now (s .entry)) (now (param .entry)) (now (arg .entry)) to (now (marks .entry)) from) (now (dst .exit)) r ⌝ }
+    ensures { λ r. ⌜ Wrote (now (areas .entry)) 16384 (substituted (first (now (areas .entry))) (now (param .entry)) (now (arg .entry)) to (now (marks .entry)) 0) (now (areas .exit)) r ⌝ }
 {
-    let mut at = from;
-    let mut o = 0;
+    let mut at = 0;
+    let mut o = 16384;
     let mut i = 0;
     while i + 1 < marks.len() {
         let call = marks[i] as usize;
         let end = marks[i + 1] as usize;
         i += 2;
-        if calls_name(s, call, param) {
-            let q = put_part(s, at, call, dst, o);
-            o = put_bytes(arg, dst, q);
+        if calls_name(first_area(&areas[..]), call, param) {
+            let q = put_across(areas, at, call, o);
+            o = put_bytes(arg, areas, q);
             at = end;
         }
     }
-    put_part(s, at, to, dst, o)
+    put_across(areas, at, to, o)
 }
 
 // Where the making of an instance stands: the places of the next parameter and of the next argument, the length of the combinator made so far and
@@ -129,16 +130,9 @@ fn stopped(t: Turn) -> Turn
     }
 }
 
-// One parameter's turn: the combinator in a is made anew in b, and goes back to a. Over 16,384 bytes or 64 levels it is not good.
-fn substitute_next(
-    macros: &[u8],
-    book: &[u8],
-    t: Turn,
-    a: &mut [u8],
-    b: &mut [u8],
-    marks: &mut [u16],
-) -> Turn
-    ensures { λ r. ⌜ Turned (now (macros .entry)) (now (book .entry)) (now (a .entry)) (now (b .entry)) (now (marks .entry)) t (now (a .exit)) (now (marks .exit)) r ⌝ }
+// One parameter's turn: the combinator in the first area is made anew in the second, and goes back to the first. Over 16,384 bytes or 64 levels it is not good.
+fn substitute_next(macros: &[u8], book: &[u8], t: Turn, areas: &mut [u8], marks: &mut [u16]) -> Turn
+    ensures { λ r. ⌜ Turned (now (macros .entry)) (now (book .entry)) (now (areas .entry)) (now (marks .entry)) t (now (areas .exit)) (now (marks .exit)) r ⌝ }
 {
     let param = t.param;
     let arg = t.arg;
@@ -147,19 +141,17 @@ fn substitute_next(
     let u = skip_over(book, arg, marks);
     let end = u.at;
     let o = substitute_in_combinator(
-        &a[..],
-        0,
+        areas,
         len,
         first_marks(&marks[..], n),
         name_at(macros, param),
         between(book, arg, end),
-        b,
     );
-    if b.len() < o {
+    if areas.len() < o {
         return stopped(t);
     }
-    put_part(&b[..], 0, o, a, 0);
-    let w = walk_over(&a[..], 0, 129, marks);
+    put_back(areas, o);
+    let w = walk_over(first_area(&areas[..]), 0, 129, marks);
     let left = w.left;
     let next = name_past(macros, param);
     Turn {
@@ -177,17 +169,16 @@ fn instance(
     book: &[u8],
     t: Turn,
     pairs: usize,
-    a: &mut [u8],
-    b: &mut [u8],
+    areas: &mut [u8],
     marks: &mut [u16],
 ) -> Turn
     requires { ⌜ t .good ≡ true ⌝ }
-    ensures { λ r. ⌜ Instanced (now (macros .entry)) (now (book .entry)) (now (a .entry)) (now (b .entry)) (now (marks .entry)) t pairs (now (a .exit)) (now (marks .exit)) r ⌝ }
+    ensures { λ r. ⌜ Instanced (now (macros .entry)) (now (book .entry)) (now (areas .entry)) (now (marks .entry)) t pairs (now (areas .exit)) (now (marks .exit)) r ⌝ }
 {
     let mut here = t;
     let mut left = pairs;
     while 0 < left {
-        here = substitute_next(macros, book, here, a, b, marks);
+        here = substitute_next(macros, book, here, areas, marks);
         let good = here.good;
         if good {
             left -= 1;

@@ -12,7 +12,7 @@ use Rattle.macros.proofs.expand_macros.Lts as lts
 use Rattle.macros.proofs.book.count_kept.Reads as count-kept-reads
 use Rattle.macros.proofs.book.expand_all.Reads as expand-all-reads
 use Rattle.writer.proofs.least.Reads as least-reads
-use Rattle.macros.proofs.table.table.Reads as table-reads
+use Rattle.known.proofs.table.Reads as table-reads
 use Rattle.writer.proofs.put_u16.Reads as put-u16-reads
 
 slice-aggregate-table : tie.Need-slice-aggregate-table
@@ -54,30 +54,30 @@ slice-aggregate-expand-all-3 c = search needs
 slice-aggregate-expand-all-4 : tie.Need-slice-aggregate-expand-all-4
 slice-aggregate-expand-all-4 c = search needs
 
-slice-aggregate-expand-all-5 : tie.Need-slice-aggregate-expand-all-5
-slice-aggregate-expand-all-5 c = search needs
-
-slice-aggregate-expand-all-6 : tie.Need-slice-aggregate-expand-all-6
-slice-aggregate-expand-all-6 c = search needs
-
 expand-all-requires : tie.Need-expand-all-requires
 expand-all-requires c κs = search needs
 
 same-length : tie.Need-same-length
 same-length c = search needs
 
-returns : tie.Need-returns
-returns c =
-    passed-grown (c .before .before .before .before .before .before .before .before .before .before .before .before .before .before .before .before .before .before .before .before .before .before .before .table .ensures) (length-replicate {0} {A = ℕ} 512 0) (length-replicate {0} {A = ℕ} 512 0) (length-replicate {0} {A = ℕ} 16384 0) (length-replicate {0} {A = ℕ} 16384 0) (length-replicate {0} {A = ℕ} 8192 0) (length-replicate {0} {A = ℕ} 8192 0)
-    (c .before .before .before .before .before .before .before .before .before .before .before .before .before .before .before .before .before .before .before .before .count-kept .ensures) (c .before .before .before .before .before .before .before .before .before .before .before .before .before .before .before .before .before .before .before .least .ensures) (c .before .before .before .before .before .before .before .before .before .before .before .before .before .before .before .before .before .put-u16 .ensures) refl (c .before .before .before .before .before .before .before .expand-all .ensures) (c .before .before .out2 .given) (c .if1 .taken)
-
 same-length-2 : tie.Need-same-length-2
 same-length-2 c = search needs
 
+returns : tie.Need-returns
+returns c =
+    passed-grown (c .before .before .before .before .before .before .before .before .before .before .before .before .before .before .before .before .before .before .before .before .before .before .table .ensures) (length-replicate {0} {A = ℕ} 512 0) (length-replicate {0} {A = ℕ} 512 0) (length-replicate {0} {A = ℕ} 8192 0) (length-replicate {0} {A = ℕ} 8192 0)
+    (c .before .before .before .before .before .before .before .before .before .before .before .before .before .before .before .before .before .before .before .count-kept .ensures) (c .before .before .before .before .before .before .before .before .before .before .before .before .before .before .before .before .before .before .least .ensures) (c .before .before .before .before .before .before .before .before .before .before .before .before .before .before .before .before .put-u16 .ensures) refl (c .before .before .before .before .before .before .before .expand-all .ensures) (c .before .before .out2 .given) (c .if1 .taken)
+
+same-length-3 : tie.Need-same-length-3
+same-length-3 c = search needs
+
+same-length-4 : tie.Need-same-length-4
+same-length-4 c = search needs
+
 returns-2 : tie.Need-returns-2
 returns-2 c =
-    passed-book (c .before .before .before .before .before .before .before .before .before .before .before .before .before .before .before .before .before .before .before .before .before .before .before .table .ensures) (length-replicate {0} {A = ℕ} 512 0) (length-replicate {0} {A = ℕ} 512 0) (length-replicate {0} {A = ℕ} 16384 0) (length-replicate {0} {A = ℕ} 16384 0) (length-replicate {0} {A = ℕ} 8192 0) (length-replicate {0} {A = ℕ} 8192 0)
-    (c .before .before .before .before .before .before .before .before .before .before .before .before .before .before .before .before .before .before .before .before .count-kept .ensures) (c .before .before .before .before .before .before .before .before .before .before .before .before .before .before .before .before .before .before .before .least .ensures) (c .before .before .before .before .before .before .before .before .before .before .before .before .before .before .before .before .before .put-u16 .ensures) refl (c .before .before .before .before .before .before .before .expand-all .ensures) (c .before .before .out2 .given) (c .if1 .left)
+    passed-book (c .before .before .before .before .before .before .before .before .before .before .before .before .before .before .before .before .before .before .before .before .before .before .table .ensures) (length-replicate {0} {A = ℕ} 512 0) (length-replicate {0} {A = ℕ} 512 0) (length-replicate {0} {A = ℕ} 8192 0) (length-replicate {0} {A = ℕ} 8192 0)
+    (c .before .before .before .before .before .before .before .before .before .before .before .before .before .before .before .before .before .before .before .count-kept .ensures) (c .before .before .before .before .before .before .before .before .before .before .before .before .before .before .before .before .before .before .least .ensures) (c .before .before .before .before .before .before .before .before .before .before .before .before .before .before .before .before .put-u16 .ensures) refl (c .before .before .before .before .before .before .before .expand-all .ensures) (c .before .before .out2 .given) (c .if1 .left)
 
 pub expand-macros-spec : {M : Type 1} → statement M
 expand-macros-spec =
@@ -96,10 +96,10 @@ expand-macros-spec =
     slice-aggregate-expand-all-2
     slice-aggregate-expand-all-3
     slice-aggregate-expand-all-4
-    slice-aggregate-expand-all-5
-    slice-aggregate-expand-all-6
     expand-all-requires
     same-length
-    returns
     same-length-2
+    returns
+    same-length-3
+    same-length-4
     returns-2)

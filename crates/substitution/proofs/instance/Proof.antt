@@ -12,13 +12,13 @@ use Rattle.substitution.proofs.instance.Lts as lts
 use Rattle.substitution.proofs.substitute_next.Reads as substitute-next-reads
 
 abbrev Inv-loop : tie.InvT-loop
-Inv-loop macros book pairs a₀ b₀ marks₀ here₀ left₀ a b marks here left = Making macros book a₀ b₀ marks₀ here₀ left₀ a b marks here left
+Inv-loop macros book pairs areas₀ marks₀ here₀ left₀ areas marks here left = Making macros book areas₀ marks₀ here₀ left₀ areas marks here left
 
 abbrev μ-loop : tie.MeasureT-loop
-μ-loop macros book pairs a₀ b₀ marks₀ here₀ left₀ a b marks here left = left
+μ-loop macros book pairs areas₀ marks₀ here₀ left₀ areas marks here left = left
 
 loop-holds : tie.Need-loop-holds Inv-loop μ-loop
-loop-holds c = record { good = c .before .before .before .before .before .pre; a-long = refl; b-long = refl; marks-long = refl; goes = λ a m r i. i }
+loop-holds c = record { good = c .before .before .before .before .pre; areas-long = refl; marks-long = refl; goes = λ a m r i. i }
 
 substitute-next-requires : tie.Need-substitute-next-requires Inv-loop μ-loop
 substitute-next-requires c κs = search needs
@@ -31,13 +31,12 @@ loop-less c = search needs
 
 loop-again : tie.Need-loop-again Inv-loop μ-loop
 loop-again c =
-    let l = c .before .before .before .before .before .before .before .before .before .before .before .before .loop .inv in
+    let l = c .before .before .before .before .before .before .before .before .before .loop .inv in
     record {
       good = c .if1 .taken;
-      a-long = c .before .before .before .before .before .before .a .given ∙ l .a-long;
-      b-long = c .before .before .before .before .b .given ∙ l .b-long;
+      areas-long = c .before .before .before .before .areas .given ∙ l .areas-long;
       marks-long = c .before .before .marks .given ∙ l .marks-long;
-      goes = λ a m r i. l .goes a m r (instanced-step (c .before .before .before .before .before .before .before .substitute-next .ensures) (c .before .before .before .before .before .before .before .before .before .before .before .loop-test .taken) (c .if1 .taken) (c .before .before .before .before .before .before .a .given) (c .before .before .marks .given) (c .before .before .before .before .b .given) i);
+      goes = λ a m r i. l .goes a m r (instanced-step (c .before .before .before .before .before .substitute-next .ensures) (c .before .before .before .before .before .before .before .before .loop-test .taken) (c .if1 .taken) (c .before .before .before .before .areas .given) (c .before .before .marks .given) i);
     }
 
 same-length : tie.Need-same-length Inv-loop μ-loop
@@ -46,20 +45,14 @@ same-length c = search needs
 same-length-2 : tie.Need-same-length-2 Inv-loop μ-loop
 same-length-2 c = search needs
 
+returns : tie.Need-returns Inv-loop μ-loop
+returns c = c .before .before .before .before .before .before .before .before .before .loop .inv .goes _ _ _ (instanced-stop (c .before .before .before .before .before .substitute-next .ensures) (c .before .before .before .before .before .before .before .before .loop-test .taken) (c .if1 .left))
+
 same-length-3 : tie.Need-same-length-3 Inv-loop μ-loop
 same-length-3 c = search needs
 
-returns : tie.Need-returns Inv-loop μ-loop
-returns c = c .before .before .before .before .before .before .before .before .before .before .before .before .loop .inv .goes _ _ _ (instanced-stop (c .before .before .before .before .before .before .before .substitute-next .ensures) (c .before .before .before .before .before .before .before .before .before .before .before .loop-test .taken) (c .if1 .left))
-
 same-length-4 : tie.Need-same-length-4 Inv-loop μ-loop
 same-length-4 c = search needs
-
-same-length-5 : tie.Need-same-length-5 Inv-loop μ-loop
-same-length-5 c = search needs
-
-same-length-6 : tie.Need-same-length-6 Inv-loop μ-loop
-same-length-6 c = search needs
 
 returns-2 : tie.Need-returns-2 Inv-loop μ-loop
 returns-2 c = c .before .loop .inv .goes _ _ _ (instanced-none _ (omega arith) (c .before .loop .inv .good))
@@ -77,9 +70,7 @@ instance-spec =
     loop-again
     same-length
     same-length-2
-    same-length-3
     returns
+    same-length-3
     same-length-4
-    same-length-5
-    same-length-6
     returns-2)

@@ -13,16 +13,15 @@ use Rattle.substitution.proofs.substitute_in_combinator.Reads as reads
 use Rattle.substitution.proofs.substitute_in_combinator.Lts as lts
 use Rattle.substitution.proofs.calls_name.Reads as calls-name-reads
 use Rattle.writer.proofs.put_bytes.Reads as put-bytes-reads
-use Rattle.writer.proofs.put_part.Reads as put-part-reads
 
 abbrev Inv-loop : tie.InvT-loop
-Inv-loop s from to marks param arg dst₀ at₀ o₀ i₀ dst at o i = Copied s param arg to marks from dst₀ dst at o i
+Inv-loop areas₀ to marks param arg at₀ o₀ i₀ areas at o i = Copied param arg to marks areas₀ areas at o i
 
 abbrev μ-loop : tie.MeasureT-loop
-μ-loop s from to marks param arg dst₀ at₀ o₀ i₀ dst at o i = length marks - i
+μ-loop areas₀ to marks param arg at₀ o₀ i₀ areas at o i = length marks - i
 
 loop-holds : tie.Need-loop-holds Inv-loop μ-loop
-loop-holds c = copied-none _ _ _ _ _ _ _
+loop-holds c = copied-none _ _ _ _ _
 
 add-loop : tie.Need-add-loop Inv-loop μ-loop
 add-loop c = search needs
@@ -34,7 +33,7 @@ shared-slice-read-call : tie.Need-shared-slice-read-call Inv-loop μ-loop
 shared-slice-read-call c = search needs
 
 cast-call : tie.Need-cast-call Inv-loop μ-loop
-cast-call c = omega (arith, c .shared-slice-known5 .given (c .before .before .loop .i))
+cast-call c = omega (arith, c .shared-slice-known4 .given (c .before .before .loop .i))
 
 add-end : tie.Need-add-end Inv-loop μ-loop
 add-end c = search needs
@@ -46,16 +45,19 @@ shared-slice-read-end : tie.Need-shared-slice-read-end Inv-loop μ-loop
 shared-slice-read-end c = search needs
 
 cast-end : tie.Need-cast-end Inv-loop μ-loop
-cast-end c = omega (arith, c .shared-slice-known6 .given (c .before .before .before .loop .i + 1))
+cast-end c = omega (arith, c .shared-slice-known5 .given (c .before .before .before .loop .i + 1))
 
 add-i : tie.Need-add-i Inv-loop μ-loop
 add-i c = search needs
 
+first-area-requires : tie.Need-first-area-requires Inv-loop μ-loop
+first-area-requires c κs = search needs
+
 calls-name-requires : tie.Need-calls-name-requires Inv-loop μ-loop
 calls-name-requires c κs = search needs
 
-put-part-requires : tie.Need-put-part-requires Inv-loop μ-loop
-put-part-requires c κs = search needs
+put-across-requires : tie.Need-put-across-requires Inv-loop μ-loop
+put-across-requires c κs = search needs
 
 put-bytes-requires : tie.Need-put-bytes-requires Inv-loop μ-loop
 put-bytes-requires c κs = search needs
@@ -64,22 +66,22 @@ loop-less : tie.Need-loop-less Inv-loop μ-loop
 loop-less c = search needs
 
 loop-again : tie.Need-loop-again Inv-loop μ-loop
-loop-again c = copied-call _ _ _ _ _ _ _ (c .before .before .before .before .before .before .before .before .before .before .before .before .before .loop .inv) (c .before .before .before .before .before .before .before .before .before .before .before .before .loop-test .taken) (sym (c .before .before .before .before .before .before .before .before .before .calls-name .ensures) ∙ c .before .before .before .before .before .before .before .before .if1 .taken) (c .before .before .before .before .before .before .put-part .ensures) (c .before .before .put-bytes .ensures)
+loop-again c = copied-call _ _ _ _ _ (c .before .before .before .before .before .before .before .before .before .before .before .before .before .before .before .loop .inv) (c .before .before .before .before .before .before .before .before .before .before .before .before .before .before .loop-test .taken) (sym (c .before .before .before .before .before .before .before .before .before .calls-name .ensures ∙ rw (c .before .before .before .before .before .before .before .before .before .before .first-area .ensures)) ∙ c .before .before .before .before .before .before .before .before .if1 .taken) (c .before .before .before .before .before .before .put-across .ensures) (c .before .before .put-bytes .ensures)
 
 loop-less-2 : tie.Need-loop-less-2 Inv-loop μ-loop
 loop-less-2 c = search needs
 
 loop-again-2 : tie.Need-loop-again-2 Inv-loop μ-loop
-loop-again-2 c = copied-other _ _ _ _ _ _ _ (c .before .before .before .before .before .loop .inv) (c .before .before .before .before .loop-test .taken) (sym (c .before .calls-name .ensures) ∙ c .if1 .left)
+loop-again-2 c = copied-other _ _ _ _ _ (c .before .before .before .before .before .before .before .loop .inv) (c .before .before .before .before .before .before .loop-test .taken) (sym (c .before .calls-name .ensures ∙ rw (c .before .before .first-area .ensures)) ∙ c .if1 .left)
 
-put-part-requires-2 : tie.Need-put-part-requires-2 Inv-loop μ-loop
-put-part-requires-2 c κs = search needs
+put-across-requires-2 : tie.Need-put-across-requires-2 Inv-loop μ-loop
+put-across-requires-2 c κs = search needs
 
 same-length : tie.Need-same-length Inv-loop μ-loop
-same-length c = wrote.same-length (c .before .before .put-part2 .ensures) ∙ c .before .before .before .before .before .loop .inv .long
+same-length c = wrote.same-length (c .before .before .put-across2 .ensures) ∙ c .before .before .before .before .before .loop .inv .long
 
 returns : tie.Need-returns Inv-loop μ-loop
-returns c = copied-all _ _ _ _ _ _ _ (c .before .before .before .before .before .loop .inv) (omega arith) (c .before .before .put-part2 .ensures)
+returns c = copied-all _ _ _ _ _ (c .before .before .before .before .before .loop .inv) (omega arith) (c .before .before .put-across2 .ensures)
 
 pub substitute-in-combinator-spec : {M : Type 1} → statement M
 substitute-in-combinator-spec =
@@ -97,13 +99,14 @@ substitute-in-combinator-spec =
     shared-slice-read-end
     cast-end
     add-i
+    first-area-requires
     calls-name-requires
-    put-part-requires
+    put-across-requires
     put-bytes-requires
     loop-less
     loop-again
     loop-less-2
     loop-again-2
-    put-part-requires-2
+    put-across-requires-2
     same-length
     returns)

@@ -14,7 +14,6 @@ use Rattle.substitution.proofs.between.Reads as between-reads
 use Rattle.marks.proofs.first_marks.Reads as first-marks-reads
 use Rattle.substitution.proofs.substitute_in_combinator.Reads as substitute-in-combinator-reads
 use Rattle.seek.proofs.name_past.Reads as name-past-reads
-use Rattle.writer.proofs.put_part.Reads as put-part-reads
 
 skip-over-requires : tie.Need-skip-over-requires
 skip-over-requires c κs = search needs
@@ -40,16 +39,16 @@ same-length c = search needs
 same-length-2 : tie.Need-same-length-2
 same-length-2 c = search needs
 
-same-length-3 : tie.Need-same-length-3
-same-length-3 c = search needs
-
 returns : tie.Need-returns
 returns c =
     let w = c .before .before .before .before .substitute-in-combinator .ensures in
-    turned-cut _ _ _ (c .before .before .before .before .before .before .before .before .before .before .before .before .before .skip-over .ensures .0) (c .before .before .before .before .before .before .before .before .before .before .before .before .before .skip-over .ensures .1) (c .before .before .before .before .before .before .before .name-at .ensures) (c .before .before .before .before .before .before .between .ensures) (c .before .before .before .before .before .before .before .before .first-marks .ensures) w (omega (arith, wrote.same-length w)) _ _ _ (c .stopped .ensures)
+    turned-cut _ _ _ (c .before .before .before .before .before .before .before .before .before .before .before .before .skip-over .ensures .0) (c .before .before .before .before .before .before .before .before .before .before .before .before .skip-over .ensures .1) (c .before .before .before .before .before .before .name-at .ensures) (c .before .before .before .before .before .between .ensures) (c .before .before .before .before .before .before .before .first-marks .ensures) w (omega (arith, wrote.same-length w)) _ _ _ (c .stopped .ensures)
 
-put-part-requires : tie.Need-put-part-requires
-put-part-requires c κs = search needs
+put-back-requires : tie.Need-put-back-requires
+put-back-requires c κs = search needs
+
+first-area-requires : tie.Need-first-area-requires
+first-area-requires c κs = search needs
 
 walk-over-requires : tie.Need-walk-over-requires
 walk-over-requires c κs = search needs
@@ -57,19 +56,16 @@ walk-over-requires c κs = search needs
 name-past-requires : tie.Need-name-past-requires
 name-past-requires c κs = search needs
 
+same-length-3 : tie.Need-same-length-3
+same-length-3 c = search needs
+
 same-length-4 : tie.Need-same-length-4
 same-length-4 c = search needs
-
-same-length-5 : tie.Need-same-length-5
-same-length-5 c = search needs
-
-same-length-6 : tie.Need-same-length-6
-same-length-6 c = c .before .before .marks2 .given ∙ c .before .before .before .before .before .before .before .before .before .before .before .before .before .before .before .before .before .before .before .before .before .before .marks .given
 
 returns-2 : tie.Need-returns-2
 returns-2 c =
     let w = c .before .before .before .before .before .before .before .before .before .before .before .before .before .before .substitute-in-combinator .ensures in
-    turned-whole _ _ _ (c .before .before .before .before .before .before .before .before .before .before .before .before .before .before .before .before .before .before .before .before .before .before .before .skip-over .ensures .0) (c .before .before .before .before .before .before .before .before .before .before .before .before .before .before .before .before .before .before .before .before .before .before .before .skip-over .ensures .1) (c .before .before .before .before .before .before .before .before .before .before .before .before .before .before .before .before .before .name-at .ensures) (c .before .before .before .before .before .before .before .before .before .before .before .before .before .before .before .before .between .ensures) (c .before .before .before .before .before .before .before .before .before .before .before .before .before .before .before .before .before .before .first-marks .ensures) w (omega (arith, wrote.same-length w)) (c .before .before .before .before .before .before .before .before .put-part .ensures) _ (c .before .before .before .walk-over .ensures .0) (c .before .before .before .walk-over .ensures .1) _ (c .name-past .ensures) refl refl refl refl
+    turned-whole _ _ _ (c .before .before .before .before .before .before .before .before .before .before .before .before .before .before .before .before .before .before .before .before .before .before .skip-over .ensures .0) (c .before .before .before .before .before .before .before .before .before .before .before .before .before .before .before .before .before .before .before .before .before .before .skip-over .ensures .1) (c .before .before .before .before .before .before .before .before .before .before .before .before .before .before .before .before .name-at .ensures) (c .before .before .before .before .before .before .before .before .before .before .before .before .before .before .before .between .ensures) (c .before .before .before .before .before .before .before .before .before .before .before .before .before .before .before .before .before .first-marks .ensures) w (omega (arith, wrote.same-length w)) (c .before .before .before .before .before .before .before .before .before .put-back .ensures) _ (c .before .before .before .walk-over .ensures .0 ∙ rw (c .before .before .before .before .before .first-area .ensures)) (c .before .before .before .walk-over .ensures .1 ∙ rw (c .before .before .before .before .before .first-area .ensures)) _ (c .name-past .ensures) refl refl refl refl
 
 pub substitute-next-spec : {M : Type 1} → statement M
 substitute-next-spec =
@@ -83,12 +79,11 @@ substitute-next-spec =
     stopped-requires
     same-length
     same-length-2
-    same-length-3
     returns
-    put-part-requires
+    put-back-requires
+    first-area-requires
     walk-over-requires
     name-past-requires
+    same-length-3
     same-length-4
-    same-length-5
-    same-length-6
     returns-2)

@@ -16,11 +16,11 @@ use Rattle.seek.proofs.number.Reads as number-reads
 use Rattle.seek.proofs.past.Reads as past-reads
 
 abbrev Inv-loop : tie.InvT-loop
-Inv-loop macros places hashes rows book a₀ b₀ marks₀ row₀ out₀ bodies left₀ entry₀ at₀ e₀ o₀ a b marks row out left entry at e o =
-    Going macros places hashes rows book a₀ b₀ marks₀ row₀ out₀ entry₀ at₀ left₀ e₀ o₀ a b marks row out entry at left e o
+Inv-loop macros places hashes rows book areas₀ marks₀ row₀ out₀ bodies left₀ entry₀ at₀ e₀ o₀ areas marks row out left entry at e o =
+    Going macros places hashes rows book areas₀ marks₀ row₀ out₀ entry₀ at₀ left₀ e₀ o₀ areas marks row out entry at left e o
 
 abbrev μ-loop : tie.MeasureT-loop
-μ-loop macros places hashes rows book a₀ b₀ marks₀ row₀ out₀ bodies left₀ entry₀ at₀ e₀ o₀ a b marks row out left entry at e o =
+μ-loop macros places hashes rows book areas₀ marks₀ row₀ out₀ bodies left₀ entry₀ at₀ e₀ o₀ areas marks row out left entry at e o =
     left
 
 number-requires : tie.Need-number-requires Inv-loop μ-loop
@@ -39,7 +39,7 @@ past-requires-2 : tie.Need-past-requires-2 Inv-loop μ-loop
 past-requires-2 c κs = search needs
 
 loop-holds : tie.Need-loop-holds Inv-loop μ-loop
-loop-holds c = record { a-long = refl; b-long = refl; marks-long = refl; row-long = refl; out-long = refl; goes = λ d r l. l }
+loop-holds c = record { areas-long = refl; marks-long = refl; row-long = refl; out-long = refl; goes = λ d r l. l }
 
 byte-requires : tie.Need-byte-requires Inv-loop μ-loop
 byte-requires c κs = search needs
@@ -69,8 +69,7 @@ loop-again : tie.Need-loop-again Inv-loop μ-loop
 loop-again c =
     let l = c .before .before .before .before .before .before .before .loop .inv in
     record {
-      a-long = l .a-long;
-      b-long = l .b-long;
+      areas-long = l .areas-long;
       marks-long = l .marks-long;
       row-long = l .row-long;
       out-long = l .out-long;
@@ -81,25 +80,22 @@ expand-definition-requires : tie.Need-expand-definition-requires Inv-loop μ-loo
 expand-definition-requires c κs = search needs
 
 same-length : tie.Need-same-length Inv-loop μ-loop
-same-length c = c .before .before .before .before .before .before .before .before .before .before .a .given ∙ c .before .before .before .before .before .before .before .before .before .before .before .before .before .before .before .before .before .before .before .before .before .before .before .before .loop .inv .a-long
+same-length c = c .before .before .before .before .before .before .before .before .areas .given ∙ c .before .before .before .before .before .before .before .before .before .before .before .before .before .before .before .before .before .before .before .before .before .loop .inv .areas-long
 
 same-length-2 : tie.Need-same-length-2 Inv-loop μ-loop
-same-length-2 c = c .before .before .before .before .before .before .before .before .b .given ∙ c .before .before .before .before .before .before .before .before .before .before .before .before .before .before .before .before .before .before .before .before .before .before .before .before .loop .inv .b-long
+same-length-2 c = c .before .before .before .before .before .before .marks .given ∙ c .before .before .before .before .before .before .before .before .before .before .before .before .before .before .before .before .before .before .before .before .before .loop .inv .marks-long
 
 same-length-3 : tie.Need-same-length-3 Inv-loop μ-loop
-same-length-3 c = c .before .before .before .before .before .before .marks .given ∙ c .before .before .before .before .before .before .before .before .before .before .before .before .before .before .before .before .before .before .before .before .before .before .before .before .loop .inv .marks-long
+same-length-3 c = c .before .before .before .before .row .given ∙ c .before .before .before .before .before .before .before .before .before .before .before .before .before .before .before .before .before .before .before .before .before .loop .inv .row-long
 
 same-length-4 : tie.Need-same-length-4 Inv-loop μ-loop
-same-length-4 c = c .before .before .before .before .row .given ∙ c .before .before .before .before .before .before .before .before .before .before .before .before .before .before .before .before .before .before .before .before .before .before .before .before .loop .inv .row-long
-
-same-length-5 : tie.Need-same-length-5 Inv-loop μ-loop
-same-length-5 c = c .before .before .out .given ∙ c .before .before .before .before .before .before .before .before .before .before .before .before .before .before .before .before .before .before .before .before .before .before .before .before .loop .inv .out-long
+same-length-4 c = c .before .before .out .given ∙ c .before .before .before .before .before .before .before .before .before .before .before .before .before .before .before .before .before .before .before .before .before .loop .inv .out-long
 
 returns : tie.Need-returns Inv-loop μ-loop
 returns c =
-    booked (c .before .before .before .before .before .before .before .before .before .before .before .before .before .before .before .before .before .before .before .before .before .before .before .before .before .before .before .number .ensures) (c .before .before .before .before .before .before .before .before .before .before .before .before .before .before .before .before .before .before .before .before .before .before .before .before .before .before .past .ensures) (c .before .before .before .before .before .before .before .before .before .before .before .before .before .before .before .before .before .before .before .before .before .before .before .before .before .past2 .ensures)
-    (c .before .before .before .before .before .before .before .before .before .before .before .before .before .before .before .before .before .before .before .before .before .before .before .before .loop .inv .goes _ _
-    (listing-stop (c .before .before .before .before .before .before .before .before .before .before .before .before .before .before .before .before .before .before .before .before .before .before .before .loop-test .taken) (c .before .before .before .before .before .before .before .before .before .before .before .before .before .before .before .before .before .before .before .before .before .before .byte .ensures) (c .before .before .before .before .before .before .before .before .before .before .before .before .before .before .before .before .before .before .before .before .number2 .ensures ∙ rw (c .before .before .before .before .before .before .before .before .before .before .before .before .before .before .before .before .before .before .before .before .before .past3 .ensures)) (c .before .before .before .before .before .before .before .before .before .before .before .before .before .before .before .before .before .before .before .past4 .ensures) (c .before .before .before .before .before .before .before .before .before .before .before .before .before .before .before .before .before .before .past5 .ensures) (c .before .before .before .before .before .before .before .before .before .before .before .before .before .before .before .before .before .if1 .left) (c .before .before .before .before .before .before .before .before .before .before .before .expand-definition .ensures) (c .before .before .out .given) (c .if2 .taken)))
+    booked (c .before .before .before .before .before .before .before .before .before .before .before .before .before .before .before .before .before .before .before .before .before .before .before .before .number .ensures) (c .before .before .before .before .before .before .before .before .before .before .before .before .before .before .before .before .before .before .before .before .before .before .before .past .ensures) (c .before .before .before .before .before .before .before .before .before .before .before .before .before .before .before .before .before .before .before .before .before .before .past2 .ensures)
+    (c .before .before .before .before .before .before .before .before .before .before .before .before .before .before .before .before .before .before .before .before .before .loop .inv .goes _ _
+    (listing-stop (c .before .before .before .before .before .before .before .before .before .before .before .before .before .before .before .before .before .before .before .before .loop-test .taken) (c .before .before .before .before .before .before .before .before .before .before .before .before .before .before .before .before .before .before .before .byte .ensures) (c .before .before .before .before .before .before .before .before .before .before .before .before .before .before .before .before .before .number2 .ensures ∙ rw (c .before .before .before .before .before .before .before .before .before .before .before .before .before .before .before .before .before .before .past3 .ensures)) (c .before .before .before .before .before .before .before .before .before .before .before .before .before .before .before .before .past4 .ensures) (c .before .before .before .before .before .before .before .before .before .before .before .before .before .before .before .past5 .ensures) (c .before .before .before .before .before .before .before .before .before .before .before .before .before .before .if1 .left) (c .before .before .before .before .before .before .before .before .before .expand-definition .ensures) (c .before .before .out .given) (c .if2 .taken)))
 
 minus-requires : tie.Need-minus-requires Inv-loop μ-loop
 minus-requires c κs = search needs
@@ -108,36 +104,32 @@ put-entry-requires : tie.Need-put-entry-requires Inv-loop μ-loop
 put-entry-requires c κs = search needs
 
 loop-less-2 : tie.Need-loop-less-2 Inv-loop μ-loop
-loop-less-2 c = omega (arith, c .before .before .before .before .before .before .before .before .before .before .before .before .before .before .before .before .before .before .before .before .before .before .before .before .before .before .before .before .loop-test .taken)
+loop-less-2 c = omega (arith, c .before .before .before .before .before .before .before .before .before .before .before .before .before .before .before .before .before .before .before .before .before .before .before .before .before .loop-test .taken)
 
 loop-again-2 : tie.Need-loop-again-2 Inv-loop μ-loop
 loop-again-2 c =
-    let l = c .before .before .before .before .before .before .before .before .before .before .before .before .before .before .before .before .before .before .before .before .before .before .before .before .before .before .before .before .before .loop .inv in
+    let l = c .before .before .before .before .before .before .before .before .before .before .before .before .before .before .before .before .before .before .before .before .before .before .before .before .before .before .loop .inv in
     record {
-      a-long = c .before .before .before .before .before .before .before .before .before .before .before .before .before .before .before .a .given ∙ l .a-long;
-      b-long = c .before .before .before .before .before .before .before .before .before .before .before .before .before .b .given ∙ l .b-long;
+      areas-long = c .before .before .before .before .before .before .before .before .before .before .before .before .before .areas .given ∙ l .areas-long;
       marks-long = c .before .before .before .before .before .before .before .before .before .before .before .marks .given ∙ l .marks-long;
       row-long = c .before .before .before .before .before .before .before .before .before .row .given ∙ l .row-long;
       out-long = c .before .out2 .given ∙ c .before .before .before .before .before .before .before .out .given ∙ l .out-long;
       goes = λ d r x. l .goes d r
-          (listing-step (c .before .before .before .before .before .before .before .before .before .before .before .before .before .before .before .before .before .before .before .before .before .before .before .before .before .before .before .before .loop-test .taken) (c .before .before .before .before .before .before .before .before .before .before .before .before .before .before .before .before .before .before .before .before .before .before .before .before .before .before .before .byte .ensures) (c .before .before .before .before .before .before .before .before .before .before .before .before .before .before .before .before .before .before .before .before .before .before .before .before .before .number2 .ensures ∙ rw (c .before .before .before .before .before .before .before .before .before .before .before .before .before .before .before .before .before .before .before .before .before .before .before .before .before .before .past3 .ensures)) (c .before .before .before .before .before .before .before .before .before .before .before .before .before .before .before .before .before .before .before .before .before .before .before .before .past4 .ensures) (c .before .before .before .before .before .before .before .before .before .before .before .before .before .before .before .before .before .before .before .before .before .before .before .past5 .ensures) (c .before .before .before .before .before .before .before .before .before .before .before .before .before .before .before .before .before .before .before .before .before .before .if1 .left) (c .before .before .before .before .before .before .before .before .before .before .before .before .before .before .before .before .expand-definition .ensures) (c .before .before .before .before .before .before .before .out .given)
-          (c .before .before .before .before .before .if2 .left) (c .before .before .before .before .minus .ensures) (c .before .before .put-entry .ensures) (c .before .before .before .before .before .before .before .before .before .before .before .before .before .before .before .a .given) (c .before .before .before .before .before .before .before .before .before .before .before .before .before .b .given) (c .before .before .before .before .before .before .before .before .before .before .before .marks .given) (c .before .before .before .before .before .before .before .before .before .row .given) x);
+          (listing-step (c .before .before .before .before .before .before .before .before .before .before .before .before .before .before .before .before .before .before .before .before .before .before .before .before .before .loop-test .taken) (c .before .before .before .before .before .before .before .before .before .before .before .before .before .before .before .before .before .before .before .before .before .before .before .before .byte .ensures) (c .before .before .before .before .before .before .before .before .before .before .before .before .before .before .before .before .before .before .before .before .before .before .number2 .ensures ∙ rw (c .before .before .before .before .before .before .before .before .before .before .before .before .before .before .before .before .before .before .before .before .before .before .before .past3 .ensures)) (c .before .before .before .before .before .before .before .before .before .before .before .before .before .before .before .before .before .before .before .before .before .past4 .ensures) (c .before .before .before .before .before .before .before .before .before .before .before .before .before .before .before .before .before .before .before .before .past5 .ensures) (c .before .before .before .before .before .before .before .before .before .before .before .before .before .before .before .before .before .before .before .if1 .left) (c .before .before .before .before .before .before .before .before .before .before .before .before .before .before .expand-definition .ensures) (c .before .before .before .before .before .before .before .out .given)
+          (c .before .before .before .before .before .if2 .left) (c .before .before .before .before .minus .ensures) (c .before .before .put-entry .ensures) (c .before .before .before .before .before .before .before .before .before .before .before .before .before .areas .given) (c .before .before .before .before .before .before .before .before .before .before .before .marks .given) (c .before .before .before .before .before .before .before .before .before .row .given) x);
     }
 
+same-length-5 : tie.Need-same-length-5 Inv-loop μ-loop
+same-length-5 c = c .before .loop .inv .areas-long
+
 same-length-6 : tie.Need-same-length-6 Inv-loop μ-loop
-same-length-6 c = c .before .loop .inv .a-long
+same-length-6 c = c .before .loop .inv .marks-long
 
 same-length-7 : tie.Need-same-length-7 Inv-loop μ-loop
-same-length-7 c = c .before .loop .inv .b-long
+same-length-7 c = c .before .loop .inv .row-long
 
 same-length-8 : tie.Need-same-length-8 Inv-loop μ-loop
-same-length-8 c = c .before .loop .inv .marks-long
-
-same-length-9 : tie.Need-same-length-9 Inv-loop μ-loop
-same-length-9 c = c .before .loop .inv .row-long
-
-same-length-10 : tie.Need-same-length-10 Inv-loop μ-loop
-same-length-10 c = c .before .loop .inv .out-long
+same-length-8 c = c .before .loop .inv .out-long
 
 returns-2 : tie.Need-returns-2 Inv-loop μ-loop
 returns-2 c = booked (c .before .before .before .before .number .ensures) (c .before .before .before .past .ensures) (c .before .before .past2 .ensures) (c .before .loop .inv .goes _ _ (listing-none (omega arith)))
@@ -168,15 +160,13 @@ expand-all-spec =
     same-length-2
     same-length-3
     same-length-4
-    same-length-5
     returns
     minus-requires
     put-entry-requires
     loop-less-2
     loop-again-2
+    same-length-5
     same-length-6
     same-length-7
     same-length-8
-    same-length-9
-    same-length-10
     returns-2)

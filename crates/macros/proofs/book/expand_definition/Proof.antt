@@ -25,11 +25,8 @@ same-length-3 c = search needs
 same-length-4 : tie.Need-same-length-4
 same-length-4 c = search needs
 
-same-length-5 : tie.Need-same-length-5
-same-length-5 c = search needs
-
 returns : tie.Need-returns
-returns c = kept-format (c .before .before .before .before .before .before .before .before .before .before .before .before .before .before .before .before .if1 .taken) (c .before .before .before .before .before .before .before .before .before .before .expand-format .ensures)
+returns c = kept-format (c .before .before .before .before .before .before .before .before .before .before .before .before .before .if1 .taken) (c .before .before .before .before .before .before .before .before .expand-format .ensures)
 
 past-requires : tie.Need-past-requires
 past-requires c κs = search needs
@@ -37,8 +34,8 @@ past-requires c κs = search needs
 put-part-requires : tie.Need-put-part-requires
 put-part-requires c κs = search needs
 
-same-length-6 : tie.Need-same-length-6
-same-length-6 c = search needs
+same-length-5 : tie.Need-same-length-5
+same-length-5 c = search needs
 
 returns-2 : tie.Need-returns-2
 returns-2 c = kept-copied (c .before .before .before .before .before .if1 .left) (c .before .before .before .before .past .ensures) (c .before .before .put-part .ensures)
@@ -52,9 +49,8 @@ expand-definition-spec =
     same-length-2
     same-length-3
     same-length-4
-    same-length-5
     returns
     past-requires
     put-part-requires
-    same-length-6
+    same-length-5
     returns-2)

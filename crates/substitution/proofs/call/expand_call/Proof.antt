@@ -22,14 +22,20 @@ pairs-requires c κs = search needs
 instance-requires : tie.Need-instance-requires
 instance-requires c κs = search needs
 
+first-area-requires : tie.Need-first-area-requires
+first-area-requires c κs = search needs
+
 skip-over-requires : tie.Need-skip-over-requires
 skip-over-requires c κs = search needs
+
+first-area-requires-2 : tie.Need-first-area-requires-2
+first-area-requires-2 c κs = search needs
 
 put-part-requires : tie.Need-put-part-requires
 put-part-requires c κs = search needs
 
 same-length : tie.Need-same-length
-same-length c = c .before .before .before .before .before .before .before .before .before .before .before .before .before .before .before .before .a2 .given ∙ c .before .before .before .before .before .before .before .before .before .before .before .before .before .before .before .before .before .before .before .before .before .before .before .before .before .a .given
+same-length c = c .before .before .before .before .before .before .before .before .before .before .before .before .before .before .before .before .areas2 .given ∙ c .before .before .before .before .before .before .before .before .before .before .before .before .before .before .before .before .before .before .before .before .before .before .before .before .areas .given
 
 same-length-2 : tie.Need-same-length-2
 same-length-2 c = search needs
@@ -37,26 +43,20 @@ same-length-2 c = search needs
 same-length-3 : tie.Need-same-length-3
 same-length-3 c = search needs
 
-same-length-4 : tie.Need-same-length-4
-same-length-4 c = search needs
-
 returns : tie.Need-returns
-returns c = called-done (c .before .before .before .before .before .before .before .before .before .before .before .before .before .before .before .before .before .before .before .before .before .before .before .before .before .before .opened .ensures) (c .before .before .before .before .before .before .before .before .before .before .before .before .before .before .before .before .before .before .before .before .before .before .before .before .before .a .given) (c .before .before .before .before .before .before .before .before .before .before .before .before .before .before .before .before .before .before .before .before .before .before .before .marks .given) (c .before .before .before .before .before .before .before .before .before .before .before .before .before .before .before .before .before .before .before .before .before .pairs .ensures) (c .before .before .before .before .before .before .before .before .before .before .before .before .before .before .before .before .before .instance .ensures) (c .before .before .before .before .before .before .before .before .before .before .if1 .taken) (c .before .before .before .before .before .before .before .before .before .before .before .before .before .before .before .before .a2 .given) _ (c .before .before .before .before .before .before .before .skip-over .ensures .0) (c .before .before .put-part .ensures)
+returns c = called-done (c .before .before .before .before .before .before .before .before .before .before .before .before .before .before .before .before .before .before .before .before .before .before .before .before .before .opened .ensures) (c .before .before .before .before .before .before .before .before .before .before .before .before .before .before .before .before .before .before .before .before .before .before .before .before .areas .given) (c .before .before .before .before .before .before .before .before .before .before .before .before .before .before .before .before .before .before .before .before .before .before .marks .given) (c .before .before .before .before .before .before .before .before .before .before .before .before .before .before .before .before .before .before .before .before .pairs .ensures) (c .before .before .before .before .before .before .before .before .before .before .before .before .before .before .before .before .before .instance .ensures) (c .before .before .before .before .before .before .before .before .before .before .before .before .if1 .taken) (c .before .before .before .before .before .before .before .before .before .before .before .before .before .before .before .before .areas2 .given) _ (c .before .before .before .before .before .before .before .before .skip-over .ensures .0 ∙ rw (c .before .before .before .before .before .before .before .before .before .before .first-area .ensures)) (rw (c .before .before .before .before .first-area2 .ensures) at (c .before .before .put-part .ensures))
 
 add-result : tie.Need-add-result
-add-result c = let g = c .before .before .before .before .before .before .before .before .before .before .before .before .before .before .before .before .before .before .before .before .before .before .before .before .before .good in omega arith
+add-result c = let g = c .before .before .before .before .before .before .before .before .before .before .before .before .before .before .before .before .before .before .before .before .before .good in omega arith
+
+same-length-4 : tie.Need-same-length-4
+same-length-4 c = search needs
 
 same-length-5 : tie.Need-same-length-5
 same-length-5 c = search needs
 
-same-length-6 : tie.Need-same-length-6
-same-length-6 c = search needs
-
-same-length-7 : tie.Need-same-length-7
-same-length-7 c = search needs
-
 returns-2 : tie.Need-returns-2
-returns-2 c = called-grown (c .before .before .before .before .before .before .before .before .before .before .before .before .before .before .before .before .opened .ensures) (c .before .before .before .before .before .before .before .before .before .before .before .before .before .before .before .a .given) (c .before .before .before .before .before .before .before .before .before .before .before .before .before .marks .given) (c .before .before .before .before .before .before .before .before .before .before .before .pairs .ensures) (c .before .before .before .before .before .before .before .instance .ensures) (c .if1 .left) (omega arith)
+returns-2 c = called-grown (c .before .before .before .before .before .before .before .before .before .before .before .before .before .opened .ensures) (c .before .before .before .before .before .before .before .before .before .before .before .before .areas .given) (c .before .before .before .before .before .before .before .before .before .before .marks .given) (c .before .before .before .before .before .before .before .before .pairs .ensures) (c .before .before .before .before .before .instance .ensures) (c .if1 .left) (omega arith)
 
 pub expand-call-spec : {M : Type 1} → statement M
 expand-call-spec =
@@ -65,15 +65,15 @@ expand-call-spec =
     opened-requires
     pairs-requires
     instance-requires
+    first-area-requires
     skip-over-requires
+    first-area-requires-2
     put-part-requires
     same-length
     same-length-2
     same-length-3
-    same-length-4
     returns
     add-result
+    same-length-4
     same-length-5
-    same-length-6
-    same-length-7
     returns-2)

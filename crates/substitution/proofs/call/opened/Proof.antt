@@ -1,6 +1,6 @@
 -- `substitution::call/opened` meets its contract.
 -- Assumes nothing.
-use mathlib.Core.Path.{refl}
+use mathlib.Core.Path.{refl, _∙_}
 use Rattle.substitution.proofs.Opening as opening
 use borrow.Author.Needs.{needs}
 use Rattle.substitution.proofs.call.opened.Statement.{statement}
@@ -31,6 +31,9 @@ walk-over-requires c κs = search needs
 put-part-requires : tie.Need-put-part-requires
 put-part-requires c κs = search needs
 
+first-area-requires : tie.Need-first-area-requires
+first-area-requires c κs = search needs
+
 walk-over-requires-2 : tie.Need-walk-over-requires-2
 walk-over-requires-2 c κs = search needs
 
@@ -51,8 +54,8 @@ same-length-2 c = search needs
 
 returns : tie.Need-returns
 returns c =
-    opening.opened (c .before .before .before .before .before .before .before .before .before .before .before .before .before .before .before .before .before .before .before .name-past .ensures) (c .before .before .before .before .before .before .before .before .before .before .before .before .before .before .before .before .before .before .number .ensures) (c .before .before .before .before .before .before .before .before .before .before .before .before .before .before .before .before .before .past .ensures) (c .before .before .before .before .before .before .before .before .before .before .before .before .before .before .before .before .names-past .ensures) (c .before .before .past2 .ensures) (c .before .name-past2 .ensures) (c .past3 .ensures)
-    _ (c .before .before .before .before .before .before .before .before .before .before .before .before .before .before .walk-over .ensures .0) (c .before .before .before .before .before .before .before .before .before .before .before .before .before .before .walk-over .ensures .1) (c .before .before .before .before .before .before .before .before .before .before .put-part .ensures) _ (c .before .before .before .before .before .walk-over2 .ensures .0) (c .before .before .before .before .before .walk-over2 .ensures .1) _ refl refl refl refl refl
+    opening.opened (c .before .before .before .before .before .before .before .before .before .before .before .before .before .before .before .before .before .before .before .before .name-past .ensures) (c .before .before .before .before .before .before .before .before .before .before .before .before .before .before .before .before .before .before .before .number .ensures) (c .before .before .before .before .before .before .before .before .before .before .before .before .before .before .before .before .before .before .past .ensures) (c .before .before .before .before .before .before .before .before .before .before .before .before .before .before .before .before .before .names-past .ensures) (c .before .before .past2 .ensures) (c .before .name-past2 .ensures) (c .past3 .ensures)
+    _ (c .before .before .before .before .before .before .before .before .before .before .before .before .before .before .before .walk-over .ensures .0) (c .before .before .before .before .before .before .before .before .before .before .before .before .before .before .before .walk-over .ensures .1) (c .before .before .before .before .before .before .before .before .before .before .before .put-part .ensures) _ (c .before .before .before .before .before .walk-over2 .ensures .0 ∙ rw (c .before .before .before .before .before .before .before .first-area .ensures)) (c .before .before .before .before .before .walk-over2 .ensures .1 ∙ rw (c .before .before .before .before .before .before .before .first-area .ensures)) _ refl refl refl refl refl
 
 pub opened-spec : {M : Type 1} → statement M
 opened-spec =
@@ -64,6 +67,7 @@ opened-spec =
     names-past-requires
     walk-over-requires
     put-part-requires
+    first-area-requires
     walk-over-requires-2
     past-requires-2
     name-past-requires-2
