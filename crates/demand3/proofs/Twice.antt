@@ -13,12 +13,13 @@ use Rattle.definition.specs.Contents.{book}
 use Rattle.definition.specs.Write.{wBook}
 use Rattle.definition.specs.Size.{sizeBook, levelsBook}
 use Rattle.definition.specs.Names.{child, segment, caseSegment, shellSegment}
-use Rattle.definition.specs.Macros.{Macro, macros, expandMacro, expand, expandI, expandF, expandC, expandAll, expandList, expandBook}
+use Rattle.definition.specs.Macros.{Macro, macros, expand, expandAll, expandList, expandBook}
 use Rattle.definition.specs.Collect.{anonymousLeaf, anonymous, anonymousI}
 use Rattle.definition.specs.Lift.{full, State, Walk, childBy, bind, walk, walkI, walkF, walkC, walkAll, start, liftBook}
 use Rattle.definition.specs.Answer.{Result, all, out, outcome, source, expanded, elaborated, answered, attempt, answer}
 use Rattle.laws.specs.Book.{Bytes, IsBook}
 use Rattle.laws.proofs.Steps.{yielded}
+use Rattle.laws.proofs.NoneKnown.{none-known}
 use Rattle.laws.proofs.Results.{written-is-read, elaborated-book}
 use Rattle.demand3.specs.Flat.{CalmLeaf, Calm, CalmI, CalmF, CalmC, Flat, FlatI, FlatAll}
 use Rattle.demand3.proofs.Demand3.{comes}
@@ -32,31 +33,6 @@ pub ends : (s : List ℕ) → Bytes s → (r : Result) → elaborated s ≡ done
 ends s h r e = record { book = yielded (elaborated-book s h) e; flat = yielded (comes s h) e .meets .flat }
 
 -- nothing is expanded in it
-mutual
-  unfolding expand expandMacro
-
-  same : (c : Combinator) → expand c [] ≡ done c
-  same (plain i) = rw (sameI i)
-  same (chained i c) = rw (same c, sameI i)
-
-  sameI : (i : Inner) → expandI i [] ≡ done i
-  sameI (leaf k x) = refl
-  sameI (struct f) = rw (sameF f)
-  sameI (choice s k f) = rw (sameC f)
-  sameI (shell x c) = rw (same c)
-  sameI (bytes l) = refl
-  sameI (invocation n a) = refl
-  sameI (macro-invocation n a) = refl
-
-  sameF : (f : Fields) → expandF f [] ≡ done f
-  sameF no-field = refl
-  sameF (field k l c f) = rw (same c, sameF f)
-  sameF (const l x f) = rw (sameF f)
-
-  sameC : (f : Cases) → expandC f [] ≡ done f
-  sameC no-case = refl
-  sameC (case l c f) = rw (same c, sameC f)
-
 no-macros : (ds : List Definition) (ms : List Macro) → FlatAll ds → macros ds ms ≡ ms
 unfolding macros
 no-macros [] ms h = refl
@@ -68,7 +44,7 @@ no-macros (macro n ps c ∷ ds) ms h = absurd h
 same-all : (ds : List Definition) → FlatAll ds → expandAll ds [] ≡ done ds
 unfolding expandAll
 same-all [] h = refl
-same-all (format n ps c ∷ ds) h = rw (same c, same-all ds (h .1))
+same-all (format n ps c ∷ ds) h = rw (none-known c, same-all ds (h .1))
 same-all (constant n x ∷ ds) h = rw (same-all ds h)
 same-all (byte-order x ∷ ds) h = rw (same-all ds h)
 same-all (macro n ps c ∷ ds) h = absurd h

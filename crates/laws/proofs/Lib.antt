@@ -22,6 +22,7 @@ pub mod Stopped
 pub mod WalkGood
 pub mod ExpandGood
 pub mod OnlySix
+pub mod NoneKnown
 pub mod Results
 pub mod Parameters
 pub mod Laws

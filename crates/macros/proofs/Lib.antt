@@ -1,3 +1,4 @@
 mod Format
 mod Leftover
+mod Plain
 mod Passing

@@ -28,6 +28,7 @@ use Rattle.macros.specs.Left.{keptOf, shallow, expandOne, andOne, shallo
 use Rattle.macros.specs.Pass.{pass, answerOf, leaves, Passed}
 use Rattle.contents.proofs.Listed.{entries-apart, entries-size}
 use Rattle.macros.proofs.Leftover.{kept-count}
+use Rattle.macros.proofs.Plain.{kept-few, size-length}
 
 abbrev tested : List Definition → Out (List Definition)
 tested es = given (leb (levelsBook es) 64) macro-growth es
@@ -112,10 +113,6 @@ book-size es =
     let E = wEntries (2 + 6 * length es) (map entryOf es) [] in
     ap length (book-apart es) ∙ simp length-append (omega (arith, entries-size (2 + 6 * length es) es))
 
-size-length : (es : List Definition) → sizeBook es ≡ length (wBook es)
-unfolding sizeBook
-size-length es = refl
-
 -- the count, the entries and the bodies make the book
 three-puts : (out U E B : List ℕ) (o : ℕ) → length U ≡ 2 → o ≡ 2 + length E → o + length B ≤ length out → put (put (put out 0 U) 2 E) o B ≡ ((U ++ E) ++ B) ++ drop (o + length B) out
 three-puts out U E B o u e h =
@@ -125,14 +122,6 @@ three-puts out U E B o u e h =
     let f : put out 0 ((U ++ E) ++ B) ≡ ((U ++ E) ++ B) ++ drop (0 + length ((U ++ E) ++ B)) out = put-fits out 0 ((U ++ E) ++ B) (omega arith) in
     ap (λ (k : ℕ). put (put (put out 0 U) k E) o B) a ∙ ap (λ (v : List ℕ). put v o B) (put-put out 0 U E) ∙ ap (λ (k : ℕ). put (put out 0 (U ++ E)) k B) b ∙ put-put out 0 (U ++ E) B ∙ f
     ∙ ap (λ (k : ℕ). ((U ++ E) ++ B) ++ drop k out) (sym l)
-
-kept-few : (ds : List Definition) → keptOf ds ≤ length ds
-unfolding keptOf
-kept-few [] = omega arith
-kept-few (format m ps c ∷ ds) = omega (arith, kept-few ds)
-kept-few (constant m x ∷ ds) = omega (arith, kept-few ds)
-kept-few (byte-order x ∷ ds) = omega (arith, kept-few ds)
-kept-few (macro m ps c ∷ ds) = omega (arith, kept-few ds)
 
 two : (n : ℕ) → length (wU16 n []) ≡ 2
 unfolding wU16

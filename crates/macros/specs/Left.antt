@@ -53,6 +53,10 @@ pub record Counting (book : List ℕ) (entry left n r : ℕ) : Type 0 where
 pub record KeptOf (book : List ℕ) (r : ℕ) : Type 0 where
   pub says : (ds : List Definition) → book ≡ wBook ds → IsBook ds → r ≡ keptOf ds
 
+-- a book whose definitions are all kept has no macros
+pub record Macroless (book : List ℕ) (r : Bool) : Type 0 where
+  pub says : r ≡ true → (ds : List Definition) → book ≡ wBook ds → IsBook ds → keptOf ds ≡ length ds
+
 -- what an expansion of the whole book needs
 pub record Whole (macros pl hs : List ℕ) (rows : ℕ) (book areas marks row out : List ℕ) (ms : List Macro) : Type 0 where
   pub sized : Areas macros book areas row

@@ -2,8 +2,11 @@
 mod book;
 
 use known::table;
+use seek::number;
 use writer::least;
+use writer::put_bytes;
 use writer::put_u16;
+ghost use Rattle.macros.specs.Left.{Macroless};
 ghost use Rattle.macros.specs.Pass.{Passed};
 
 // The length of the expanded book, or growth past a limit: code 6.
@@ -12,9 +15,16 @@ pub enum Expanded {
     Grown,
 }
 
-// One pass: the book with the calls of the macros that the other book defines expanded, and without macros of its own. It fills the first bytes
-// of out, which has 16,384; the areas, two in one, have 32,768.
-pub fn expand_macros(macros: &[u8], book: &[u8], areas: &mut [u8], out: &mut [u8]) -> Expanded
+// Whether no definition of a book is a macro.
+fn has_no_macros(book: &[u8]) -> bool
+    ensures { λ r. ⌜ Macroless (now (book .entry)) r ⌝ }
+{
+    let all = number(book, 0) as usize;
+    book::count_kept(book) == all
+}
+
+// A pass with the macros of the other book in a table, and the calls of each body marked.
+fn expand_marked(macros: &[u8], book: &[u8], areas: &mut [u8], out: &mut [u8]) -> Expanded
     ensures { λ r. ⌜ Passed (now (macros .entry)) (now (book .entry)) (now (areas .entry)) (now (out .entry)) (now (out .exit)) r ⌝ }
 {
     let mut places = [0u16; 512];
@@ -41,4 +51,18 @@ pub fn expand_macros(macros: &[u8], book: &[u8], areas: &mut [u8], out: &mut [u8
         return Expanded::Grown;
     }
     Expanded::Book { len: end }
+}
+
+// One pass: the book with the calls of the macros that the other book defines expanded, and without macros of its own. It fills the first bytes
+// of out, which has 16,384; the areas, two in one, have 32,768. Where neither book has a macro the book stays as it is.
+pub fn expand_macros(macros: &[u8], book: &[u8], areas: &mut [u8], out: &mut [u8]) -> Expanded
+    ensures { λ r. ⌜ Passed (now (macros .entry)) (now (book .entry)) (now (areas .entry)) (now (out .entry)) (now (out .exit)) r ⌝ }
+{
+    if has_no_macros(macros) {
+        if has_no_macros(book) {
+            put_bytes(book, out, 0);
+            return Expanded::Book { len: book.len() };
+        }
+    }
+    expand_marked(macros, book, areas, out)
 }

@@ -1,0 +1,73 @@
+-- A pass over a book without macros, with the macros of a book that has none: nothing is replaced and nothing removed.
+-- Assumes nothing.
+use mathlib.Core.Path.{_≡_, refl, sym, ap, _∙_}
+use mathlib.Core.List.{List, [], _∷_, _++_}
+use mathlib.Core.Bool.{Bool, true}
+use Prim.Native.Nat.{ℕ, _+_, _≤_}
+use native.Mathlib.Omega.{arith}
+use lib.Dec.{leb, eqb}
+use lib.ListN.{length, drop}
+use borrow.Author.Tests.{le-leb}
+use Rattle.definition.specs.Out.{done}
+use Rattle.definition.specs.Tree.{Definition, format, constant, byte-order, macro}
+use Rattle.definition.specs.Write.{wBook}
+use Rattle.definition.specs.Size.{sizeBook, levelsBook}
+use Rattle.definition.specs.Macros.{Macro, macros, expandAll}
+use Rattle.laws.specs.Book.{IsBook}
+use Rattle.laws.proofs.NoneKnown.{none-known}
+use Rattle.writer.specs.Buf.{put, Wrote}
+use Rattle.writer.proofs.Put.{put-fits}
+use Rattle.seek.specs.At.{numberAt}
+use Rattle.contents.proofs.Listed.{book-listed}
+use Rattle.macros.specs.declared.Expanded.the-variants.{Book}
+use Rattle.macros.specs.Left.{keptOf, KeptOf, Macroless}
+use Rattle.macros.specs.Pass.{pass, answerOf, leaves, Passed}
+
+pub size-length : (es : List Definition) → sizeBook es ≡ length (wBook es)
+unfolding sizeBook
+size-length es = refl
+
+pub kept-few : (ds : List Definition) → keptOf ds ≤ length ds
+unfolding keptOf
+kept-few [] = omega arith
+kept-few (format m ps c ∷ ds) = omega (arith, kept-few ds)
+kept-few (constant m x ∷ ds) = omega (arith, kept-few ds)
+kept-few (byte-order x ∷ ds) = omega (arith, kept-few ds)
+kept-few (macro m ps c ∷ ds) = omega (arith, kept-few ds)
+
+pub all-kept : {book : List ℕ} {n all : ℕ} {r : Bool} → all ≡ numberAt book 0 → KeptOf book n → (r ≡ true → n ≡ all) → Macroless book r
+all-kept {book} e k t = record { says = λ h ds w i. sym (k .says ds w i) ∙ t h ∙ e ∙ book-listed book ds w i .0 }
+
+no-macros : (ds : List Definition) (ms : List Macro) → keptOf ds ≡ length ds → macros ds ms ≡ ms
+unfolding keptOf macros
+no-macros [] ms h = refl
+no-macros (format n ps c ∷ ds) ms h = no-macros ds ms (omega (arith, h))
+no-macros (constant n x ∷ ds) ms h = no-macros ds ms (omega (arith, h))
+no-macros (byte-order x ∷ ds) ms h = no-macros ds ms (omega (arith, h))
+no-macros (macro n ps c ∷ ds) ms h = absurd (omega (arith, h, kept-few ds))
+
+same-all : (ds : List Definition) → keptOf ds ≡ length ds → expandAll ds [] ≡ done ds
+unfolding keptOf expandAll
+same-all [] h = refl
+same-all (format n ps c ∷ ds) h = rw (none-known c, same-all ds (omega (arith, h)))
+same-all (constant n x ∷ ds) h = rw (same-all ds (omega (arith, h)))
+same-all (byte-order x ∷ ds) h = rw (same-all ds (omega (arith, h)))
+same-all (macro n ps c ∷ ds) h = absurd (omega (arith, h, kept-few ds))
+
+pass-plain : (ms ds : List Definition) → keptOf ms ≡ length ms → keptOf ds ≡ length ds → IsBook ds → pass ms ds ≡ done ds
+unfolding pass
+pass-plain ms ds h k i =
+    let a : leb (sizeBook ds) 16384 ≡ true = le-leb (sizeBook ds) 16384 (i .short) in
+    let b : leb (levelsBook ds) 64 ≡ true = le-leb (levelsBook ds) 64 (i .deep) in
+    rw (no-macros ms [] h, same-all ds k, a, b)
+
+module _ {lib book areas out out′ : List ℕ} {a b : Bool} {q : ℕ} (p : Macroless lib a) (t : a ≡ true) (r : Macroless book b) (u : b ≡ true) (w : Wrote out 0 book out′ q) where
+  pub passed-plain : Passed lib book areas out out′ (Book (length book))
+  passed-plain = record { says = λ ms ds el im eb id al ol. copied ms ds (p .says t ms el im) eb id (r .says u ds eb id) ol }
+    where
+      copied : (ms ds : List Definition) → keptOf ms ≡ length ms → book ≡ wBook ds → IsBook ds → keptOf ds ≡ length ds → length out ≡ 16384 → (Book (length book) ≡ answerOf (pass ms ds)) × leaves (pass ms ds) out out′
+      copied ms ds h eb id k ol =
+          let s : sizeBook ds ≡ length book = size-length ds ∙ ap length (sym eb) in
+          let f : put out 0 book ≡ book ++ drop (0 + length book) out = put-fits out 0 book (omega (arith, s, id .short)) in
+          let z : 0 + length book ≡ length book = omega arith in
+          rw (pass-plain ms ds h k id) (ap Book (sym s), w .holds ∙ f ∙ rw (s, ← eb) (ap (λ (n : ℕ). book ++ drop n out) z))
