@@ -4,10 +4,10 @@ use mathlib.Core.Path.{refl}
 use Rattle.definition.specs.Utf8.{utf8}
 use Rattle.definition.specs.Write.{wBook}
 use Rattle.definition.specs.Notation.{vecs, args}
-use Rattle.nested.specs.Worked.{ladder, table, seen, expected, all, _&_, Worked}
+use Rattle.nested.specs.Worked.{fields, ladder, table, seen, expected, all, _&_, Worked}
 
 pub worked : Worked
-unfolding utf8 vecs args ladder wBook table seen expected
+unfolding utf8 vecs args fields ladder wBook table seen expected
 worked =
     -- one pass is enough: no definition, no macro, no known call after the first pass
     refl &
@@ -52,12 +52,12 @@ worked =
     refl &
     refl &
     refl &
-    -- 6 in the second pass: the finished book has 65 levels; the body of q has, though only its Nothing would be put in; 64 pass
+    -- 6 in the second pass: the finished book has over 16,384 bytes, or 65 levels; the body of q has, though only its Nothing would be put in. 64 levels pass
     refl &
     refl &
     refl &
-    -- 6 before the 12 that would come: over 16,384 bytes after the second pass; 4 levels more in each pass, 65 after pass 16. With 3 it is 12
     refl &
+    -- 6 before the 12 that would come: 4 levels more in each pass, 65 after pass 16. With 3 it is 12
     refl &
     refl &
     -- 12 before 7, 8, 9, 10 and 11

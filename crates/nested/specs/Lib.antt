@@ -1,2 +1,3 @@
 pub mod Nested
 pub mod Worked
+pub mod Laws

@@ -16,7 +16,7 @@ use Rattle.definition.specs.Contents.{readBook}
 use Rattle.definition.specs.Lift.{liftBook}
 use Rattle.definition.specs.Answer.{source, Result, outcome, all, Answer, answered, filled}
 
--- every macro call passes a test, where the pass reaches (document 01, rule 2): "Known calls inside macro arguments are where no pass reaches"
+-- every macro call passes a test, where the pass reaches (document 01, rule 2)
 unfoldable mutual
   pub everyMacroCall : Combinator → (Name → Bool) → Bool
   everyMacroCall (plain i) test = everyMacroCallI i test
@@ -39,6 +39,9 @@ unfoldable mutual
   pub everyMacroCallC : Cases → (Name → Bool) → Bool
   everyMacroCallC no-case test = true
   everyMacroCallC (case l c f) test = everyMacroCall c test && everyMacroCallC f test
+  -- There is none for Inners: "Parameter types and macro arguments are not" walked.
+  -- Known calls inside macro arguments are where no pass reaches:
+  -- they stay, and do not count.
 
 unfoldable pub isMacro : List Macro → Name → Bool
 isMacro [] n = false

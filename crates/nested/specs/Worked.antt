@@ -1,11 +1,12 @@
--- Books worked out by hand from document 02 b, as one table with one theorem over it (`Worked`, proved in proofs/Worked): of each, what comes of it in the plain mode and in the nested one.
+-- Books for document 02 b as one table with one theorem over it (`Worked`, proved in proofs/Worked): of each, what comes of it in the plain mode and in the nested one.
+-- What is expected was worked out by hand, and is what `oracle answer` gives for the same books without and with `--nested`.
 use mathlib.Core.Path.{_≡_}
 use mathlib.Core.List.{List, [], _∷_, _++_}
 use Prim.Native.Nat.{ℕ, zero, suc, _+_, _-_, max}
 use Prim.Native.String.{String}
 use lib.ListN.{length, replicate}
 use Rattle.definition.specs.Utf8.{utf8}
-use Rattle.definition.specs.Tree.{Name, leaf, enum, struct, none, ints, choice, invocation, macro-invocation, no-field, no-case, no-inner, Combinator, plain, chained, Definition, format, constant, byte-order, macro}
+use Rattle.definition.specs.Tree.{Name, leaf, enum, struct, none, ints, choice, macro-invocation, Fields, no-field, no-case, no-inner, Combinator, plain, chained, Definition, format, constant, byte-order, macro}
 use Rattle.definition.specs.Write.{wBook}
 use Rattle.definition.specs.Answer.{Answer, answer, output}
 use Rattle.definition.specs.Notation.{Int, Enum, Tail, Nothing, Bytes, Vec, Option, Array, Wrap, Call, ord, on, one, vecs, Macro, param, fmt, mac}
@@ -53,9 +54,21 @@ use-of n = plain (Macro n [])
 abbrev fat : ℕ → Combinator
 fat n = plain (leaf enum (replicate n 46))
 
--- a struct of two fields with one layout
-abbrev two : Combinator → Combinator
-two c = plain (struct (ord "x" c (ord "y" c no-field)))
+-- a struct of k fields x, each with one layout
+unfoldable pub fields : ℕ → Combinator → Fields
+fields zero c = no-field
+fields (suc k) c = ord "x" c (fields k c)
+
+abbrev many : ℕ → Combinator → Combinator
+many k c = plain (struct (fields k c))
+
+-- a name of n bytes
+abbrev long : ℕ → Name
+long n = replicate n 107
+
+-- 510 definitions: with three lifts there are too many
+abbrev crowd : Combinator → List Definition
+crowd c = fmt "m" [] (many 2 c) ∷ replicate 509 (byte-order [])
 
 -- a layout in a choice and in three wrappers, in two formats among other definitions
 abbrev shells : Combinator → List Definition
@@ -139,49 +152,57 @@ codeRows =
     raw (wBook (looped []) ++ 0 ∷ []) (refuses 3) (refuses 3) ∷
     alike (looped (constant (utf8 ".") [] ∷ [])) (refuses 4) ∷
     alike (looped (m (vecs 64 (plain Nothing)))) (refuses 5) ∷
-    -- 6 in the second pass: the finished book has 65 levels; the body of q has, though only its Nothing would be put in; 64 pass
+    -- 6 in the second pass: the finished book has over 16,384 bytes, or 65 levels; the body of q has, though only its Nothing would be put in. 64 levels pass
+    apart (def "q" (fat 900) ∷ def "p" (many 20 (use-of "q")) ∷ m (use-of "p")) (becomes 0 (m (many 20 (use-of "q")))) (refuses 6) ∷
     apart (def "q" (vecs 40 (plain Nothing)) ∷ def "p" (vecs 24 (use-of "q")) ∷ m (use-of "p")) (becomes 0 (m (vecs 24 (use-of "q")))) (refuses 6) ∷
     apart (mac "q" ("a" ∷ []) (chained Nothing (vecs 62 (plain (Call "a" [])))) ∷ def "p" (plain (Macro "q" (Vec (plain Nothing) ∷ []))) ∷ m (use-of "p"))
     (becomes 0 (m (plain (Macro "q" (Vec (plain Nothing) ∷ []))))) (refuses 6) ∷
     apart (def "q" (vecs 39 (plain Nothing)) ∷ def "p" (vecs 24 (use-of "q")) ∷ m (use-of "p")) (becomes 0 (m (vecs 24 (use-of "q")))) (becomes 0 (m (vecs 63 (plain Nothing)))) ∷
-    -- 6 before the 12 that would come: over 16,384 bytes after the second pass; 4 levels more in each pass, 65 after pass 16. With 3 it is 12
-    apart (def "p" (plain (struct (ord "x" (use-of "p") (ord "y" (fat 8200) no-field)))) ∷ m (use-of "p"))
-    (becomes 1 (m (plain (struct (ord "x" (use-of "p") (ord "y" (plain (Call "m_y" [])) no-field)))) ++ fmt "m_y" [] (fat 8200) ∷ [])) (refuses 6) ∷
+    -- 6 before the 12 that would come: 4 levels more in each pass, 65 after pass 16. With 3 it is 12
     apart (def "p" (vecs 4 (use-of "p")) ∷ m (use-of "p")) (becomes 0 (m (vecs 4 (use-of "p")))) (refuses 6) ∷
     apart (def "p" (vecs 3 (use-of "p")) ∷ m (use-of "p")) (becomes 0 (m (vecs 3 (use-of "p")))) (refuses 12) ∷
     -- 12 before 7, 8, 9, 10 and 11
     apart (looped (m (one "s" (one "x" (use-of "zz"))))) (refuses 7) (refuses 12) ∷
     apart (looped (m (one "h" (one "b" (plain (Bytes ("n" ∷ []))))))) (refuses 8) (refuses 12) ∷
-    apart (looped (format (replicate 254 107) [] (one "a" (plain Enum)) ∷ [])) (refuses 9) (refuses 12) ∷
-    apart (looped (m (two (plain (Vec (plain Enum)))) ++ replicate 509 (byte-order []))) (refuses 10) (refuses 12) ∷
+    apart (looped (format (long 254) [] (one "a" (plain Enum)) ∷ [])) (refuses 9) (refuses 12) ∷
+    apart (looped (crowd (plain (Vec (plain Enum))))) (refuses 10) (refuses 12) ∷
     record { book = wBook (looped []); out = 0; work = 65536; plainly = refuses 11; nested = refuses 12 } ∷
     -- 7 to 11 as in document 01, over the list after the last pass
     apart (ladder 2 ++ m (one "s" (one "x" (climb 2)))) (refuses 7) (becomes 1 (m (one "s" (plain (Call "m_s" []))) ++ fmt "m_s" [] (one "x" (plain Nothing)) ∷ [])) ∷
     apart (def "p" (use-of "q") ∷ def "q" (one "x" (use-of "zz")) ∷ m (one "s" (use-of "p"))) (becomes 0 (m (one "s" (use-of "q")))) (refuses 7) ∷
     apart (def "p" (use-of "q") ∷ def "q" (one "x" (plain (Bytes ("n" ∷ [])))) ∷ m (one "s" (use-of "p"))) (becomes 0 (m (one "s" (use-of "q")))) (refuses 8) ∷
-    apart (def "p" (use-of "q") ∷ def "q" (plain Enum) ∷ format (replicate 254 107) [] (one "a" (use-of "p")) ∷ []) (becomes 0 (format (replicate 254 107) [] (one "a" (use-of "q")) ∷ [])) (refuses 9) ∷
-    apart (def "p" (use-of "q") ∷ def "q" (plain (Vec (plain Enum))) ∷ (m (two (use-of "p")) ++ replicate 509 (byte-order []))) (becomes 0 (m (two (use-of "q")) ++ replicate 509 (byte-order []))) (refuses 10) ∷
+    apart (def "p" (use-of "q") ∷ def "q" (plain Enum) ∷ format (long 254) [] (one "a" (use-of "p")) ∷ []) (becomes 0 (format (long 254) [] (one "a" (use-of "q")) ∷ [])) (refuses 9) ∷
+    apart (def "p" (use-of "q") ∷ def "q" (plain (Vec (plain Enum))) ∷ crowd (use-of "p")) (becomes 0 (crowd (use-of "q"))) (refuses 10) ∷
     record { book = wBook (def "p" (use-of "q") ∷ def "q" (fat 20) ∷ m (use-of "p")); out = 35; work = 65536; plainly = becomes 0 (m (use-of "q")); nested = refuses 11 } ∷
     record { book = wBook (def "p" (use-of "q") ∷ def "q" (fat 20) ∷ m (use-of "p")); out = 36; work = 65536; plainly = becomes 0 (m (use-of "q")); nested = becomes 0 (m (fat 20)) } ∷
     []
 
+-- the two answers, and the outputs where there is a result
 pub record Seen : Type 0 where
   pub plainly : Answer
   pub plain-output : List ℕ
   pub nested : Answer
   pub nested-output : List ℕ
 
+abbrev plainOutput : Outcome → Row → List ℕ
+plainOutput (refuses k) r = []
+plainOutput (gives n ds b) r = output (r .book) (noise (r .out)) (r .work)
+
+abbrev nestedOutput : Outcome → Row → List ℕ
+nestedOutput (refuses k) r = []
+nestedOutput (gives n ds b) r = outputNested (r .book) (noise (r .out)) (r .work)
+
 unfoldable pub seen : Row → Seen
 unfolding wBook answer output answerNested outputNested
 seen r = record {
   plainly = answer (r .book) (r .out) (r .work);
-  plain-output = output (r .book) (noise (r .out)) (r .work);
+  plain-output = plainOutput (r .plainly) r;
   nested = answerNested (r .book) (r .out) (r .work);
-  nested-output = outputNested (r .book) (noise (r .out)) (r .work);
+  nested-output = nestedOutput (r .nested) r;
 }
 
 abbrev filled : Outcome → ℕ → List ℕ
-filled (refuses k) o = noise o
+filled (refuses k) o = []
 filled (gives n ds b) o = b ++ noise (o - length b)
 
 unfoldable pub expected : Row → Seen
