@@ -14,3 +14,7 @@ not-true false e = refl
 pub not-false : (b : Bool) → not b ≡ false → b ≡ true
 not-false true e = refl
 not-false false e = sym e
+
+pub and-assoc : (x y z : Bool) → (x && y) && z ≡ x && (y && z)
+and-assoc true y z = refl
+and-assoc false y z = refl
