@@ -1,6 +1,6 @@
 -- The whole answer: codes 1 to 6 and then 7 to 11.
 -- Assumes nothing.
-use mathlib.Core.Path.{_≡_, refl, sym, ap, _∙_}
+use mathlib.Core.Path.{_≡_, refl}
 use mathlib.Core.List.{List}
 use mathlib.Core.Bool.{Bool, true, false}
 use Prim.Native.Nat.{ℕ}
@@ -11,15 +11,13 @@ use Rattle.definition.specs.Out.{Out, refused, done, _>>=_, given}
 use Rattle.definition.specs.Tree.{Definition}
 use Rattle.definition.specs.Write.{wBook}
 use Rattle.definition.specs.Lift.{liftBook}
-use Rattle.definition.specs.Answer.{expanded, elaborated, Result, all, outcome, attempt, answered, answer, filled, output}
-use Rattle.laws.specs.Book.{Bytes, IsBook}
-use Rattle.laws.proofs.Results.{elaborated-book}
-use Rattle.laws.proofs.Steps.{did-out, did-given, yielded}
+use Rattle.definition.specs.Answer.{expanded, elaborated, Result, all, outcome, attempt, answer, output}
 use Rattle.opening.specs.declared.Opened.the-variants.{Book, Refused as Stopped}
 use Rattle.closing.specs.declared.Elaborated.{Elaborated}
 use Rattle.closing.specs.declared.Elaborated.the-variants.{Refused}
 use Rattle.opening.specs.Opens.{opened, Opens}
 use Rattle.closing.specs.Elaborates.{reported, Reports, lifted, Expanded, Lifts}
+use Rattle.closing.proofs.Reporting.{reports-refused, reports-lifted}
 
 elaborated-says : (b : List ℕ) → elaborated b ≡ (expanded b >>= λ ds. outcome (liftBook ds))
 unfolding elaborated
@@ -40,25 +38,17 @@ attempt-is b o n = both (leb 65536 n)
     both true = rw (elaborated-says b) (after (expanded b) (λ ds. outcome (liftBook ds)) (λ r. fits r))
     both false = refl
 
--- the result is a book
-result-book : (b : List ℕ) → Bytes b → (n : ℕ) (ds : List Definition) → opened b n ≡ done ds → (q : Result) → outcome (liftBook ds) ≡ done q → IsBook (all q)
-unfolding opened
-result-book b h n ds e q g = did-out (given (leb 65536 n) work-short b) (λ c. expanded c) ds e λ c i j.
-    let k : expanded b ≡ done ds = ap (λ (a : List ℕ). expanded a) (did-given (leb 65536 n) work-short b c i .1) ∙ j in
-    yielded {a = q} (elaborated-book b h) (elaborated-says b ∙ rw k g)
-
 module _ {b : List ℕ} {n m : ℕ} {book : List ℕ} (long : m ≡ 16384) where
   -- codes 1 to 6
   pub reports-code : {out : List ℕ} {code : ℕ} → Opens b n m book (Stopped code) → Reports (attempt b (length out) n) out out (Refused code)
-  unfolding reported answered filled
-  reports-code {out} o = record { answers = rw (attempt-is b (length out) n, o .by long .is, o .by long .numbered); fills = rw (attempt-is b (length out) n, o .by long .is) }
+  reports-code {out} o = rw (attempt-is b (length out) n) (reports-refused (o .by long .is) (o .by long .numbered))
 
   module _ {len : ℕ} (o : Opens b n m book (Book len)) where
     pub opened-book : Expanded (take len book)
     opened-book = record { of = o .by long .left; book = o .by long .holds; isBook = o .by long .isBook }
 
-    pub reports-lifts : {out out′ : List ℕ} {r : Elaborated} → Bytes b → Lifts (take len book) out out′ r → Reports (attempt b (length out) n) out out′ r
-    reports-lifts {out} h l = rw (attempt-is b (length out) n, o .by long .is) (l .lifts (o .by long .left) (o .by long .holds) (o .by long .isBook) (result-book b h n (o .by long .left) (o .by long .is)))
+    pub reports-lifts : {out out′ : List ℕ} {r : Elaborated} → Lifts (take len book) out out′ r → Reports (attempt b (length out) n) out out′ r
+    reports-lifts {out} l = rw (attempt-is b (length out) n) (reports-lifted (o .by long .is) (o .by long .holds) (o .by long .isBook) l)
 
 module _ (b : List ℕ) {out out′ : List ℕ} (n : ℕ) {r : Elaborated} (p : Reports (attempt b (length out) n) out out′ r) where
   pub answers-it : reported r ≡ answer b (length out) n

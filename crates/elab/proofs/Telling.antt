@@ -1,19 +1,16 @@
--- The premise test's answer, and the work area afterwards.
+-- The premise test's answer.
 -- Assumes nothing.
 use mathlib.Core.Path.{_≡_, refl, sym, ap, _∙_}
-use mathlib.Core.List.{List, append-nil}
+use mathlib.Core.List.{List}
 use mathlib.Core.Bool.{Bool, true, false, _&&_}
-use Prim.Native.Nat.{ℕ, _+_, _-_, _≤_}
-use native.Mathlib.Omega.{arith}
+use Prim.Native.Nat.{ℕ}
 use lib.Dec.{leb}
-use lib.ListN.{length, take, drop, replicate, length-replicate, drop-of-length-le}
+use lib.ListN.{take}
 use Rattle.definition.specs.Code.{work-short}
 use Rattle.definition.specs.Out.{Out, refused, done, _>>=_, given}
 use Rattle.definition.specs.Tree.{Definition}
-use Rattle.definition.specs.Answer.{expanded, zeroed}
+use Rattle.definition.specs.Answer.{expanded}
 use Rattle.definition.specs.Premise.{callsKnown, chainsPlain, tested, told as toldOf, premise}
-use Rattle.writer.specs.Buf.{put, zeros}
-use Rattle.writer.proofs.Put.{put-fits}
 use Rattle.premise.specs.Holds.{Holds as Passes}
 use Rattle.opening.specs.declared.Opened.the-variants.{Book, Refused as Stopped}
 use Rattle.elab.specs.declared.Tested.{Tested}
@@ -50,11 +47,3 @@ module _ {b : List ℕ} {n m : ℕ} {book : List ℕ} (long : m ≡ 16384) where
     pub tells-no : r ≡ false → told Fails ≡ premise b n
     unfolding told toldOf
     tells-no e = sym (answer ∙ ap (λ (t : Bool). toldOf (done t)) e)
-
--- "The work area, short or not, is all zero afterwards in each case."
-pub all-zero : (w w₁ z : List ℕ) (end : ℕ) → length w₁ ≡ length w → end ≡ length w₁ → z ≡ put w₁ 0 (zeros (end - 0)) → z ≡ zeroed w
-unfolding zeroed
-all-zero w w₁ z end l e h =
-    let m : end - 0 ≡ length w = omega arith in
-    let k : length (zeros (length w)) ≡ length w = length-replicate {0} {A = ℕ} (length w) 0 in
-    h ∙ rw (m, put-fits w₁ 0 (zeros (length w)) (omega arith), drop-of-length-le w₁ {i = 0 + length (zeros (length w))} (omega arith)) (append-nil (zeros (length w)))

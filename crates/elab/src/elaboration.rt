@@ -1,12 +1,14 @@
 // The whole elaboration: the expanded book's lifts are named, then the result is written.
 use closing::Elaborated;
 use closing::lift_book;
+use nesting::elaborate_nested;
 use opening::Opened;
 use opening::open_book;
 use writer::zero_range;
 ghost use mathlib.Core.Path.{_≡_};
 ghost use lib.ListN.{length};
 ghost use Rattle.definition.specs.Answer.{attempt, answer, output, zeroed};
+ghost use Rattle.nested.specs.Nested.{answerNested, outputNested};
 ghost use Rattle.closing.specs.Elaborates.{reported, Reports};
 
 // The same in numbers, for callers in other languages.
@@ -73,5 +75,16 @@ pub extern "C" fn samulsto_elaborate(book: &[u8], out: &mut [u8], work: &mut [u8
     ensures { λ _. ⌜ now (work .exit) ≡ zeroed (now (work .entry)) ⌝ }
 {
     let e = elaborate(book, out, work);
+    in_numbers(e)
+}
+
+// The nested mode, of document 02 b.
+#[no_mangle]
+pub extern "C" fn samulsto_elaborate_nested(book: &[u8], out: &mut [u8], work: &mut [u8]) -> Report
+    ensures { λ r. ⌜ (r .code ≡ answerNested (now (book .entry)) (length (now (out .entry))) (length (now (work .entry))) .code) × (r .length ≡ answerNested (now (book .entry)) (length (now (out .entry))) (length (now (work .entry))) .size) × (r .definitions ≡ answerNested (now (book .entry)) (length (now (out .entry))) (length (now (work .entry))) .definitions) × (r .lifted ≡ answerNested (now (book .entry)) (length (now (out .entry))) (length (now (work .entry))) .lifts) ⌝ }
+    ensures { λ _. ⌜ now (out .exit) ≡ outputNested (now (book .entry)) (now (out .entry)) (length (now (work .entry))) ⌝ }
+    ensures { λ _. ⌜ now (work .exit) ≡ zeroed (now (work .entry)) ⌝ }
+{
+    let e = elaborate_nested(book, out, work);
     in_numbers(e)
 }

@@ -13,6 +13,7 @@ use Rattle.definition.specs.Names.{eqName}
 use Rattle.definition.specs.Write.{wName, wList, wDefinition, wCombinator, kindOf, kindByte}
 use Rattle.definition.specs.Size.{levelsBook, sizeBook}
 use Rattle.definition.specs.Macros.{Macro, macros, expandBy, expandMacro}
+use Rattle.nested.specs.Nested.{isMacro}
 use Rattle.seek.specs.At.{byteAt, pastAt, numberAt}
 use Rattle.seek.specs.Here.{Here}
 use Rattle.lookup.specs.Name.{nameAt}
@@ -23,7 +24,7 @@ use Rattle.known.specs.declared.Found.{Found}
 use Rattle.known.specs.declared.Found.the-variants.{At, Unknown}
 use Rattle.contents.specs.Listed.{Listed}
 use Rattle.substitution.specs.Call.{Defined}
-use Rattle.known.specs.Table.{Row, Rows, SameRow, Known, Finds, FindsMacro, Taken, Tabling, Tabled}
+use Rattle.known.specs.Table.{Row, Rows, SameRow, Known, Finds, isFound, FindsMacro, Taken, Tabling, Tabled}
 use Rattle.contents.proofs.Listed.{listed-kind, listed-size, listed-body, listed-deep, listed-next, book-listed}
 
 pub defined-name : {s : List ℕ} {at : ℕ} (m : Macro) → Defined s at m → nameAt s at ≡ m .name
@@ -54,25 +55,33 @@ module _ {name : Name} {hash : ℕ} {s pl hs : List ℕ} {i : ℕ} where
 -- the search
 module _ {name : Name} {s pl hs : List ℕ} {i : ℕ} where
   pub found-none : i ≤ 0 → FindsMacro name s pl hs i Unknown
-  unfolding expandMacro
-  found-none h = record { says = λ ms r xs. none ms r xs }
+  unfolding expandMacro isMacro
+  found-none h = record { says = λ ms r xs. none ms r xs; known = λ ms r. none-known ms r }
     where
       none : (ms : List Macro) → Rows s pl hs i ms → (xs : Inners) → expandMacro ms name xs ≡ done (macro-invocation name xs)
       none [] r xs = refl
       none (m ∷ ms) r xs = absurd (omega arith)
 
+      none-known : (ms : List Macro) → Rows s pl hs i ms → false ≡ isMacro ms name
+      none-known [] r = refl
+      none-known (m ∷ ms) r = absurd (omega arith)
+
   module _ {hash : ℕ} (k : 0 < i) (e : hash ≡ hashOf name) where
     pub found-here : {at : ℕ} → SameRow name hash s pl hs (i - 1) (At at) → FindsMacro name s pl hs i (At at)
-    unfolding expandMacro expandBy
-    found-here {at} v = record { says = λ ms r xs. here ms r xs }
+    unfolding expandMacro expandBy isMacro
+    found-here {at} v = record { says = λ ms r xs. here ms r xs; known = λ ms r. here-known ms r }
       where
         here : (ms : List Macro) → Rows s pl hs i ms → (xs : Inners) → Known s ms name xs at
         here [] r xs = absurd (omega arith)
         here (m ∷ ms) r xs = let w = v .says m (r .1) e in record { known = m; defined = w .0; is = rw (w .1) }
 
+        here-known : (ms : List Macro) → Rows s pl hs i ms → true ≡ isMacro ms name
+        here-known [] r = absurd (omega arith)
+        here-known (m ∷ ms) r = rw (v .says m (r .1) e .1)
+
     pub found-on : SameRow name hash s pl hs (i - 1) Unknown → {f : Found} → FindsMacro name s pl hs (i - 1) f → FindsMacro name s pl hs i f
-    unfolding expandMacro expandBy
-    found-on v {f} g = record { says = λ ms r xs. on ms r xs }
+    unfolding expandMacro expandBy isMacro
+    found-on v {f} g = record { says = λ ms r xs. on ms r xs; known = λ ms r. on-known ms r }
       where
         kept : (m : Macro) (ms : List Macro) (xs : Inners) → eqName (m .name) name ≡ false → (f : Found) → Finds s ms name xs f → Finds s (m ∷ ms) name xs f
         kept m ms xs q (At at) w = record { known = w .known; defined = w .defined; is = rw q (w .is) }
@@ -81,6 +90,10 @@ module _ {name : Name} {s pl hs : List ℕ} {i : ℕ} where
         on : (ms : List Macro) → Rows s pl hs i ms → (xs : Inners) → Finds s ms name xs f
         on [] r xs = absurd (omega arith)
         on (m ∷ ms) r xs = kept m ms xs (v .says m (r .1) e) f (g .says ms (r .2) xs)
+
+        on-known : (ms : List Macro) → Rows s pl hs i ms → isFound f ≡ isMacro ms name
+        on-known [] r = absurd (omega arith)
+        on-known (m ∷ ms) r = rw (v .says m (r .1) e) (g .known ms (r .2))
 
 -- filling
 rows-kept : (s pl hs : List ℕ) (n x y k : ℕ) → k ≤ n → (ms : List Macro) → Rows s pl hs k ms → Rows s (set pl n x) (set hs n y) k ms

@@ -1,7 +1,7 @@
 -- The table of macros.
 use mathlib.Core.Path.{_≡_}
 use mathlib.Core.List.{List, [], _∷_}
-use mathlib.Core.Bool.{true, false}
+use mathlib.Core.Bool.{Bool, true, false}
 use Prim.Native.Nat.{ℕ, _+_, _-_, _≤_, _<_}
 use lib.ListN.{length, getD}
 use Rattle.definition.specs.Out.{done, _>>=_}
@@ -11,6 +11,7 @@ use Rattle.definition.specs.Write.{wDefinition, kindOf, kindByte, wBook}
 use Rattle.definition.specs.Size.{levelsBook}
 use Rattle.definition.specs.Macros.{Macro, macros, instance, innerOf, expandMacro}
 use Rattle.laws.specs.Book.{IsBook}
+use Rattle.nested.specs.Nested.{isMacro}
 use Rattle.seek.specs.Here.{Here}
 use Rattle.fresh.specs.Taken.{hashOf}
 use Rattle.contents.specs.Listed.{Listed}
@@ -47,8 +48,13 @@ abbrev pub Finds : List ℕ → List Macro → Name → Inners → Found → Typ
 Finds s ms name xs (At at) = Known s ms name xs at
 Finds s ms name xs Unknown = expandMacro ms name xs ≡ done (macro-invocation name xs)
 
+abbrev pub isFound : Found → Bool
+isFound (At at) = true
+isFound Unknown = false
+
 pub record FindsMacro (name : Name) (s places hashes : List ℕ) (n : ℕ) (r : Found) : Type 0 where
   pub says : (ms : List Macro) → Rows s places hashes n ms → (xs : Inners) → Finds s ms name xs r
+  pub known : (ms : List Macro) → Rows s places hashes n ms → isFound r ≡ isMacro ms name
 
 pub record Taken (s : List ℕ) (kind at : ℕ) (places hashes : List ℕ) (n : ℕ) (places′ hashes′ : List ℕ) (r : ℕ) : Type 0 where
   pub one : r ≤ n + 1

@@ -1,7 +1,7 @@
 -- `elab::premise` meets its contract.
 -- Assumes nothing.
 use borrow.Author.Needs.{needs}
-use Rattle.elab.proofs.Telling.{all-zero}
+use Rattle.closing.proofs.Reporting.{all-zero}
 use mathlib.Core.Path.{refl}
 use Rattle.elab.proofs.premise.Statement.{statement}
 use Rattle.elab.proofs.premise.Tie as tie

@@ -5,7 +5,6 @@ use Prim.Native.Nat.{ℕ}
 use lib.ListN.{length-replicate, length-take}
 use native.Mathlib.Omega.{arith}
 use Rattle.elab.proofs.Answering.{opened-book, reports-code, reports-lifts}
-use Rattle.opening.proofs.Opening.{all-bytes}
 use Rattle.elab.proofs.elaboration.attempt.Statement.{statement}
 use Rattle.elab.proofs.elaboration.attempt.Tie as tie
 use Rattle.elab.proofs.elaboration.attempt.Reads as reads
@@ -47,7 +46,7 @@ same-length-3 : tie.Need-same-length-3
 same-length-3 c = search needs
 
 returns-2 : tie.Need-returns-2
-returns-2 c = reports-lifts (length-replicate {0} {A = ℕ} 16384 0) (rw (c .before .before .before .before .before .before .opened2 .given .1) at (c .before .before .before .before .before .before .before .before .before .before .before .open-book .ensures)) (all-bytes (c .before .before .before .before .before .before .before .before .before .before .before .before .before .before .before .before .before .args .book .now) (λ i. omega (arith, c .before .before .before .before .before .before .before .before .before .before .before .before .before .before .before .before .shared-slice-known .given i))) (c .before .before .lift-book .ensures)
+returns-2 c = reports-lifts (length-replicate {0} {A = ℕ} 16384 0) (rw (c .before .before .before .before .before .before .opened2 .given .1) at (c .before .before .before .before .before .before .before .before .before .before .before .open-book .ensures)) (c .before .before .lift-book .ensures)
 
 pub attempt-spec : {M : Type 1} → statement M
 attempt-spec =

@@ -3,7 +3,7 @@
 use borrow.Author.Needs.{needs}
 use mathlib.Core.Path.{refl}
 use Rattle.elab.proofs.Answering.{answers-it, fills-it}
-use Rattle.elab.proofs.Telling.{all-zero}
+use Rattle.closing.proofs.Reporting.{all-zero}
 use Rattle.elab.proofs.elaboration.elaborate.Statement.{statement}
 use Rattle.elab.proofs.elaboration.elaborate.Tie as tie
 use Rattle.elab.proofs.elaboration.elaborate.Reads as reads

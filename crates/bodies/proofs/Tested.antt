@@ -1,0 +1,121 @@
+-- The bodies of formats, one after the other.
+-- Assumes nothing.
+use mathlib.Core.Path.{_≡_, refl, sym, ap, _∙_}
+use mathlib.Core.List.{List, [], _∷_}
+use mathlib.Core.Bool.{Bool, true, false, _&&_}
+use Prim.Native.Nat.{ℕ, _+_, _-_, _*_, _≤_, _<_, max}
+use native.Mathlib.Omega.{arith}
+use lib.ListN.{length, take, length-append}
+use Rattle.definition.specs.Tree.{Name, Combinator, Param, Definition, format, constant, byte-order, macro}
+use Rattle.definition.specs.Write.{wName, wList, wParam, wCombinator, wDefinition, kindOf, kindByte, sizeOf, wBook}
+use Rattle.definition.specs.Size.{size, sizeBook, levels, levelsP, levelsBook}
+use Rattle.definition.specs.Bodies.{chainsOk, everyBody}
+use Rattle.laws.specs.Book.{IsBook}
+use Rattle.laws.proofs.Splits.{s-comb}
+use Rattle.seek.specs.At.{byteAt, pastAt, numberAt, namePast}
+use Rattle.seek.specs.Here.{Here}
+use Rattle.seek.proofs.Here.{here-length, name-here}
+use Rattle.writer.proofs.Put.{take-written}
+use Rattle.marks.specs.declared.Walk.{Walk}
+use Rattle.marks.specs.Steps.{walk}
+use Rattle.calls.specs.Walk.{combinatorAt}
+use Rattle.calls.specs.Walked.{Walked}
+use Rattle.pieces.specs.Pieces.{pieces, places}
+use Rattle.calls.proofs.Link.{walked}
+use Rattle.pieces.proofs.Room.{room-enough}
+use Rattle.contents.specs.Listed.{Listed}
+use Rattle.contents.specs.Params.{ParamsPast}
+use Rattle.contents.proofs.Listed.{listed-kind, listed-size, listed-body, listed-deep, listed-next, book-listed}
+use Rattle.bodies.specs.Tested.{FormatTested, DefinitionTested, BodiesLeft, BodiesTested}
+use Rattle.bodies.proofs.Bools.{and-true}
+
+size-here : {s : List ℕ} {p : ℕ} (c : Combinator) (z : List ℕ) → Here s p (wCombinator c z) → p + size c ≤ length s
+unfolding size
+size-here {s} {p} c z h = omega (arith, simp length-append at (here-length (rw (s-comb c [] z) at h)))
+
+-- a format: the walk over its body leaves the marks of its calls
+module _ {s : List ℕ} (at : ℕ) {params body : ℕ} (e : params ≡ namePast s at) (p : ParamsPast s params body) (m₁ m₂ : List ℕ) (w : Walk)
+    (hw : w ≡ combinatorAt 64 s (walk body 0 64 true) m₁ .0) (hm : m₂ ≡ combinatorAt 64 s (walk body 0 64 true) m₁ .1) where
+  body-here : length s ≤ 16384 → (m : Name) (ps : List Param) (c : Combinator) (z : List ℕ) → Here s at (wDefinition (format m ps c) z) → levelsP ps ≤ 64 → Here s body (wCombinator c z)
+  unfolding wDefinition
+  body-here l m ps c z h d = p .says l ps (wCombinator c z) (rw e (name-here m h)) d
+
+  over : length s ≤ 16384 → length m₁ ≡ 8192 → (c : Combinator) (z : List ℕ) → Here s body (wCombinator c z) → levels c ≤ 64 → Walked s c 64 z (walk body 0 64 true) m₁ w m₂
+  over l k c z h d = rw (hw, hm) (walked s (omega arith) c 64 d (walk body 0 64 true) m₁ z h (omega (arith, room-enough c body, size-here c z h)))
+
+  pub format-tested : {test : Combinator → Bool} {row : ℕ} → length m₁ ≡ row → {marks : List ℕ} → marks ≡ take (w .n) m₂ → {r : Bool}
+      → ((c : Combinator) (z : List ℕ) → Here s body (wCombinator c z) → w .plain ≡ chainsOk c → marks ≡ places body (pieces c []) → r ≡ test c) → FormatTested s at test row r
+  format-tested long {marks} em f = record {
+    says = λ l k m ps c z h dp dc.
+        let b = body-here l m ps c z h dp in
+        let o = over l (long ∙ k) c z b dc in
+        let q : 0 + length (places body (pieces c [])) ≤ length m₁ = omega (arith, room-enough c body, size-here c z b) in
+        let g : marks ≡ places body (pieces c []) = em ∙ rw (o .count, o .marks) (take-written m₁ 0 (places body (pieces c [])) q) in
+        f c z b (o .chains) g;
+  }
+
+-- a definition
+module _ {s : List ℕ} {kind at : ℕ} {test : Combinator → Bool} {row : ℕ} where
+  pub definition-format : kind ≡ 1 → {r : Bool} → FormatTested s at test row r → DefinitionTested s kind at test row r
+  unfolding everyBody kindByte kindOf levelsBook
+  definition-format q {r} v = record { says = λ l k d z h e dd. one l k d z h e dd }
+    where
+      one : length s ≤ 16384 → row ≡ 8192 → (d : Definition) (z : List ℕ) → Here s at (wDefinition d z) → kind ≡ kindByte (kindOf d) → levelsBook (d ∷ []) ≤ 64 → r ≡ everyBody test (d ∷ [])
+      one l k (format m ps c) z h e dd = v .says l k m ps c z h (omega arith) (omega arith) ∙ sym (and-true (test c))
+      one l k (constant m x) z h e dd = absurd (omega arith)
+      one l k (byte-order x) z h e dd = absurd (omega arith)
+      one l k (macro m ps c) z h e dd = absurd (omega arith)
+
+  pub definition-other : (kind ≡ 1 → ⊥) → DefinitionTested s kind at test row true
+  unfolding everyBody kindByte kindOf
+  definition-other q = record { says = λ l k d z h e dd. one d e }
+    where
+      one : (d : Definition) → kind ≡ kindByte (kindOf d) → true ≡ everyBody test (d ∷ [])
+      one (format m ps c) e = absurd (q e)
+      one (constant m x) e = refl
+      one (byte-order x) e = refl
+      one (macro m ps c) e = refl
+
+-- the definitions that are left
+every-step : (f : Combinator → Bool) (d : Definition) (ds : List Definition) → everyBody f (d ∷ ds) ≡ everyBody f (d ∷ []) && everyBody f ds
+unfolding everyBody
+every-step f (format n ps c) ds = rw (and-true (f c))
+every-step f (constant n x) ds = refl
+every-step f (byte-order x) ds = refl
+every-step f (macro n ps c) ds = refl
+
+module _ {s : List ℕ} {test : Combinator → Bool} {row entry at left : ℕ} where
+  pub left-none : left ≤ 0 → BodiesLeft s test row entry at left true
+  unfolding everyBody
+  left-none h = record { says = λ l k ds w e. none ds e }
+    where
+      none : (ds : List Definition) → left ≡ length ds → true ≡ everyBody test ds
+      none [] e = refl
+      none (d ∷ ds) e = absurd (omega arith)
+
+  module _ (k : 0 < left) {kind size : ℕ} (hk : kind ≡ byteAt s entry) (hz : size ≡ numberAt s (pastAt s entry 4)) {long : ℕ} (hl : long ≡ row) where
+    pub left-out : {b : Bool} → DefinitionTested s kind at test long b → b ≡ false → BodiesLeft s test row entry at left false
+    left-out {b} v t = record { says = λ l q ds w e. out l q ds w e }
+      where
+        out : length s ≤ 16384 → row ≡ 8192 → (ds : List Definition) → Listed s entry at ds → left ≡ length ds → false ≡ everyBody test ds
+        out l q [] w e = absurd (omega arith)
+        out l q (d ∷ ds) w e = rw (every-step test d ds, sym (v .says l (hl ∙ q) d _ (listed-body w) (hk ∙ listed-kind w) (listed-deep w)), t)
+
+    pub left-step : {b : Bool} → DefinitionTested s kind at test long b → b ≡ true → {at₁ entry₁ : ℕ} → at₁ ≡ pastAt s at size → entry₁ ≡ pastAt s entry 6 → {r : Bool} → BodiesLeft s test row entry₁ at₁ (left - 1) r
+        → BodiesLeft s test row entry at left r
+    left-step {b} v t {at₁} {entry₁} ha he {r} next = record { says = λ l q ds w e. step l q ds w e }
+      where
+        step : length s ≤ 16384 → row ≡ 8192 → (ds : List Definition) → Listed s entry at ds → left ≡ length ds → r ≡ everyBody test ds
+        step l q [] w e = absurd (omega arith)
+        step l q (d ∷ ds) w e =
+            next .says l q ds (rw (ha, hz, he, listed-size w) (listed-next w)) (omega arith)
+            ∙ rw (every-step test d ds, sym (v .says l (hl ∙ q) d _ (listed-body w) (hk ∙ listed-kind w) (listed-deep w)), t)
+
+pub bodies-tested : {s : List ℕ} {test : Combinator → Bool} {row left entry at : ℕ} {r : Bool} → left ≡ numberAt s 0 → entry ≡ pastAt s 0 2 → at ≡ pastAt s 2 (6 * left)
+    → BodiesLeft s test row entry at left r → BodiesTested s test row r
+unfolding sizeBook
+bodies-tested {s} el ee ea v = record {
+  says = λ ds e b k.
+      let w = book-listed s ds e b in
+      v .says (omega (arith, ap length e, b .short)) k ds (rw (ee, ea, el, w .0) (w .1)) (el ∙ w .0);
+}

@@ -1,0 +1,56 @@
+// The nested mode of document 02 b: the pass of document 01, more passes with the same macros, then the lifts.
+use closing::Elaborated;
+use closing::lift_book;
+use opening::Opened;
+use opening::open_book;
+use passes::Passes;
+use passes::expand_again;
+use writer::zero_range;
+ghost use mathlib.Core.Path.{_≡_};
+ghost use lib.ListN.{length};
+ghost use Rattle.definition.specs.Answer.{zeroed};
+ghost use Rattle.nested.specs.Nested.{attemptNested, answerNested, outputNested};
+ghost use Rattle.closing.specs.Elaborates.{reported, Reports};
+ghost use Rattle.nesting.specs.OpensNested.{OpensNested};
+
+// Codes 1 to 6 and 12. The book after the last pass fills the work area's first bytes.
+fn open_nested(book: &[u8], work: &mut [u8]) -> Opened
+    ensures { λ r. ⌜ OpensNested (now (book .entry)) (length (now (work .entry))) (now (work .exit)) r ⌝ }
+{
+    let opened = open_book(book, work);
+    match opened {
+        Opened::Refused { code } => Opened::Refused { code },
+        Opened::Book { len } => {
+            let mut next = [0u8; 16384];
+            let got = expand_again(book, &mut work[..16384], len, &mut next);
+            match got {
+                Passes::Grown => Opened::Refused { code: 6 },
+                Passes::Left => Opened::Refused { code: 12 },
+                Passes::Book { len } => Opened::Book { len },
+            }
+        }
+    }
+}
+
+// The elaboration, with the work area left as it is then.
+fn attempt_nested(book: &[u8], out: &mut [u8], work: &mut [u8]) -> Elaborated
+    ensures { λ r. ⌜ Reports (attemptNested (now (book .entry)) (length (now (out .entry))) (length (now (work .entry)))) (now (out .entry)) (now (out .exit)) r ⌝ }
+{
+    let opened = open_nested(book, work);
+    match opened {
+        Opened::Refused { code } => Elaborated::Refused { code },
+        Opened::Book { len } => lift_book(&work[..len], out),
+    }
+}
+
+// The output as before on a refusal, and all of the work area zero afterwards, as in document 01.
+pub fn elaborate_nested(book: &[u8], out: &mut [u8], work: &mut [u8]) -> Elaborated
+    ensures { λ r. ⌜ reported r ≡ answerNested (now (book .entry)) (length (now (out .entry))) (length (now (work .entry))) ⌝ }
+    ensures { λ _. ⌜ now (out .exit) ≡ outputNested (now (book .entry)) (now (out .entry)) (length (now (work .entry))) ⌝ }
+    ensures { λ _. ⌜ now (work .exit) ≡ zeroed (now (work .entry)) ⌝ }
+{
+    let answer = attempt_nested(book, out, work);
+    let end = work.len();
+    zero_range(work, 0, end);
+    answer
+}

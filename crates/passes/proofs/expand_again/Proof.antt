@@ -1,0 +1,123 @@
+-- `passes::expand_again` meets its contract.
+-- Assumes nothing.
+use mathlib.Core.Path.{_≡_, refl, _∙_}
+use native.Mathlib.Omega.{arith}
+use lib.ListN.{length}
+use Rattle.passes.proofs.Repeating.{Going, again-settled, again-left, again-grown, again-step}
+use borrow.Author.Needs.{needs}
+use Rattle.passes.proofs.expand_again.Statement.{statement}
+use Rattle.passes.proofs.expand_again.Tie as tie
+use Rattle.passes.proofs.expand_again.Reads as reads
+use Rattle.passes.proofs.expand_again.Lts as lts
+use Rattle.passes.proofs.first_bytes.Reads as first-bytes-reads
+use Rattle.passes.proofs.pass_back.Reads as pass-back-reads
+use Rattle.settled.proofs.settled.Reads as settled-reads
+
+abbrev Inv-loop : tie.InvT-loop
+Inv-loop macros book₀ len next₀ n₀ left₀ book next n left = (length book ≡ length book₀) × (length next ≡ length next₀) × Going macros book₀ len 15 (length next₀) book n left
+
+abbrev μ-loop : tie.MeasureT-loop
+μ-loop macros book₀ len next₀ n₀ left₀ book next n left = left
+
+loop-holds : tie.Need-loop-holds Inv-loop μ-loop
+loop-holds c = (refl, refl, record { goes = λ a r t. t })
+
+first-bytes-requires : tie.Need-first-bytes-requires Inv-loop μ-loop
+first-bytes-requires c κs = search needs
+
+settled-requires : tie.Need-settled-requires Inv-loop μ-loop
+settled-requires c κs = search needs
+
+same-length : tie.Need-same-length Inv-loop μ-loop
+same-length c = search needs
+
+same-length-2 : tie.Need-same-length-2 Inv-loop μ-loop
+same-length-2 c = search needs
+
+returns : tie.Need-returns Inv-loop μ-loop
+returns c = c .before .before .before .before .before .loop .inv .2 .goes _ _ (again-settled (c .before .before .first-bytes .ensures) (c .before .settled .ensures) (c .if1 .taken))
+
+pass-back-requires : tie.Need-pass-back-requires Inv-loop μ-loop
+pass-back-requires c κs = search needs
+
+sub-left : tie.Need-sub-left Inv-loop μ-loop
+sub-left c = search needs
+
+enum-told : tie.Need-enum-told Inv-loop μ-loop
+enum-told c = search needs
+
+same-length-3 : tie.Need-same-length-3 Inv-loop μ-loop
+same-length-3 c = search needs
+
+same-length-4 : tie.Need-same-length-4 Inv-loop μ-loop
+same-length-4 c = search needs
+
+returns-2 : tie.Need-returns-2 Inv-loop μ-loop
+returns-2 c =
+    let l = c .before .before .before .before .before .before .before .before .before .before .before .before .before .before .loop .inv in
+    l .2 .goes _ _ (again-grown (c .before .before .before .before .before .before .before .before .before .before .before .first-bytes .ensures) (c .before .before .before .before .before .before .before .before .before .before .settled .ensures) (c .before .before .before .before .before .before .before .before .before .if1 .left) (c .before .before .before .before .before .before .before .before .before .before .before .before .before .loop-test .taken) (l .1) (rw (c .enum-told .given .1) at (c .before .before .before .before .before .before .pass-back .ensures)))
+
+enum-known-got : tie.Need-enum-known-got Inv-loop μ-loop
+enum-known-got c = search needs
+
+loop-less : tie.Need-loop-less Inv-loop μ-loop
+loop-less c = search needs
+
+loop-again : tie.Need-loop-again Inv-loop μ-loop
+loop-again c =
+    let l = c .before .before .before .before .before .before .before .before .before .before .before .before .before .before .before .loop .inv in
+    (c .before .before .before .before .before .before .book .given ∙ l .0, c .before .before .before .before .next .given ∙ l .1, record { goes = λ a r t. l .2 .goes a r (again-step (c .before .before .before .before .before .before .before .before .before .before .before .before .first-bytes .ensures) (c .before .before .before .before .before .before .before .before .before .before .before .settled .ensures) (c .before .before .before .before .before .before .before .before .before .before .if1 .left) (c .before .before .before .before .before .before .before .before .before .before .before .before .before .before .loop-test .taken) (l .1) (rw (c .before .got .given .1) at (c .before .before .before .before .before .before .before .pass-back .ensures)) (c .before .before .before .before .before .before .book .given) t) })
+
+first-bytes-requires-2 : tie.Need-first-bytes-requires-2 Inv-loop μ-loop
+first-bytes-requires-2 c κs = search needs
+
+settled-requires-2 : tie.Need-settled-requires-2 Inv-loop μ-loop
+settled-requires-2 c κs = search needs
+
+same-length-5 : tie.Need-same-length-5 Inv-loop μ-loop
+same-length-5 c = search needs
+
+same-length-6 : tie.Need-same-length-6 Inv-loop μ-loop
+same-length-6 c = search needs
+
+returns-3 : tie.Need-returns-3 Inv-loop μ-loop
+returns-3 c = c .before .before .before .before .before .loop .inv .2 .goes _ _ (again-settled (c .before .before .first-bytes2 .ensures) (c .before .settled2 .ensures) (c .if2 .taken))
+
+same-length-7 : tie.Need-same-length-7 Inv-loop μ-loop
+same-length-7 c = search needs
+
+same-length-8 : tie.Need-same-length-8 Inv-loop μ-loop
+same-length-8 c = search needs
+
+returns-4 : tie.Need-returns-4 Inv-loop μ-loop
+returns-4 c = c .before .before .before .before .before .loop .inv .2 .goes _ _ (again-left (c .before .before .first-bytes2 .ensures) (c .before .settled2 .ensures) (c .if2 .left) (omega arith))
+
+pub expand-again-spec : {M : Type 1} → statement M
+expand-again-spec =
+    tie.close
+    (tie.spec
+    Inv-loop
+    μ-loop
+    loop-holds
+    first-bytes-requires
+    settled-requires
+    same-length
+    same-length-2
+    returns
+    pass-back-requires
+    sub-left
+    enum-told
+    same-length-3
+    same-length-4
+    returns-2
+    enum-known-got
+    loop-less
+    loop-again
+    first-bytes-requires-2
+    settled-requires-2
+    same-length-5
+    same-length-6
+    returns-3
+    same-length-7
+    same-length-8
+    returns-4)

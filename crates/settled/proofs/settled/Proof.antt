@@ -1,0 +1,49 @@
+-- `settled::settled` meets its contract.
+-- Assumes nothing.
+use Prim.Native.Nat.{ℕ}
+use lib.ListN.{length-replicate}
+use Rattle.settled.proofs.Settling.{book-settles}
+use borrow.Author.Needs.{needs}
+use Rattle.settled.proofs.settled.Statement.{statement}
+use Rattle.settled.proofs.settled.Tie as tie
+use Rattle.settled.proofs.settled.Reads as reads
+use Rattle.settled.proofs.settled.Lts as lts
+use Rattle.known.proofs.table.Reads as table-reads
+use Rattle.settled.proofs.bodies_settled.Reads as bodies-settled-reads
+
+slice-aggregate-table : tie.Need-slice-aggregate-table
+slice-aggregate-table c = search needs
+
+slice-aggregate-table-2 : tie.Need-slice-aggregate-table-2
+slice-aggregate-table-2 c = search needs
+
+table-requires : tie.Need-table-requires
+table-requires c κs = search needs
+
+slice-aggregate-bodies-settled : tie.Need-slice-aggregate-bodies-settled
+slice-aggregate-bodies-settled c = search needs
+
+slice-aggregate-bodies-settled-2 : tie.Need-slice-aggregate-bodies-settled-2
+slice-aggregate-bodies-settled-2 c = search needs
+
+slice-aggregate-bodies-settled-3 : tie.Need-slice-aggregate-bodies-settled-3
+slice-aggregate-bodies-settled-3 c = search needs
+
+bodies-settled-requires : tie.Need-bodies-settled-requires
+bodies-settled-requires c κs = search needs
+
+returns : tie.Need-returns
+returns c = book-settles (c .before .before .before .before .before .before .before .table .ensures) (length-replicate {0} {A = ℕ} 512 0) (length-replicate {0} {A = ℕ} 512 0) (length-replicate {0} {A = ℕ} 8192 0) (c .before .bodies-settled .ensures)
+
+pub settled-spec : {M : Type 1} → statement M
+settled-spec =
+    tie.close
+    (tie.spec
+    slice-aggregate-table
+    slice-aggregate-table-2
+    table-requires
+    slice-aggregate-bodies-settled
+    slice-aggregate-bodies-settled-2
+    slice-aggregate-bodies-settled-3
+    bodies-settled-requires
+    returns)

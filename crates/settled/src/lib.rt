@@ -1,0 +1,147 @@
+// Whether a book needs another pass, on validated bytes: document 02 b, "until no known macro call stands where the pass reaches".
+use marks::first_marks;
+use contents::params_past;
+use lookup::name_at;
+use known::Found;
+use known::find_macro;
+use known::table;
+use seek::byte;
+use seek::name_past;
+use seek::number;
+use seek::past;
+use substitution::walk_over;
+ghost use Rattle.settled.specs.Settles.{UnknownAt, AllUnknown, FormatSettles, DefinitionSettles, BodiesSettle, Settles};
+
+// Whether the call at a place is none of a known macro.
+fn is_unknown(
+    macros: &[u8],
+    places: &[u16],
+    hashes: &[u16],
+    rows: usize,
+    book: &[u8],
+    call: usize,
+) -> bool
+    ensures { λ r. ⌜ UnknownAt (now (macros .entry)) (now (places .entry)) (now (hashes .entry)) rows (now (book .entry)) call r ⌝ }
+{
+    let tag = byte(book, call);
+    let a = past(book, call, 1);
+    if tag == 16 {
+        let found = find_macro(name_at(book, a), macros, places, hashes, rows);
+        match found {
+            Found::At { at } => {
+                return false;
+            }
+            Found::Unknown => {
+                return true;
+            }
+        }
+    }
+    true
+}
+
+// The same of every call that is marked.
+fn all_unknown(
+    macros: &[u8],
+    places: &[u16],
+    hashes: &[u16],
+    rows: usize,
+    book: &[u8],
+    marks: &[u16],
+) -> bool
+    ensures { λ r. ⌜ AllUnknown (now (macros .entry)) (now (places .entry)) (now (hashes .entry)) rows (now (book .entry)) (now (marks .entry)) r ⌝ }
+{
+    let mut i = 0;
+    while i + 1 < marks.len() {
+        let call = marks[i] as usize;
+        i += 2;
+        if !is_unknown(macros, places, hashes, rows, book, call) {
+            return false;
+        }
+    }
+    true
+}
+
+// The format at a place: its body, behind its name and its parameters.
+fn format_settled(
+    macros: &[u8],
+    places: &[u16],
+    hashes: &[u16],
+    rows: usize,
+    book: &[u8],
+    at: usize,
+    marks: &mut [u16],
+) -> bool
+    ensures { λ r. ⌜ FormatSettles (now (macros .entry)) (now (places .entry)) (now (hashes .entry)) rows (now (book .entry)) at (now (marks .entry)) r ⌝ }
+{
+    let params = name_past(book, at);
+    let body = params_past(book, params, marks);
+    let w = walk_over(book, body, 64, marks);
+    let n = w.n;
+    all_unknown(
+        macros,
+        places,
+        hashes,
+        rows,
+        book,
+        first_marks(&marks[..], n),
+    )
+}
+
+// The definition at a place: the pass reaches only into formats.
+fn definition_settled(
+    macros: &[u8],
+    places: &[u16],
+    hashes: &[u16],
+    rows: usize,
+    book: &[u8],
+    kind: u8,
+    at: usize,
+    marks: &mut [u16],
+) -> bool
+    ensures { λ r. ⌜ DefinitionSettles (now (macros .entry)) (now (places .entry)) (now (hashes .entry)) rows (now (book .entry)) kind at (now (marks .entry)) r ⌝ }
+{
+    if kind == 1 {
+        return format_settled(macros, places, hashes, rows, book, at, marks);
+    }
+    true
+}
+
+// Every format's body, with the macros in a table.
+fn bodies_settled(
+    macros: &[u8],
+    places: &[u16],
+    hashes: &[u16],
+    rows: usize,
+    book: &[u8],
+    marks: &mut [u16],
+) -> bool
+    ensures { λ r. ⌜ BodiesSettle (now (macros .entry)) (now (places .entry)) (now (hashes .entry)) rows (now (book .entry)) (now (marks .entry)) r ⌝ }
+{
+    let mut left = number(book, 0) as usize;
+    let mut entry = past(book, 0, 2);
+    let mut at = past(book, 2, 6 * left);
+    while 0 < left {
+        let kind = byte(book, entry);
+        let sized = past(book, entry, 4);
+        let size = number(book, sized) as usize;
+        let here = at;
+        at = past(book, at, size);
+        entry = past(book, entry, 6);
+        left -= 1;
+        if !definition_settled(macros, places, hashes, rows, book, kind, here, marks) {
+            return false;
+        }
+    }
+    true
+}
+
+// Whether no call of a macro that the other book defines stands where the pass reaches.
+pub fn settled(macros: &[u8], book: &[u8]) -> bool
+    ensures { λ r. ⌜ Settles (now (macros .entry)) (now (book .entry)) r ⌝ }
+{
+    let mut places = [0u16; 512];
+    let mut hashes = [0u16; 512];
+    let mut marks = [0u16; 8192];
+    let rows = table(macros, &mut places, &mut hashes);
+    bodies_settled(macros, &places, &hashes, rows, book, &mut marks)
+}
