@@ -74,18 +74,18 @@ stands next next′ {area} {area′} {len} w la (done es) f e l =
       long = ap length (w .holds) ∙ length-put area 0 (part 0 len next′) ∙ la;
     }
 
-module _ {lib area : List ℕ} {len : ℕ} {here next next′ : List ℕ} (eh : here ≡ take len area) where
-  pub back-grown : {r : Expanded} → Passed lib here next next′ r → r ≡ Over → {area′ : List ℕ} → PassedBack lib area len (length next) area′ Over
-  back-grown {r} p e = record { says = λ ms ds el im eb id la ln. grown (pass-six (macros ms []) ds) (sym e ∙ p .says ms ds el im (eh ∙ eb) id ln .0 ∙ ap answerOf (pass-is ms ds)) }
+module _ {lib area : List ℕ} {len : ℕ} {here areas next next′ : List ℕ} (eh : here ≡ take len area) where
+  pub back-grown : {r : Expanded} → Passed lib here areas next next′ r → r ≡ Over → {area′ : List ℕ} → PassedBack lib area len (length areas) (length next) area′ Over
+  back-grown {r} p e = record { says = λ ms ds el im eb id la ls ln. grown (pass-six (macros ms []) ds) (sym e ∙ p .says ms ds el im (eh ∙ eb) id ls ln .0 ∙ ap answerOf (pass-is ms ds)) }
     where
       grown : {m : Out (List Definition)} → Grows m → Over ≡ answerOf m → m ≡ refused macro-growth
       grown six q = refl
       grown (none es) q = absurd (let z : _≡_ {A = ℕ} 0 1 = cc in omega arith)
 
-  pub back-book : {len′ : ℕ} {area′ : List ℕ} {q : ℕ} → Wrote area 0 (part 0 len′ next′) area′ q → {r : Expanded} → Passed lib here next next′ r → r ≡ Whole len′ → PassedBack lib area len (length next) area′ (Whole len′)
+  pub back-book : {len′ : ℕ} {area′ : List ℕ} {q : ℕ} → Wrote area 0 (part 0 len′ next′) area′ q → {r : Expanded} → Passed lib here areas next next′ r → r ≡ Whole len′ → PassedBack lib area len (length areas) (length next) area′ (Whole len′)
   back-book w {r} p e = record {
-    says = λ ms ds el im eb id la ln.
-        let t = p .says ms ds el im (eh ∙ eb) id ln in
+    says = λ ms ds el im eb id la ls ln.
+        let t = p .says ms ds el im (eh ∙ eb) id ls ln in
         stands next next′ w la (pass (macros ms []) ds) (λ es g. yielded (pass-book ms ds im id) g .0) (sym e ∙ t .0 ∙ ap answerOf (pass-is ms ds)) (rw (pass-is ms ds) at (t .1));
   }
 
@@ -105,32 +105,32 @@ unfolding again until
 again-none zero ms ds h e = rw e
 again-none (suc left) ms ds h e = absurd (omega arith)
 
-module _ {lib area : List ℕ} {len left room : ℕ} {here : List ℕ} (eh : here ≡ take len area) {b : Bool} (s : Settles lib here b) where
-  pub again-settled : b ≡ true → Again lib area len left room area (Book len)
+module _ {lib area : List ℕ} {len left areas room : ℕ} {here : List ℕ} (eh : here ≡ take len area) {b : Bool} (s : Settles lib here b) where
+  pub again-settled : b ≡ true → Again lib area len left areas room area (Book len)
   again-settled e = record {
-    says = λ ms ds el im eb id f la ln.
+    says = λ ms ds el im eb id f la ls ln.
         record { list = ds; is = again-done left (macros ms []) ds (sym (s .says ms ds el im (eh ∙ eb) id) ∙ e); isBook = id; holds = eb; fits = f; long = la };
   }
 
   module _ (e : b ≡ false) where
-    pub again-left : left ≤ 0 → Again lib area len left room area Left
-    again-left h = record { says = λ ms ds el im eb id f la ln. again-none left (macros ms []) ds h (sym (s .says ms ds el im (eh ∙ eb) id) ∙ e) }
+    pub again-left : left ≤ 0 → Again lib area len left areas room area Left
+    again-left h = record { says = λ ms ds el im eb id f la ls ln. again-none left (macros ms []) ds h (sym (s .says ms ds el im (eh ∙ eb) id) ∙ e) }
 
-    module _ (h : 0 < left) {room₁ : ℕ} (er : room₁ ≡ room) {area₁ : List ℕ} where
-      pub again-grown : PassedBack lib area len room₁ area₁ Over → Again lib area len left room area₁ Grown
+    module _ (h : 0 < left) {areas₁ room₁ : ℕ} (ea : areas₁ ≡ areas) (er : room₁ ≡ room) {area₁ : List ℕ} where
+      pub again-grown : PassedBack lib area len areas₁ room₁ area₁ Over → Again lib area len left areas room area₁ Grown
       again-grown p = record {
-        says = λ ms ds el im eb id f la ln. again-more left (macros ms []) ds h (sym (s .says ms ds el im (eh ∙ eb) id) ∙ e) ∙ rw (p .says ms ds el im eb id la (er ∙ ln));
+        says = λ ms ds el im eb id f la ls ln. again-more left (macros ms []) ds h (sym (s .says ms ds el im (eh ∙ eb) id) ∙ e) ∙ rw (p .says ms ds el im eb id la (ea ∙ ls) (er ∙ ln));
       }
 
-      pub again-step : {len₁ : ℕ} → PassedBack lib area len room₁ area₁ (Whole len₁) → length area₁ ≡ length area → {area′ : List ℕ} {r : Passes} → Again lib area₁ len₁ (left - 1) room area′ r
-          → Again lib area len left room area′ r
+      pub again-step : {len₁ : ℕ} → PassedBack lib area len areas₁ room₁ area₁ (Whole len₁) → length area₁ ≡ length area → {area′ : List ℕ} {r : Passes} → Again lib area₁ len₁ (left - 1) areas room area′ r
+          → Again lib area len left areas room area′ r
       again-step p l n = record {
-        says = λ ms ds el im eb id f la ln.
-            let t = p .says ms ds el im eb id la (er ∙ ln) in
+        says = λ ms ds el im eb id f la ls ln.
+            let t = p .says ms ds el im eb id la (ea ∙ ls) (er ∙ ln) in
             rw (again-more left (macros ms []) ds h (sym (s .says ms ds el im (eh ∙ eb) id) ∙ e), t .is)
-            (n .says ms (t .list) el im (t .holds) (t .isBook) (t .fits) (l ∙ la) ln);
+            (n .says ms (t .list) el im (t .holds) (t .isBook) (t .fits) (l ∙ la) ls ln);
       }
 
 -- the loop: whoever goes on from here has gone from the start
-pub record Going (lib area₀ : List ℕ) (len₀ left₀ room : ℕ) (area : List ℕ) (len left : ℕ) : Type 0 where
-  pub goes : (area′ : List ℕ) (r : Passes) → Again lib area len left room area′ r → Again lib area₀ len₀ left₀ room area′ r
+pub record Going (lib area₀ : List ℕ) (len₀ left₀ areas room : ℕ) (area : List ℕ) (len left : ℕ) : Type 0 where
+  pub goes : (area′ : List ℕ) (r : Passes) → Again lib area len left areas room area′ r → Again lib area₀ len₀ left₀ areas room area′ r

@@ -29,9 +29,9 @@ abbrev pub BackBy : Out (List Definition) → List ℕ → Expanded → Type 0
 BackBy m area (Whole len) = Stands m area len
 BackBy m area Over = m ≡ refused macro-growth
 
--- the macros of lib, and a book in the first bytes of an area; beside it stands another area for the result
-pub record PassedBack (lib area : List ℕ) (len room : ℕ) (area′ : List ℕ) (r : Expanded) : Type 0 where
-  pub says : (ms ds : List Definition) → lib ≡ wBook ms → IsBook ms → take len area ≡ wBook ds → IsBook ds → length area ≡ 16384 → room ≡ 16384 → BackBy (pass (macros ms []) ds) area′ r
+-- the macros of lib, and a book in the first bytes of an area; beside it stand the areas of an expansion, and room for its result
+pub record PassedBack (lib area : List ℕ) (len areas room : ℕ) (area′ : List ℕ) (r : Expanded) : Type 0 where
+  pub says : (ms ds : List Definition) → lib ≡ wBook ms → IsBook ms → take len area ≡ wBook ds → IsBook ds → length area ≡ 16384 → areas ≡ 32768 → room ≡ 16384 → BackBy (pass (macros ms []) ds) area′ r
 
 -- several: the list, 6 or 12
 abbrev pub AgainBy : Out (List Definition) → List ℕ → Passes → Type 0
@@ -40,6 +40,6 @@ AgainBy m area Grown = m ≡ refused macro-growth
 AgainBy m area Left = m ≡ refused macro-left
 
 -- so many more passes may be made
-pub record Again (lib area : List ℕ) (len left room : ℕ) (area′ : List ℕ) (r : Passes) : Type 0 where
-  pub says : (ms ds : List Definition) → lib ≡ wBook ms → IsBook ms → take len area ≡ wBook ds → IsBook ds → len ≤ 16384 → length area ≡ 16384 → room ≡ 16384
+pub record Again (lib area : List ℕ) (len left areas room : ℕ) (area′ : List ℕ) (r : Passes) : Type 0 where
+  pub says : (ms ds : List Definition) → lib ≡ wBook ms → IsBook ms → take len area ≡ wBook ds → IsBook ds → len ≤ 16384 → length area ≡ 16384 → areas ≡ 32768 → room ≡ 16384
       → AgainBy (again left (macros ms []) ds) area′ r

@@ -24,11 +24,17 @@ fn first_bytes(s: &[u8], n: usize) -> &[u8]
 }
 
 // One pass over the book that stands in the first bytes; what it makes in next goes back there.
-fn pass_back(macros: &[u8], book: &mut [u8], len: usize, next: &mut [u8]) -> Expanded
-    ensures { λ r. ⌜ PassedBack (now (macros .entry)) (now (book .entry)) len (length (now (next .entry))) (now (book .exit)) r ⌝ }
+fn pass_back(
+    macros: &[u8],
+    book: &mut [u8],
+    len: usize,
+    areas: &mut [u8],
+    next: &mut [u8],
+) -> Expanded
+    ensures { λ r. ⌜ PassedBack (now (macros .entry)) (now (book .entry)) len (length (now (areas .entry))) (length (now (next .entry))) (now (book .exit)) r ⌝ }
 {
     let here = first_bytes(&book[..], len);
-    let got = expand_macros(macros, here, next);
+    let got = expand_macros(macros, here, areas, next);
     match got {
         Expanded::Grown => Expanded::Grown,
         Expanded::Book { len } => {
@@ -39,8 +45,14 @@ fn pass_back(macros: &[u8], book: &mut [u8], len: usize, next: &mut [u8]) -> Exp
 }
 
 // Passes with the macros of the other book, until none of these is called where a pass reaches: at most 15, after the first.
-pub fn expand_again(macros: &[u8], book: &mut [u8], len: usize, next: &mut [u8]) -> Passes
-    ensures { λ r. ⌜ Again (now (macros .entry)) (now (book .entry)) len 15 (length (now (next .entry))) (now (book .exit)) r ⌝ }
+pub fn expand_again(
+    macros: &[u8],
+    book: &mut [u8],
+    len: usize,
+    areas: &mut [u8],
+    next: &mut [u8],
+) -> Passes
+    ensures { λ r. ⌜ Again (now (macros .entry)) (now (book .entry)) len 15 (length (now (areas .entry))) (length (now (next .entry))) (now (book .exit)) r ⌝ }
 {
     let mut n = len;
     let mut left: usize = 15;
@@ -49,7 +61,7 @@ pub fn expand_again(macros: &[u8], book: &mut [u8], len: usize, next: &mut [u8])
         if settled(macros, here) {
             return Passes::Book { len: n };
         }
-        let got = pass_back(macros, book, n, next);
+        let got = pass_back(macros, book, n, areas, next);
         left -= 1;
         match got {
             Expanded::Grown => {

@@ -1,10 +1,10 @@
 // Whether a book needs another pass, on validated bytes: document 02 b, "until no known macro call stands where the pass reaches".
-use marks::first_marks;
 use contents::params_past;
-use lookup::name_at;
 use known::Found;
 use known::find_macro;
 use known::table;
+use lookup::name_at;
+use marks::first_marks;
 use seek::byte;
 use seek::name_past;
 use seek::number;

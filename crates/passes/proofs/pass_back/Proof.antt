@@ -31,17 +31,23 @@ same-length c = search needs
 same-length-2 : tie.Need-same-length-2
 same-length-2 c = search needs
 
-returns : tie.Need-returns
-returns c = back-grown (c .before .before .before .before .before .before .first-bytes .ensures) (c .before .before .before .before .expand-macros .ensures) (c .enum-told .given .1)
-
 same-length-3 : tie.Need-same-length-3
 same-length-3 c = search needs
+
+returns : tie.Need-returns
+returns c = back-grown (c .before .before .before .before .before .before .before .before .before .first-bytes .ensures) (c .before .before .before .before .before .before .expand-macros .ensures) (c .enum-told .given .1)
 
 same-length-4 : tie.Need-same-length-4
 same-length-4 c = search needs
 
+same-length-5 : tie.Need-same-length-5
+same-length-5 c = search needs
+
+same-length-6 : tie.Need-same-length-6
+same-length-6 c = search needs
+
 returns-2 : tie.Need-returns-2
-returns-2 c = back-book (c .before .before .before .before .before .before .before .before .before .before .before .before .first-bytes .ensures) (c .before .before .put-part .ensures) (c .before .before .before .before .before .before .before .before .before .before .expand-macros .ensures) (c .before .before .before .before .before .before .got .given .1)
+returns-2 c = back-book (c .before .before .before .before .before .before .before .before .before .before .before .before .before .before .before .first-bytes .ensures) (c .before .before .put-part .ensures) (c .before .before .before .before .before .before .before .before .before .before .before .before .expand-macros .ensures) (c .before .before .before .before .before .before .got .given .1)
 
 pub pass-back-spec : {M : Type 1} → statement M
 pass-back-spec =
@@ -54,7 +60,9 @@ pass-back-spec =
     put-part-requires
     same-length
     same-length-2
-    returns
     same-length-3
+    returns
     same-length-4
+    same-length-5
+    same-length-6
     returns-2)
