@@ -26,14 +26,13 @@ use Rattle.lift.specs.Bound.{boundFrom}
 use Rattle.lift.specs.Sheet.{Sheet, sheetOf}
 use Rattle.lifting.specs.Trace.{paramsAt}
 use Rattle.naming.specs.Walk.{Extent}
-use Rattle.naming.specs.Frames.{combinatorEnd}
-use Rattle.naming.specs.Lifts.{Whole, Scratch}
-use Rattle.naming.proofs.Ends.{combinator-end}
+use Rattle.naming.specs.Lifts.{Scratch}
 use Rattle.walked.specs.Book.{ownBound, walkAll}
 use Rattle.body.specs.declared.Body.{Body}
 use Rattle.body.specs.declared.Body.the-variants.{Named, Refused}
-use Rattle.body.specs.Walks.{Good, Ready, Ends, Walks}
-use Rattle.formats.specs.Own.{Params, Binds, Own}
+use Rattle.steps.specs.Good.{Good}
+use Rattle.body.specs.Walks.{Ready, Ends, Walks}
+use Rattle.own.specs.Own.{Params, Binds, Own}
 use Rattle.formats.specs.Formats.{Format, EndsIn, Formatted, Defined}
 
 -- a name that was put into an empty path
@@ -64,7 +63,7 @@ module _ {s : List ℕ} {at : ℕ} (short : length s ≤ 16384) {list : ℕ} (el
   pub has-params : Format s at → Params s list
   has-params f = record { of = f .params; after = _; is = list-here (f .name) (f .params) (f .body) (f .after) (f .is); deep = f .deep-params }
 
-  module _ {binders : List ℕ} {body : ℕ} (o : Own s list binders body) {b end : ℕ} (eb : b ≡ numberAt s list) (ee : end ≡ combinatorEnd 64 s body) where
+  module _ {binders : List ℕ} {body : ℕ} (o : Own s list binders body) {b : ℕ} (eb : b ≡ numberAt s list) where
     module _ (m : Name) (ps : List Param) (c : Combinator) (z : List ℕ) (h : Here s at (wDefinition (format m ps c) z)) (dp : levelsP ps ≤ 64) (dc : levels c ≤ 64) where
       binds : Binds s (list + 2) ps (wCombinator c z) binders (length ps) body
       binds = o .says ps (wCombinator c z) (list-here m ps c z h) dp
@@ -73,15 +72,12 @@ module _ {s : List ℕ} {at : ℕ} (short : length s ≤ 16384) {list : ℕ} (el
       unfolding wList
       count = eb ∙ number-here (length ps) (wAll wParam ps (wCombinator c z)) (list-here m ps c z h)
 
-      whole : Whole s body end c
-      whole = record { after = z; is = binds .rest; deep = dc; ends = ee ∙ combinator-end (omega arith) c 64 z dc (omega arith) (binds .rest) }
-
-    pub ready : Format s at → {path bound uses spare : List ℕ} → length path ≡ 255 → 16384 ≤ length binders → Scratch s bound uses spare → Ready s body end path binders b bound uses spare
+    pub ready : Format s at → {path bound uses spare : List ℕ} → length path ≡ 255 → length s ≤ length binders → Scratch s bound uses spare → Ready s body path binders b bound uses spare
     ready f lp lb sc =
         let e = count (f .name) (f .params) (f .body) (f .after) (f .is) (f .deep-params) (f .deep) in
         let g = binds (f .name) (f .params) (f .body) (f .after) (f .is) (f .deep-params) (f .deep) in
         record {
-          stands = record { what = f .body; whole = whole (f .name) (f .params) (f .body) (f .after) (f .is) (f .deep-params) (f .deep) };
+          stands = record { what = f .body; stands = record { after = f .after; is = g .rest }; deep = f .deep };
           scratch = sc;
           path-long = lp;
           binders-long = lb;
@@ -90,13 +86,13 @@ module _ {s : List ℕ} {at : ℕ} (short : length s ≤ 16384) {list : ℕ} (el
         }
 
     pub formatted : {path₀ path : List ℕ} {len : ℕ} → Wrote path₀ 0 (nameAt s at) path len → {made places rows params order : List ℕ} {w : Counts} {n : ℕ} {made′ places′ hashes′ hints′ rows′ params′ number′ order′ : List ℕ} {r : Body}
-        → Walks s body end path len binders b made places rows params order w n made′ places′ hashes′ hints′ rows′ params′ number′ order′ r
+        → Walks s body path len binders b made places rows params order w n made′ places′ hashes′ hints′ rows′ params′ number′ order′ r
         → Formatted s at made places rows params order w n made′ places′ hashes′ hints′ rows′ params′ number′ order′ r
     formatted put walks = record {
       says = λ m ps c z h dp dc.
           let g = binds m ps c z h dp dc in
           let e : boundFrom s binders 0 b ≡ ownBound ps (paramsAt at m) = rw (count m ps c z h dp dc, ← (list-at m ps c z h)) (g .bound) in
-          rw (← e, ← (body-at m ps c z h (g .rest))) (walks .walks c m (whole m ps c z h dp dc) (held (rw (named m ps c z h) at put)));
+          rw (← e, ← (body-at m ps c z h (g .rest))) (walks .walks c m (record { after = z; is = g .rest }) dc (held (rw (named m ps c z h) at put)));
     }
 
 -- ---- a definition by its kind

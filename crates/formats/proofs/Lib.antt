@@ -1,5 +1,3 @@
-mod Rows
-mod Own
 mod Formats
 mod Order
 mod Start

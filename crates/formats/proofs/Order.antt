@@ -22,8 +22,9 @@ use Rattle.lift.specs.Sheet.{Sheet, sheetOf}
 use Rattle.naming.specs.Walk.{Extent, walk}
 use Rattle.walked.specs.Book.{ownBound, walkAll}
 use Rattle.body.specs.declared.Body.the-variants.{Named, Refused}
-use Rattle.body.specs.Walks.{Good, Ends}
-use Rattle.formats.specs.Rows.{Book}
+use Rattle.steps.specs.Good.{Good}
+use Rattle.body.specs.Walks.{Ends}
+use Rattle.start.specs.Rows.{Book}
 use Rattle.formats.specs.Formats.{Space, Format, EndsIn, Defined, InOrder}
 
 -- ---- one definition, and then the others

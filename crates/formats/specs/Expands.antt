@@ -9,7 +9,8 @@ use Rattle.laws.specs.Book.{IsBook}
 use Rattle.lift.specs.Sheet.{sheetOf}
 use Rattle.walked.specs.Book.{walkBook}
 use Rattle.body.specs.declared.Body.{Body}
-use Rattle.body.specs.Walks.{Good, Ends}
+use Rattle.steps.specs.Good.{Good}
+use Rattle.body.specs.Walks.{Ends}
 
 -- the expanded book, and tables that are long enough; no place has a number yet
 pub record Starts (s made rows params number order : List ℕ) : Type 0 where
@@ -19,7 +20,7 @@ pub record Starts (s made rows params number order : List ℕ) : Type 0 where
   pub made-long : 8192 ≤ length made
   pub rows-long : 2560 ≤ length rows
   pub params-long : 13108 ≤ length params
-  pub number-long : 16384 ≤ length number
+  pub number-long : length s ≤ length number
   pub order-long : 512 ≤ length order
   pub blank : (p : ℕ) → getD number p 0 ≡ 0
 

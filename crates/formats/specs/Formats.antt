@@ -18,12 +18,13 @@ use Rattle.naming.specs.Walk.{walk}
 use Rattle.naming.specs.Lifts.{Scratch}
 use Rattle.walked.specs.Book.{ownBound, walkAll}
 use Rattle.body.specs.declared.Body.{Body}
-use Rattle.body.specs.Walks.{Good, Ends}
+use Rattle.steps.specs.Good.{Good}
+use Rattle.body.specs.Walks.{Ends}
 
 pub record Space (s path binders bound uses spare : List ℕ) : Type 0 where
   pub scratch : Scratch s bound uses spare
   pub path-long : length path ≡ 255
-  pub binders-long : 16384 ≤ length binders
+  pub binders-long : length s ≤ length binders
 
 pub record Format (s : List ℕ) (at : ℕ) : Type 0 where
   pub name : Name
