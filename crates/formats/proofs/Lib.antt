@@ -1,3 +1,2 @@
-mod Formats
 mod Order
 mod Start

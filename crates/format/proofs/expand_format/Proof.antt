@@ -1,10 +1,10 @@
--- `formats::expand_format` meets its contract.
+-- `format::expand_format` meets its contract.
 -- Assumes nothing.
 use native.Mathlib.Omega.{arith}
 use borrow.Author.Needs.{needs}
-use Rattle.formats.proofs.Formats.{len-most, has-params, ready, formatted}
-use Rattle.formats.proofs.expand_format.Statement.{statement}
-use Rattle.formats.proofs.expand_format.Tie as tie
+use Rattle.format.proofs.Formats.{len-most, has-params, ready, formatted}
+use Rattle.format.proofs.expand_format.Statement.{statement}
+use Rattle.format.proofs.expand_format.Tie as tie
 
 own-params-requires : tie.Need-own-params-requires
 own-params-requires c κs =

@@ -1,8 +1,8 @@
--- `formats::expand_definition` meets its contract.
+-- `format::expand_definition` meets its contract.
 -- Assumes nothing.
-use Rattle.formats.proofs.Formats.{defined-format, defined-none}
-use Rattle.formats.proofs.expand_definition.Statement.{statement}
-use Rattle.formats.proofs.expand_definition.Tie as tie
+use Rattle.format.proofs.Formats.{defined-format, defined-none}
+use Rattle.format.proofs.expand_definition.Statement.{statement}
+use Rattle.format.proofs.expand_definition.Tie as tie
 
 expand-format-requires : tie.Need-expand-format-requires
 expand-format-requires c κs = let p = c .before .before .before .before .before .before .before .before .before .before .before .before .before .before .before .before .before .before .before .before .before .before .before .before .before .before .before .before .pre in (p .0, p .1, p .2 (c .before .before .before .before .before .before .before .before .before .before .before .before .before .if1 .taken))

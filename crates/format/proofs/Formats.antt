@@ -33,7 +33,7 @@ use Rattle.body.specs.declared.Body.the-variants.{Named, Refused}
 use Rattle.steps.specs.Good.{Good}
 use Rattle.body.specs.Walks.{Ready, Ends, Walks}
 use Rattle.own.specs.Own.{Params, Binds, Own}
-use Rattle.formats.specs.Formats.{Format, EndsIn, Formatted, Defined}
+use Rattle.format.specs.Formats.{Format, EndsIn, Formatted, Defined}
 
 -- a name that was put into an empty path
 pub held : {d : List ℕ} {name : Name} {d′ : List ℕ} {r : ℕ} → Wrote d 0 name d′ r → Held d′ r name

@@ -1,16 +1,14 @@
--- The naming pass over one definition, and over all of them in order.
+-- The naming pass over one definition.
 use mathlib.Core.Path.{_≡_}
 use mathlib.Core.List.{List, [], _∷_}
 use Prim.Native.Nat.{ℕ, _+_, _≤_}
 use lib.ListN.{length, take}
 use Rattle.definition.specs.Res.{Res}
 use Rattle.definition.specs.Tree.{Name, Combinator, Param, Definition, format}
-use Rattle.definition.specs.Write.{wDefinition, kindOf, kindByte, wBook}
+use Rattle.definition.specs.Write.{wDefinition, kindOf, kindByte}
 use Rattle.definition.specs.Size.{levels, levelsP, levelsBook}
-use Rattle.laws.specs.Book.{IsBook}
 use Rattle.laws.proofs.Sizes.{head}
 use Rattle.seek.specs.Here.{Here}
-use Rattle.lifting.specs.After.{firstAt}
 use Rattle.lifting.specs.Trace.{paramsAt}
 use Rattle.lift.specs.declared.Counts.{Counts}
 use Rattle.lift.specs.Sheet.{Sheet, sheetOf}
@@ -46,7 +44,3 @@ pub record Formatted (s : List ℕ) (at : ℕ) (made places rows params order : 
 pub record Defined (s : List ℕ) (kind at : ℕ) (made places rows params order : List ℕ) (w : Counts) (n : ℕ) (made′ places′ hashes′ hints′ rows′ params′ number′ order′ : List ℕ) (r : Body) : Type 0 where
   pub says : (d : Definition) (z : List ℕ) → Here s at (wDefinition d z) → kind ≡ kindByte (kindOf d) → levelsBook (d ∷ []) ≤ 64
       → EndsIn (walkAll (d ∷ []) at (sheetOf s made places rows params (take n order) w)) s made′ places′ hashes′ hints′ rows′ params′ number′ order′ r
-
-pub record InOrder (s : List ℕ) (made places rows params order : List ℕ) (w : Counts) (made′ places′ hashes′ hints′ rows′ params′ number′ order′ : List ℕ) (r : Body) : Type 0 where
-  pub says : (ds : List Definition) → s ≡ wBook ds → IsBook ds
-      → EndsIn (walkAll ds (firstAt ds) (sheetOf s made places rows params (take 0 order) w)) s made′ places′ hashes′ hints′ rows′ params′ number′ order′ r
