@@ -1,6 +1,3 @@
-pub mod Named
-pub mod Started
-pub mod Children
 pub mod Stack
 pub mod Turns
 pub mod Rounds

@@ -8,6 +8,7 @@ use native.Mathlib.Omega.{arith}
 use lib.ListN.{length, take, getD, set, length-append}
 use lib.Seq.{take-all, take-append-le}
 use Rattle.definition.specs.Tree.{Name, Combinator}
+use Rattle.definition.specs.Size.{levels}
 use Rattle.writer.proofs.Put.{within}
 use Rattle.names.specs.Name.{Held}
 use Rattle.lift.specs.declared.Counts.{Counts}
@@ -17,27 +18,29 @@ use Rattle.lift.proofs.Entered.{cut-length}
 use Rattle.naming.specs.declared.Frame.{Frame}
 use Rattle.naming.specs.Walk.{walk}
 use Rattle.naming.specs.Nodes.{walked, nodeOf, Wait}
-use Rattle.naming.specs.Frames.{OwnIs, frameAt, Closing, passed, Passing, bindBy, boundAfter, delivered}
-use Rattle.naming.specs.Lifts.{Whole, Scratch}
+use Rattle.naming.specs.Frames.{Stands, OwnIs, frameAt, Closing, passed, Passing, bindBy, boundAfter, delivered}
+use Rattle.naming.specs.Lifts.{Scratch}
 use Rattle.naming.proofs.Machine.{run-root}
 use Rattle.naming.proofs.Opened.{frame-opens}
-use Rattle.body.specs.Walks.{Good, Ready, Ends, Walks}
-use Rattle.body.specs.Steps.{Reached, StepIs, weight, SomeChild, Opened, ChildIs, Comes, closedOf, orderOf}
+use Rattle.steps.specs.Good.{Good}
+use Rattle.body.specs.Walks.{Ready, Ends, Walks}
+use Rattle.steps.specs.Steps.{Reached, StepIs, weight, Standing, Opened, ChildIs, Comes, closedOf, orderOf}
 use Rattle.body.specs.declared.Body.the-variants.{Named, Refused}
-use Rattle.body.specs.declared.steps.Step.{Step}
-use Rattle.body.specs.declared.steps.Step.the-variants as step
-use Rattle.body.specs.declared.steps.Child.{Child}
-use Rattle.body.specs.declared.steps.Child.the-variants as comes
-use Rattle.body.specs.declared.steps.Closed.{Closed}
-use Rattle.body.proofs.Children.{frame-sound}
+use Rattle.steps.specs.declared.Step.{Step}
+use Rattle.steps.specs.declared.Step.the-variants as step
+use Rattle.steps.specs.declared.Child.{Child}
+use Rattle.steps.specs.declared.Child.the-variants as comes
+use Rattle.steps.specs.declared.Closed.{Closed}
+use Rattle.steps.proofs.Children.{frame-sound}
 use Rattle.body.proofs.Stack.{no-frame, Stack, waiting, lifting, Going}
 use Rattle.body.proofs.Turns.{less-pass, goes-pass, child-levels, child-few, goes-open, less-open, ends-refused, good-closed, ends-last, goes-back, less-back}
 
 -- a tree that stands there, and a name that the path holds
-pub record Root (s : List ℕ) (at end : ℕ) (path : List ℕ) (len : ℕ) : Type 0 where
+pub record Root (s : List ℕ) (at : ℕ) (path : List ℕ) (len : ℕ) : Type 0 where
   pub tree : Combinator
   pub name : Name
-  pub whole : Whole s at end tree
+  pub stands : Stands s at tree
+  pub deep : levels tree ≤ 64
   pub held : Held path len name
 
 record Holds (path : List ℕ) (len : ℕ) : Type 0 where
@@ -57,10 +60,10 @@ holds path len l h = ⊎-elim short long (within len 255)
         let e = length-append path (0 ∷ []) in
         record { name = path ++ (0 ∷ []); held = record { place = omega arith; bytes = take-all len path (omega arith) ∙ sym (take-append-le (length path) path (0 ∷ []) (omega arith) ∙ take-all (length path) path (omega arith)) } }
 
-pub record Round (s : List ℕ) (at end : ℕ) (path₀ : List ℕ) (len : ℕ) (binders₀ : List ℕ) (b : ℕ) (made₀ places₀ rows₀ params₀ order₀ : List ℕ) (w₀ : Counts) (n₀ : ℕ)
+pub record Round (s : List ℕ) (at : ℕ) (path₀ : List ℕ) (len : ℕ) (binders₀ : List ℕ) (b : ℕ) (made₀ places₀ rows₀ params₀ order₀ : List ℕ) (w₀ : Counts) (n₀ : ℕ)
     (path binders bound uses spare made places hashes hints rows params number order : List ℕ) (frames : List Frame) (f : Frame) (d : ℕ) (w : Counts) (n : ℕ) : Type 0 where
-  pub root : Root s at end path₀ len
-  pub goes : (x : Root s at end path₀ len) → Going s path binders bound uses spare made places hashes hints rows params number order frames f d w n
+  pub root : Root s at path₀ len
+  pub goes : (x : Root s at path₀ len) → Going s path binders bound uses spare made places hashes hints rows params number order frames f d w n
       (walk (x .tree) at (x .name) (boundFrom s binders₀ 0 b) (sheetOf s made₀ places₀ rows₀ params₀ (take n₀ order₀) w₀))
 
 -- what is left to walk
@@ -68,20 +71,20 @@ abbrev pub left : List ℕ → List Frame → Frame → ℕ → ℕ
 left s frames f d = weight s f + waiting frames d (f .last)
 
 -- ---- the start
-module _ {s : List ℕ} {at end : ℕ} {path : List ℕ} {len : ℕ} {binders : List ℕ} {b : ℕ} {bound uses spare made places hashes hints rows params number order : List ℕ} {w : Counts} {n : ℕ} where
-  pub round-start : {frames : List Frame} {f : Frame} → len ≤ 256 → Good s made places hashes hints rows params number order w n → Ready s at end path binders b bound uses spare → f ≡ frameAt s at end len b 0 0 → length frames ≡ 64
-      → Round s at end path len binders b made places rows params order w n path binders bound uses spare made places hashes hints rows params number order frames f 0 w n
+module _ {s : List ℕ} {at : ℕ} {path : List ℕ} {len : ℕ} {binders : List ℕ} {b : ℕ} {bound uses spare made places hashes hints rows params number order : List ℕ} {w : Counts} {n : ℕ} where
+  pub round-start : {frames : List Frame} {f : Frame} (last : ℕ) → len ≤ 256 → Good s made places hashes hints rows params number order w n → Ready s at path binders b bound uses spare → f ≡ frameAt s at last len b 0 0 → length frames ≡ 64
+      → Round s at path len binders b made places rows params order w n path binders bound uses spare made places hashes hints rows params number order frames f 0 w n
   unfolding frameAt OwnIs Stack lifting
-  round-start h good r ef l = rw ef (record {
-    root = let y = holds path len (r .path-long) h in record { tree = r .stands .what; name = y .name; whole = r .stands .whole; held = y .held };
+  round-start last h good r ef l = rw ef (record {
+    root = let y = holds path len (r .path-long) h in record { tree = r .stands .what; name = y .name; stands = r .stands .stands; deep = r .stands .deep; held = y .held };
     goes = λ x.
         let c = x .tree in
-        let e = x .whole in
+        let e = x .stands in
         let small = good .tables .source in
         record {
           node = nodeOf c at (x .name) (boundFrom s binders 0 b) walked;
           waits = [];
-          top = frame-opens (omega arith) c (e .after) 63 at end len b 0 0 (x .name) (boundFrom s binders 0 b) walked (e .is) (omega (arith, e .deep)) (omega arith) (x .held) refl refl (r .few);
+          top = frame-opens (omega arith) c (e .after) 63 at last len b 0 0 (x .name) (boundFrom s binders 0 b) walked (e .is) (omega (arith, x .deep)) (omega arith) (x .held) refl refl (r .few);
           stack = refl;
           same = run-root c at (x .name) (boundFrom s binders 0 b) (sheetOf s made places rows params (take n order) w);
           good = good;
@@ -90,15 +93,15 @@ module _ {s : List ℕ} {at end : ℕ} {path : List ℕ} {len : ℕ} {binders : 
           binders-long = r .binders-long;
           frames-long = l;
           sized = r .sized;
-          sound = frame-sound small c (e .after) end len b 0 0 (e .deep) (e .is) (omega arith) (λ k. absurd (omega arith));
+          sound = frame-sound small c (e .after) last len b 0 0 (x .deep) (e .is) (omega arith) (λ k. absurd (omega arith));
           deep = omega arith;
           open-lifts = omega (arith, good .finished);
         };
   })
 
-module _ {s : List ℕ} {at end : ℕ} {path₀ : List ℕ} {len : ℕ} {binders₀ : List ℕ} {b : ℕ} {made₀ places₀ rows₀ params₀ order₀ : List ℕ} {w₀ : Counts} {n₀ : ℕ}
+module _ {s : List ℕ} {at : ℕ} {path₀ : List ℕ} {len : ℕ} {binders₀ : List ℕ} {b : ℕ} {made₀ places₀ rows₀ params₀ order₀ : List ℕ} {w₀ : Counts} {n₀ : ℕ}
     {path binders bound uses spare made places hashes hints rows params number order : List ℕ} {frames : List Frame} {f : Frame} {d : ℕ} {w : Counts} {n : ℕ}
-    (R : Round s at end path₀ len binders₀ b made₀ places₀ rows₀ params₀ order₀ w₀ n₀ path binders bound uses spare made places hashes hints rows params number order frames f d w n) where
+    (R : Round s at path₀ len binders₀ b made₀ places₀ rows₀ params₀ order₀ w₀ n₀ path binders bound uses spare made places hashes hints rows params number order frames f d w n) where
   source : length s ≤ 16384
   source = R .goes (R .root) .good .tables .source
 
@@ -128,12 +131,12 @@ module _ {s : List ℕ} {at end : ℕ} {path₀ : List ℕ} {len : ℕ} {binders
     unfolding StepIs
     pass-path q = (rw q at st) .0
 
-    passing : {e : ℕ} → r ≡ step.Pass e → (x : Root s at end path₀ len) → Passing s path binders (63 - d) f (R .goes x .node) e
+    passing : {e : ℕ} → r ≡ step.Pass e → (x : Root s at path₀ len) → Passing s path binders (63 - d) f (R .goes x .node) e
     unfolding StepIs
     passing q x = (rw q at st) .1 binders (63 - d) (R .goes x .node) source (R .goes x .top)
 
     pub round-pass : {e : ℕ} {h : Frame} → r ≡ step.Pass e → h ≡ passed f e
-        → Round s at end path₀ len binders₀ b made₀ places₀ rows₀ params₀ order₀ w₀ n₀ path′ binders bound uses spare made places hashes hints rows params number order frames h d w n
+        → Round s at path₀ len binders₀ b made₀ places₀ rows₀ params₀ order₀ w₀ n₀ path′ binders bound uses spare made places hashes hints rows params number order frames h d w n
     round-pass q eh = rw (pass-path q, eh) (record { root = R .root; goes = λ x. goes-pass (R .goes x) (passing q x) })
 
     pub round-less-pass : {e : ℕ} {h : Frame} → r ≡ step.Pass e → h ≡ passed f e → left s frames h d < left s frames f d
@@ -146,20 +149,20 @@ module _ {s : List ℕ} {at end : ℕ} {path₀ : List ℕ} {len : ℕ} {binders
       unfolding StepIs
       done-path = (rw q at st) .0
 
-      closing : (x : Root s at end path₀ len) → Closing f (R .goes x .node)
+      closing : (x : Root s at path₀ len) → Closing f (R .goes x .node)
       unfolding StepIs
       closing x = (rw q at st) .1 binders (63 - d) (R .goes x .node) source (R .goes x .top)
 
-      pub walks-last : d ≡ 0 → Walks s at end path₀ len binders₀ b made₀ places₀ rows₀ params₀ order₀ w₀ n₀ made places hashes hints rows params number order′ (Named w (z .finished))
+      pub walks-last : d ≡ 0 → Walks s at path₀ len binders₀ b made₀ places₀ rows₀ params₀ order₀ w₀ n₀ made places hashes hints rows params number order′ (Named w (z .finished))
       unfolding Ends
       walks-last e = rw (ez, eo) (record {
-        walks = λ c name wh held.
-            let x : Root s at end path₀ len = record { tree = c; name = name; whole = wh; held = held } in
+        walks = λ c name st deep held.
+            let x : Root s at path₀ len = record { tree = c; name = name; stands = st; deep = deep; held = held } in
             rw (← (ends-last (R .goes x) (closing x) e)) (refl, good-closed (R .goes x));
       })
 
       module _ (some : 0 < d) {h : Frame} {binders′ : List ℕ} (eh : h ≡ delivered p (f .place) (f .last) (z .whole) (boundAfter s p)) (eb : binders′ ≡ bindBy s p (f .place) (z .inner) binders) where
-        pub round-back : Round s at end path₀ len binders₀ b made₀ places₀ rows₀ params₀ order₀ w₀ n₀ path′ binders′ bound uses spare made places hashes hints rows params number order′ frames h (d - 1) w (z .finished)
+        pub round-back : Round s at path₀ len binders₀ b made₀ places₀ rows₀ params₀ order₀ w₀ n₀ path′ binders′ bound uses spare made places hashes hints rows params number order′ frames h (d - 1) w (z .finished)
         round-back = rw (done-path, eb, eo, eh, ez) (record { root = R .root; goes = λ x. goes-back (R .goes x) (closing x) some })
 
         pub round-less-back : left s frames h (d - 1) < left s frames f d
@@ -167,7 +170,7 @@ module _ {s : List ℕ} {at end : ℕ} {path₀ : List ℕ} {len : ℕ} {binders
 
     -- ---- a child
     module _ {place l : ℕ} (q : r ≡ step.Child place l) (long : length path′ ≡ length path) where
-      reached : (x : Root s at end path₀ len) → Reached s (63 - d) f (R .goes x .node) path′ place l
+      reached : (x : Root s at path₀ len) → Reached s (63 - d) f (R .goes x .node) path′ place l
       unfolding StepIs
       reached x = (rw q at st) .reaches binders (63 - d) (R .goes x .node) source (R .goes x .top)
 
@@ -175,7 +178,7 @@ module _ {s : List ℕ} {at end : ℕ} {path₀ : List ℕ} {len : ℕ} {binders
       unfolding StepIs
       step-kept = (rw q at st) .kept
 
-      pub open-safe : Tables s made places hashes hints rows params w × SomeChild s place × Scratch s bound uses spare × (length path′ ≡ 255) × (f .bound ≤ 65536) × Sized binders (f .bound)
+      pub open-safe : Tables s made places hashes hints rows params w × Standing s place × Scratch s bound uses spare × (length path′ ≡ 255) × (f .bound ≤ 65536) × Sized binders (f .bound)
       open-safe =
           let g = R .goes (R .root) in
           let o = reached (R .root) .opening in (
@@ -188,32 +191,32 @@ module _ {s : List ℕ} {at end : ℕ} {path₀ : List ℕ} {len : ℕ} {binders
           )
 
       module _ {path₂ made′ places′ hashes′ hints′ rows′ params′ number′ : List ℕ} {t : Child} (come : Comes s place path′ l binders (f .bound) made places hashes hints rows params number w path₂ made′ places′ hashes′ hints′ rows′ params′ number′ t) where
-        child-is : (x : Root s at end path₀ len) → ChildIs s path₂ binders (63 - (d + 1)) place l (f .bound) (reached x .opening .child) (R .goes x .node) (reached x .opening .wait) (sheetOf s made places rows params (take n order) w) (w .lifts)
+        child-is : (x : Root s at path₀ len) → ChildIs s path₂ binders (63 - (d + 1)) place l (f .bound) (reached x .opening .child) (R .goes x .node) (reached x .opening .wait) (sheetOf s made places rows params (take n order) w) (w .lifts)
             (λ v. sheetOf s made′ places′ rows′ params′ (take n order) v) (λ v. Good s made′ places′ hashes′ hints′ rows′ params′ number′ order v n) t
         child-is x =
             let g = R .goes x in
             let y = reached x in
             come .comes (y .opening .child) (y .base) (63 - (d + 1)) (g .node) (y .opening .wait) order n (y .opening .stands) (child-levels g y) (omega arith) (y .held) (y .opening .opens) (g .top .env) (child-few g y) (g .good)
 
-        pub walks-refused : {e : ℕ} → t ≡ comes.Refused e → Walks s at end path₀ len binders₀ b made₀ places₀ rows₀ params₀ order₀ w₀ n₀ made′ places′ hashes′ hints′ rows′ params′ number′ order (Refused e)
+        pub walks-refused : {e : ℕ} → t ≡ comes.Refused e → Walks s at path₀ len binders₀ b made₀ places₀ rows₀ params₀ order₀ w₀ n₀ made′ places′ hashes′ hints′ rows′ params′ number′ order (Refused e)
         unfolding ChildIs
         walks-refused et = record {
-          walks = λ c name wh held.
-              let x : Root s at end path₀ len = record { tree = c; name = name; whole = wh; held = held } in
+          walks = λ c name st deep held.
+              let x : Root s at path₀ len = record { tree = c; name = name; stands = st; deep = deep; held = held } in
               ends-refused (R .goes x) (reached x) _ _ ((rw et at (child-is x)) (R .goes x .waits));
         }
 
         module _ {h : Frame} {v : Counts} (et : t ≡ comes.Opened h v) where
-          opened : (x : Root s at end path₀ len) → Opened s path₂ binders (63 - (d + 1)) place l (f .bound) (reached x .opening .child) (R .goes x .node) (reached x .opening .wait) (sheetOf s made places rows params (take n order) w) (sheetOf s made′ places′ rows′ params′ (take n order) v) (w .lifts) h v
+          opened : (x : Root s at path₀ len) → Opened s path₂ binders (63 - (d + 1)) place l (f .bound) (reached x .opening .child) (R .goes x .node) (reached x .opening .wait) (sheetOf s made places rows params (take n order) w) (sheetOf s made′ places′ rows′ params′ (take n order) v) (w .lifts) h v
           unfolding ChildIs
           opened x = (rw et at (child-is x)) .0
 
-          good-opened : (x : Root s at end path₀ len) → Good s made′ places′ hashes′ hints′ rows′ params′ number′ order v n
+          good-opened : (x : Root s at path₀ len) → Good s made′ places′ hashes′ hints′ rows′ params′ number′ order v n
           unfolding ChildIs
           good-opened x = (rw et at (child-is x)) .1
 
           pub round-open : {bound′ uses′ spare′ : List ℕ} → length path₂ ≡ length path′ → length bound′ ≡ length bound → length uses′ ≡ length uses → length spare′ ≡ length spare
-              → Round s at end path₀ len binders₀ b made₀ places₀ rows₀ params₀ order₀ w₀ n₀ path₂ binders bound′ uses′ spare′ made′ places′ hashes′ hints′ rows′ params′ number′ order (set frames d f) h (d + 1) v n
+              → Round s at path₀ len binders₀ b made₀ places₀ rows₀ params₀ order₀ w₀ n₀ path₂ binders bound′ uses′ spare′ made′ places′ hashes′ hints′ rows′ params′ number′ order (set frames d f) h (d + 1) v n
           round-open l₂ lb lu ls = record { root = R .root; goes = λ x. goes-open (R .goes x) (reached x) (opened x) refl (good-opened x) long (l₂ ∙ long) step-kept (come .kept) lb lu ls }
 
           pub round-less-open : left s (set frames d f) h (d + 1) < left s frames f d

@@ -27,8 +27,8 @@ use Rattle.naming.specs.Nodes.{Own, walked, lifted, Node, close, Wait, run}
 use Rattle.naming.specs.Frames.{OwnIs, FrameIs, Opening}
 use Rattle.naming.specs.Lifts.{Scratch}
 use Rattle.naming.proofs.Bound.{bound-kept}
-use Rattle.body.specs.Walks.{Good}
-use Rattle.body.specs.Steps.{Sound, closedOf, orderOf}
+use Rattle.steps.specs.Good.{Good}
+use Rattle.steps.specs.Steps.{Sound, closedOf, orderOf}
 
 -- ---- a frame where path and binders change behind it
 module _ {s path binders path′ binders′ : List ℕ} (long : length path′ ≡ length path) where
@@ -170,7 +170,7 @@ pub record Going (s path binders bound uses spare made places hashes hints rows 
   pub good : Good s made places hashes hints rows params number order w n
   pub scratch : Scratch s bound uses spare
   pub path-long : length path ≡ 255
-  pub binders-long : 16384 ≤ length binders
+  pub binders-long : length s ≤ length binders
   pub frames-long : length frames ≡ 64
   pub sized : Sized binders (f .bound)
   pub sound : Sound s f

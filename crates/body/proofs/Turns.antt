@@ -29,10 +29,11 @@ use Rattle.naming.specs.Nodes.{Node, goOn, Wait, deliver, run}
 use Rattle.naming.specs.Frames.{Closing, passed, Passing, binding, bindBy, boundAfter, delivered}
 use Rattle.naming.proofs.Ends.{combinator-end}
 use Rattle.naming.proofs.Machine.{steps-back, steps-last}
-use Rattle.body.specs.Walks.{Good, Ends}
-use Rattle.body.specs.Steps.{Reached, Sound, weight, Refuses, Opened, closedOf, orderOf}
+use Rattle.steps.specs.Good.{Good}
+use Rattle.body.specs.Walks.{Ends}
+use Rattle.steps.specs.Steps.{Reached, Sound, weight, Refuses, Opened, closedOf, orderOf}
 use Rattle.body.specs.declared.Body.the-variants.{Refused}
-use Rattle.body.proofs.Children.{size-least, levels-some}
+use Rattle.steps.proofs.Children.{size-least, levels-some}
 use Rattle.body.proofs.Stack.{frame-kept, no-frame, Waits, Stack, stack-kept, stack-more, after, waiting, set-below, waiting-more, lifting-more, waiting-less, lifting-less, Going, closed-size, order-length, closed-is}
 
 -- ---- a Const field is passed
@@ -258,7 +259,7 @@ module _ {s path binders bound uses spare made places hashes hints rows params n
       let st = v .opening .stands .is in
       let sz = size-least (v .opening .child) in
       let long = adds (wCombinator (v .opening .child)) (s-comb (v .opening .child)) (v .opening .stands .after) in
-      let room : 4 * (p .bound + 1) ≤ length binders = omega (arith, v .frame .few, v .opening .behind, here-length st, g .binders-long, g .good .tables .source) in
+      let room : 4 * (p .bound + 1) ≤ length binders = omega (arith, v .frame .few, v .opening .behind, here-length st, g .binders-long) in
       let same-before = bind-before s p (f .place) (closedOf f n .inner) binders in
       record {
         node = deliver y z;

@@ -1,39 +1,30 @@
 -- The naming pass over one body: what it asks of the tables, and what they hold afterwards.
 use mathlib.Core.Path.{_≡_}
 use mathlib.Core.List.{List}
-use Prim.Native.Nat.{ℕ, _*_, _≤_, _<_}
-use lib.ListN.{length, take, getD}
+use Prim.Native.Nat.{ℕ, _*_, _≤_}
+use lib.ListN.{length, take}
 use Rattle.definition.specs.Code.{number}
 use Rattle.definition.specs.Res.{Res, bad, ok}
 use Rattle.definition.specs.Tree.{Name, Combinator}
+use Rattle.definition.specs.Size.{levels}
 use Rattle.names.specs.Name.{Held}
-use Rattle.tables.specs.Rows.{rowsOf, lastFrom}
 use Rattle.lift.specs.declared.Counts.{Counts}
 use Rattle.lift.specs.Bound.{boundFrom, Sized}
-use Rattle.lift.specs.Sheet.{Sheet, sheetOf, Tables}
+use Rattle.lift.specs.Sheet.{Sheet, sheetOf}
 use Rattle.naming.specs.Walk.{Extent, walk}
-use Rattle.naming.specs.Lifts.{Whole, Some, Scratch}
+use Rattle.naming.specs.Frames.{Stands}
+use Rattle.naming.specs.Lifts.{Scratch}
+use Rattle.steps.specs.Good.{Good}
+use Rattle.steps.specs.Steps.{Standing}
 use Rattle.body.specs.declared.Body.{Body}
 use Rattle.body.specs.declared.Body.the-variants.{Named, Refused}
 
--- `number` by place, and the first n entries of `order`
-abbrev pub Numbered : List ℕ → List ℕ → List ℕ → List ℕ → List ℕ → ℕ → Type 0
-Numbered s made rows params number lifts = (p : ℕ) → p < length s → getD number p 0 ≡ lastFrom (rowsOf s made rows params lifts) 0 p
-
--- what holds between bodies
-pub record Good (s made places hashes hints rows params number order : List ℕ) (w : Counts) (n : ℕ) : Type 0 where
-  pub tables : Tables s made places hashes hints rows params w
-  pub number-long : length s ≤ length number
-  pub numbered : Numbered s made rows params number (w .lifts)
-  pub order-long : 512 ≤ length order
-  pub finished : n ≤ w .lifts
-
 -- the scratch rows, and the binders: each takes four bytes or more of what stands before the body
-pub record Ready (s : List ℕ) (at end : ℕ) (path binders : List ℕ) (b : ℕ) (bound uses spare : List ℕ) : Type 0 where
-  pub stands : Some s at end
+pub record Ready (s : List ℕ) (at : ℕ) (path binders : List ℕ) (b : ℕ) (bound uses spare : List ℕ) : Type 0 where
+  pub stands : Standing s at
   pub scratch : Scratch s bound uses spare
   pub path-long : length path ≡ 255
-  pub binders-long : 16384 ≤ length binders
+  pub binders-long : length s ≤ length binders
   pub few : 4 * b ≤ at
   pub sized : Sized binders b
 
@@ -44,7 +35,7 @@ Ends (ok z t) (Named v n) sheet good = (t ≡ sheet v n) × good v n
 Ends (bad k t) (Named v n) sheet good = ⊥
 Ends (ok z t) (Refused c) sheet good = ⊥
 
-pub record Walks (s : List ℕ) (at end : ℕ) (path : List ℕ) (len : ℕ) (binders : List ℕ) (b : ℕ) (made places rows params order : List ℕ) (w : Counts) (n : ℕ) (made′ places′ hashes′ hints′ rows′ params′ number′ order′ : List ℕ) (r : Body) : Type 0 where
-  pub walks : (c : Combinator) (name : Name) → Whole s at end c → Held path len name
+pub record Walks (s : List ℕ) (at : ℕ) (path : List ℕ) (len : ℕ) (binders : List ℕ) (b : ℕ) (made places rows params order : List ℕ) (w : Counts) (n : ℕ) (made′ places′ hashes′ hints′ rows′ params′ number′ order′ : List ℕ) (r : Body) : Type 0 where
+  pub walks : (c : Combinator) (name : Name) → Stands s at c → levels c ≤ 64 → Held path len name
       → Ends (walk c at name (boundFrom s binders 0 b) (sheetOf s made places rows params (take n order) w)) r
       (λ v m. sheetOf s made′ places′ rows′ params′ (take m order′) v) (λ v m. Good s made′ places′ hashes′ hints′ rows′ params′ number′ order′ v m)

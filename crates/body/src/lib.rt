@@ -1,17 +1,18 @@
 // The naming pass over one body: one frame for each level, in one local.
-mod steps;
-
-use crate::steps::Child;
-use crate::steps::Step;
-use crate::steps::close_node;
-use crate::steps::next_step;
-use crate::steps::open_child;
-use crate::steps::resume_node;
 use lift::Counts;
+use naming::combinator_past;
+use naming::inner_end;
 use naming::open_node;
 use naming::pass;
+use steps::Child;
+use steps::Step;
+use steps::close_node;
+use steps::next_step;
+use steps::open_child;
+use steps::resume_node;
 ghost use Prim.Native.Nat.{_≤_};
-ghost use Rattle.body.specs.Walks.{Good, Ready, Walks};
+ghost use Rattle.steps.specs.Good.{Good};
+ghost use Rattle.body.specs.Walks.{Ready, Walks};
 
 // The counts and how many lifts are finished, or document 01's number of a refusal.
 pub enum Body {
@@ -19,11 +20,10 @@ pub enum Body {
     Refused(u8),
 }
 
-// The body from `at` up to `end`: path holds its name in the first `len` bytes, and b binders are in force.
+// The body at a place: path holds its name in the first `len` bytes, and b binders are in force.
 pub fn expand_combinator(
     s: &[u8],
     at: usize,
-    end: usize,
     path: &mut [u8],
     len: usize,
     binders: &mut [u16],
@@ -42,10 +42,12 @@ pub fn expand_combinator(
     w: Counts,
     n: usize,
 ) -> Body
-    requires { ⌜ Good (now s) (now made) (now places) (now hashes) (now hints) (now rows) (now params) (now number) (now order) w n × Ready (now s) at end (now path) (now binders) b (now bound) (now uses) (now spare) × (len ≤ 256) ⌝ }
-    ensures { λ r. ⌜ Walks (now (s .entry)) at end (now (path .entry)) len (now (binders .entry)) b (now (made .entry)) (now (places .entry)) (now (rows .entry)) (now (params .entry)) (now (order .entry)) w n (now (made .exit)) (now (places .exit)) (now (hashes .exit)) (now (hints .exit)) (now (rows .exit)) (now (params .exit)) (now (number .exit)) (now (order .exit)) r ⌝ }
+    requires { ⌜ Good (now s) (now made) (now places) (now hashes) (now hints) (now rows) (now params) (now number) (now order) w n × Ready (now s) at (now path) (now binders) b (now bound) (now uses) (now spare) × (len ≤ 256) ⌝ }
+    ensures { λ r. ⌜ Walks (now (s .entry)) at (now (path .entry)) len (now (binders .entry)) b (now (made .entry)) (now (places .entry)) (now (rows .entry)) (now (params .entry)) (now (order .entry)) w n (now (made .exit)) (now (places .exit)) (now (hashes .exit)) (now (hints .exit)) (now (rows .exit)) (now (params .exit)) (now (number .exit)) (now (order .exit)) r ⌝ }
 {
-    let root = open_node(s, at, end, len, b, 0, 0);
+    let end = inner_end(s, at);
+    let last = combinator_past(s, end);
+    let root = open_node(s, at, end, last, len, b, 0, 0);
     let mut frames = [root; 64];
     let mut f = root;
     let mut d = 0;

@@ -6,7 +6,7 @@ use mathlib.Core.List.{List, [], _∷_, _++_, map, append-nil}
 use Prim.Native.Nat.{ℕ, zero, suc, _+_, _≤_, _<_}
 use native.Mathlib.Omega.{arith}
 use lib.Dec.{leb}
-use lib.ListN.{length, take, drop, getD, replicate}
+use lib.ListN.{length, take, drop, getD, replicate, length-replicate}
 use lib.Seq.{getD-take, length-take-le}
 use borrow.Author.Tests.{le-leb, lt-leb}
 use Rattle.definition.specs.Code.{Code, number, output-short}
@@ -33,7 +33,9 @@ use Rattle.walked.specs.Hands.{Hands}
 use Rattle.walked.proofs.Agree.{walks-as-traced}
 use Rattle.body.specs.declared.Body.{Body}
 use Rattle.body.specs.declared.Body.the-variants.{Named, Refused as Stopped}
-use Rattle.body.specs.Walks.{Good, Ends}
+use Rattle.steps.specs.Good.{Good}
+use Rattle.body.specs.Walks.{Ends}
+use Rattle.start.proofs.Rows.{book-short}
 use Rattle.formats.specs.Expands.{Starts, Expands}
 use Rattle.result.specs.Model.{tables}
 use Rattle.result.specs.Adds.{Filled}
@@ -41,27 +43,33 @@ use Rattle.result.specs.Held.{Held, Writes}
 use Rattle.result.proofs.Numbered.{numbered-by}
 use Rattle.closing.specs.declared.Elaborated.{Elaborated}
 use Rattle.closing.specs.declared.Elaborated.the-variants.{Done, Refused}
-use Rattle.closing.specs.Elaborates.{reported, Reports, lifted, Expanded, Lifts}
+use Rattle.closing.specs.Elaborates.{reported, Reports, lifted, Expanded, Unnumbered, Lifts}
 
--- tables of zeros are tables to start with
-pub zero-at : (n p : ℕ) → getD {A = ℕ} (replicate n 0) p 0 ≡ 0
+-- a table of zeros has no numbers yet
+zero-at : (n p : ℕ) → getD {A = ℕ} (replicate n 0) p 0 ≡ 0
 zero-at zero p = refl
 zero-at (suc n) zero = refl
 zero-at (suc n) (suc p) = zero-at n p
 
-pub starts : {s made rows params number order : List ℕ} → Expanded s → length made ≡ 8192 → length rows ≡ 2560 → length params ≡ 13108 → length number ≡ 16384 → length order ≡ 512 → ((p : ℕ) → getD number p 0 ≡ 0)
-    → Starts s made rows params number order
-starts x a b c d e z = record {
+pub unnumbered : {s : List ℕ} (n : ℕ) → length s ≤ n → Unnumbered s (replicate n 0)
+unnumbered n h = record { long = omega (arith, length-replicate {0} {A = ℕ} n 0); blank = zero-at n }
+
+pub starts : {s made rows params number order : List ℕ} → Expanded s → Unnumbered s number → length made ≡ 8192 → length rows ≡ 2560 → length params ≡ 13108 → length order ≡ 512 → Starts s made rows params number order
+starts x u a b c e = record {
   of = x .of;
   book = x .book;
   isBook = x .isBook;
   made-long = omega arith;
   rows-long = omega arith;
   params-long = omega arith;
-  number-long = omega arith;
+  number-long = u .long;
   order-long = omega arith;
-  blank = z;
+  blank = u .blank;
 }
+
+-- no expanded book is longer than the input may be
+pub expanded-short : {s : List ℕ} → Expanded s → length s ≤ 16384
+expanded-short x = book-short (record { of = x .of; book = x .book; isBook = x .isBook })
 
 comes : (ds : List Definition) → Comes (wBook ds ++ []) ds (traceBook treeHead ds) (outcome (liftBook ds))
 comes ds = rw (counted-in-bytes ds []) (elaborated-by-places ds [])

@@ -1,9 +1,9 @@
 -- The elaboration's answer in document 01's numbers, and what it leaves in the output.
 use mathlib.Core.Path.{_≡_}
 use mathlib.Core.List.{List}
-use Prim.Native.Nat.{ℕ}
+use Prim.Native.Nat.{ℕ, _≤_}
 use lib.Dec.{leb}
-use lib.ListN.{length}
+use lib.ListN.{length, getD}
 use Rattle.definition.specs.Code.{output-short}
 use Rattle.definition.specs.Out.{Out, done, _>>=_, given}
 use Rattle.definition.specs.Tree.{Definition}
@@ -33,6 +33,11 @@ pub record Expanded (s : List ℕ) : Type 0 where
   pub of : List Definition
   pub book : s ≡ wBook of
   pub isBook : IsBook of
+
+-- a table of numbers by place that is long enough for the book; no place has a number yet
+pub record Unnumbered (s number : List ℕ) : Type 0 where
+  pub long : length s ≤ length number
+  pub blank : (p : ℕ) → getD number p 0 ≡ 0
 
 -- the result of a book is a book: the laws say so
 pub record Lifts (s out out′ : List ℕ) (r : Elaborated) : Type 0 where

@@ -2,7 +2,9 @@
 use body::Body;
 use formats::expand_definitions;
 use result::write_result;
-ghost use Rattle.closing.specs.Elaborates.{Expanded, Lifts};
+ghost use Prim.Native.Nat.{_≤_};
+ghost use lib.ListN.{length};
+ghost use Rattle.closing.specs.Elaborates.{Expanded, Unnumbered, Lifts};
 
 // The result's length, its count of definitions and the count lifted, or a code.
 pub enum Elaborated {
@@ -16,24 +18,16 @@ pub enum Elaborated {
     },
 }
 
-// Codes 7 to 11. Each table is as long as code 10 lets it become.
-pub fn lift_book(s: &[u8], out: &mut [u8]) -> Elaborated
-    requires { ⌜ Expanded (now s) ⌝ }
+// Codes 7 to 11, with the table of numbers by place lent. Each other table is as long as code 10 lets it become.
+fn lift_with(s: &[u8], number: &mut [u16], out: &mut [u8]) -> Elaborated
+    requires { ⌜ Expanded (now s) × Unnumbered (now s) (now number) ⌝ }
     ensures { λ r. ⌜ Lifts (now (s .entry)) (now (out .entry)) (now (out .exit)) r ⌝ }
 {
     let mut made = [0u8; 8192];
     let mut rows = [0u16; 2560];
     let mut params = [0u16; 13108];
-    let mut number = [0u16; 16384];
     let mut order = [0u16; 512];
-    let body = expand_definitions(
-        s,
-        &mut made,
-        &mut rows,
-        &mut params,
-        &mut number,
-        &mut order,
-    );
+    let body = expand_definitions(s, &mut made, &mut rows, &mut params, number, &mut order);
     match body {
         Body::Refused(code) => Elaborated::Refused { code },
         Body::Named(counts, n) => {
@@ -43,7 +37,7 @@ pub fn lift_book(s: &[u8], out: &mut [u8]) -> Elaborated
             let length = counts.bytes as u16;
             let definitions = counts.defns as u16;
             let lifted = n as u16;
-            write_result(s, &made, &rows, &params, &number, &order, lifted, out);
+            write_result(s, &made, &rows, &params, &number[..], &order, lifted, out);
             Elaborated::Done {
                 length,
                 definitions,
@@ -51,4 +45,33 @@ pub fn lift_book(s: &[u8], out: &mut [u8]) -> Elaborated
             }
         }
     }
+}
+
+// The numbers of a book of at most 2,048 bytes.
+fn lift_short(s: &[u8], out: &mut [u8]) -> Elaborated
+    requires { ⌜ Expanded (now s) × (length (now s) ≤ 2048) ⌝ }
+    ensures { λ r. ⌜ Lifts (now (s .entry)) (now (out .entry)) (now (out .exit)) r ⌝ }
+{
+    let mut number = [0u16; 2048];
+    lift_with(s, &mut number, out)
+}
+
+// Those of any other book.
+fn lift_long(s: &[u8], out: &mut [u8]) -> Elaborated
+    requires { ⌜ Expanded (now s) ⌝ }
+    ensures { λ r. ⌜ Lifts (now (s .entry)) (now (out .entry)) (now (out .exit)) r ⌝ }
+{
+    let mut number = [0u16; 16384];
+    lift_with(s, &mut number, out)
+}
+
+// Codes 7 to 11.
+pub fn lift_book(s: &[u8], out: &mut [u8]) -> Elaborated
+    requires { ⌜ Expanded (now s) ⌝ }
+    ensures { λ r. ⌜ Lifts (now (s .entry)) (now (out .entry)) (now (out .exit)) r ⌝ }
+{
+    if s.len() <= 2048 {
+        return lift_short(s, out);
+    }
+    lift_long(s, out)
 }

@@ -1,5 +1,2 @@
-mod Rows
-mod Own
-mod Formats
 mod Order
 mod Start

@@ -22,9 +22,11 @@ use Rattle.lift.specs.Sheet.{Sheet, sheetOf}
 use Rattle.naming.specs.Walk.{Extent, walk}
 use Rattle.walked.specs.Book.{ownBound, walkAll}
 use Rattle.body.specs.declared.Body.the-variants.{Named, Refused}
-use Rattle.body.specs.Walks.{Good, Ends}
-use Rattle.formats.specs.Rows.{Book}
-use Rattle.formats.specs.Formats.{Space, Format, EndsIn, Defined, InOrder}
+use Rattle.steps.specs.Good.{Good}
+use Rattle.body.specs.Walks.{Ends}
+use Rattle.start.specs.Rows.{Book}
+use Rattle.format.specs.Formats.{Space, Format, EndsIn, Defined}
+use Rattle.formats.specs.Expands.{InOrder}
 
 -- ---- one definition, and then the others
 then-more : (m : Res Sheet Extent) (f : Sheet → Res Sheet (Unit {0})) → m >>= (λ x. f (x .1)) ≡ (_>>=_ {B = Unit {0}} m (λ x. ok tt (x .1))) >>= (λ x. f (x .1))

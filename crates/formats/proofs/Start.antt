@@ -2,9 +2,9 @@
 -- Assumes nothing.
 use mathlib.Core.Path.{_≡_, ap, _∙_}
 use mathlib.Core.List.{List}
-use Prim.Native.Nat.{ℕ, _≤_, _<_}
+use Prim.Native.Nat.{ℕ, _*_, _≤_, _<_}
 use native.Mathlib.Omega.{arith}
-use lib.ListN.{length, take, getD}
+use lib.ListN.{length, take, getD, replicate, length-replicate}
 use Rattle.definition.specs.Tree.{Definition}
 use Rattle.definition.specs.Write.{wBook}
 use Rattle.definition.specs.Size.{sizeBook}
@@ -14,20 +14,24 @@ use Rattle.contents.proofs.Listed.{book-listed}
 use Rattle.tables.specs.Rows.{rowsOf, lastFrom}
 use Rattle.lift.specs.declared.Counts.{Counts}
 use Rattle.lift.specs.Sheet.{sheetOf}
+use Rattle.naming.specs.Lifts.{Scratch}
 use Rattle.walked.specs.Book.{blank, walkBook}
 use Rattle.body.specs.declared.Body.{Body}
-use Rattle.body.specs.Walks.{Good}
-use Rattle.formats.specs.Rows.{Book, AtStart}
-use Rattle.formats.specs.Formats.{Space, InOrder}
-use Rattle.formats.specs.Expands.{Starts, Expands}
-use Rattle.formats.proofs.Rows.{book-short}
+use Rattle.steps.specs.Good.{Good}
+use Rattle.start.specs.Rows.{Book, AtStart}
+use Rattle.formats.specs.Expands.{Starts, InOrder, Expands}
+use Rattle.start.proofs.Rows.{book-short}
 
 abbrev pub counts : ℕ → ℕ → ℕ → Counts
 counts taken bytes defns = record { taken = taken; end = 0; lifts = 0; params = 0; bytes = bytes; defns = defns }
 
-pub space : {s path binders bound uses spare : List ℕ} → Book s → ((i : ℕ) → getD s i 0 < 256) → length path ≡ 255 → length binders ≡ 16384 → length bound ≡ 16384 → length uses ≡ 16384 → length spare ≡ 16384 → Space s path binders bound uses spare
+-- tables for books of at most n bytes
+pub scratch : {s : List ℕ} (n m : ℕ) → n ≡ 4 * m → length s ≤ n → ((i : ℕ) → getD s i 0 < 256) → Scratch s (replicate m 0) (replicate n 0) (replicate n 0)
 unfolding byteAt
-space k b p n o u v = let l = book-short k in record { scratch = record { small = b; labels = omega arith; uses-long = omega arith; spare-long = omega arith }; path-long = p; binders-long = omega arith }
+scratch n m e l b =
+    let x = length-replicate {0} {A = ℕ} n 0 in
+    let y = length-replicate {0} {A = ℕ} m 0 in
+    record { small = b; labels = omega arith; uses-long = omega arith; spare-long = omega arith }
 
 module _ {s made rows params number order : List ℕ} (x : Starts s made rows params number order) where
   pub the-book : Book s
@@ -58,7 +62,7 @@ module _ {s made rows params number order : List ℕ} (x : Starts s made rows pa
             bytes-most = l;
             defns-most = omega (arith, x .isBook .few);
           };
-          number-long = omega (arith, x .number-long);
+          number-long = x .number-long;
           numbered = λ p h. x .blank p;
           order-long = x .order-long;
           finished = omega arith;

@@ -1,4 +1,1 @@
-pub mod Rows
-pub mod Own
-pub mod Formats
 pub mod Expands

@@ -1,180 +1,18 @@
 // The naming pass over the expanded book: its definitions in order.
 use body::Body;
-use body::expand_combinator;
-use fresh::take_source_name;
+use format::expand_definition;
 use lift::Counts;
-use lookup::name_at;
-use naming::combinator_end;
-use naming::inner_end;
-use naming::put_binder;
 use seek::byte;
-use seek::name_past;
 use seek::number;
 use seek::past;
-use writer::put_bytes;
-ghost use mathlib.Core.Path.{_≡_};
-ghost use Prim.Native.Nat.{_≤_, _<_};
+use start::take_at_start;
+ghost use Prim.Native.Nat.{_≤_};
 ghost use lib.ListN.{length};
-ghost use Rattle.body.specs.Walks.{Good};
-ghost use Rattle.formats.specs.Rows.{Book, Entry, Takes, AtStart};
-ghost use Rattle.formats.specs.Own.{Params, Own};
-ghost use Rattle.formats.specs.Formats.{Space, Format, Formatted, Defined, InOrder};
-ghost use Rattle.formats.specs.Expands.{Starts, Expands};
-
-// The definition whose entry stands at a place of the contents gets row n if it is a format or a constant; the number of rows then.
-fn take_entry(
-    s: &[u8],
-    entry: usize,
-    places: &mut [u16],
-    hashes: &mut [u16],
-    hints: &mut [u16],
-    n: usize,
-) -> usize
-    requires { ⌜ Entry (now s) entry × (length (now s) ≤ 16384) × (n < length (now places)) × (n < length (now hashes)) × (n < length (now hints)) ⌝ }
-    ensures { λ r. ⌜ Takes (now (s .entry)) entry (now (places .entry)) (now (hashes .entry)) (now (hints .entry)) n (now (places .exit)) (now (hashes .exit)) (now (hints .exit)) r ⌝ }
-{
-    let kind = byte(s, entry);
-    if 2 < kind {
-        return n;
-    }
-    let offset = past(s, entry, 2);
-    let at = number(s, offset) as usize;
-    take_source_name(s, at, places, hashes, hints, n);
-    n + 1
-}
-
-// "Taken at the start: all kind 1 and 2 names": a row for each, that of the last first; the number of rows.
-fn take_at_start(s: &[u8], places: &mut [u16], hashes: &mut [u16], hints: &mut [u16]) -> usize
-    requires { ⌜ Book (now s) × (512 ≤ length (now places)) × (512 ≤ length (now hashes)) × (512 ≤ length (now hints)) ⌝ }
-    ensures { λ r. ⌜ AtStart (now (s .entry)) (now (places .exit)) (now (hashes .exit)) (now (hints .exit)) r ⌝ }
-{
-    let mut left = number(s, 0) as usize;
-    let mut n = 0;
-    while 0 < left {
-        left -= 1;
-        let entry = past(s, 2, 6 * left);
-        n = take_entry(s, entry, places, hashes, hints, n);
-    }
-    n
-}
-
-// The parameters whose count stands at a place become binders; the place behind them.
-fn own_params(s: &[u8], at: usize, binders: &mut [u16]) -> usize
-    requires { ⌜ Params (now s) at × (length (now s) ≤ 16384) × (16384 ≤ length (now binders)) ⌝ }
-    ensures { λ r. ⌜ Own (now (s .entry)) at (now (binders .exit)) r ⌝ }
-{
-    let count = number(s, at) as usize;
-    let mut here = past(s, at, 2);
-    let mut b = 0;
-    while b < count {
-        let inner = name_past(s, here);
-        let end = inner_end(s, inner);
-        put_binder(binders, b, here, inner, 1, end - inner);
-        here = end;
-        b += 1;
-    }
-    here
-}
-
-// The format at a place: its name, its own parameters, its body.
-fn expand_format(
-    s: &[u8],
-    at: usize,
-    path: &mut [u8],
-    binders: &mut [u16],
-    bound: &mut [u32],
-    uses: &mut [u32],
-    spare: &mut [u32],
-    made: &mut [u8],
-    places: &mut [u16],
-    hashes: &mut [u16],
-    hints: &mut [u16],
-    rows: &mut [u16],
-    params: &mut [u16],
-    numbers: &mut [u16],
-    order: &mut [u16],
-    w: Counts,
-    n: usize,
-) -> Body
-    requires { ⌜ Good (now s) (now made) (now places) (now hashes) (now hints) (now rows) (now params) (now numbers) (now order) w n × Space (now s) (now path) (now binders) (now bound) (now uses) (now spare) × Format (now s) at ⌝ }
-    ensures { λ r. ⌜ Formatted (now (s .entry)) at (now (made .entry)) (now (places .entry)) (now (rows .entry)) (now (params .entry)) (now (order .entry)) w n (now (made .exit)) (now (places .exit)) (now (hashes .exit)) (now (hints .exit)) (now (rows .exit)) (now (params .exit)) (now (numbers .exit)) (now (order .exit)) r ⌝ }
-{
-    let len = put_bytes(name_at(s, at), path, 0);
-    let list = name_past(s, at);
-    let b = number(s, list) as usize;
-    let body = own_params(s, list, binders);
-    let end = combinator_end(s, body, 64);
-    expand_combinator(
-        s,
-        body,
-        end,
-        path,
-        len,
-        binders,
-        b,
-        bound,
-        uses,
-        spare,
-        made,
-        places,
-        hashes,
-        hints,
-        rows,
-        params,
-        numbers,
-        order,
-        w,
-        n,
-    )
-}
-
-// The definition at a place: only a format has a body to walk.
-fn expand_definition(
-    s: &[u8],
-    kind: u8,
-    at: usize,
-    path: &mut [u8],
-    binders: &mut [u16],
-    bound: &mut [u32],
-    uses: &mut [u32],
-    spare: &mut [u32],
-    made: &mut [u8],
-    places: &mut [u16],
-    hashes: &mut [u16],
-    hints: &mut [u16],
-    rows: &mut [u16],
-    params: &mut [u16],
-    numbers: &mut [u16],
-    order: &mut [u16],
-    w: Counts,
-    n: usize,
-) -> Body
-    requires { ⌜ Good (now s) (now made) (now places) (now hashes) (now hints) (now rows) (now params) (now numbers) (now order) w n × Space (now s) (now path) (now binders) (now bound) (now uses) (now spare) × (kind ≡ 1 → Format (now s) at) ⌝ }
-    ensures { λ r. ⌜ Defined (now (s .entry)) kind at (now (made .entry)) (now (places .entry)) (now (rows .entry)) (now (params .entry)) (now (order .entry)) w n (now (made .exit)) (now (places .exit)) (now (hashes .exit)) (now (hints .exit)) (now (rows .exit)) (now (params .exit)) (now (numbers .exit)) (now (order .exit)) r ⌝ }
-{
-    if kind == 1 {
-        return expand_format(
-            s,
-            at,
-            path,
-            binders,
-            bound,
-            uses,
-            spare,
-            made,
-            places,
-            hashes,
-            hints,
-            rows,
-            params,
-            numbers,
-            order,
-            w,
-            n,
-        );
-    }
-    Body::Named(w, n)
-}
+ghost use Rattle.naming.specs.Lifts.{Scratch};
+ghost use Rattle.start.specs.Rows.{Book};
+ghost use Rattle.steps.specs.Good.{Good};
+ghost use Rattle.format.specs.Formats.{Space};
+ghost use Rattle.formats.specs.Expands.{Starts, InOrder, Expands};
 
 // "Definitions in order", as the contents list them.
 fn expand_in_order(
@@ -242,23 +80,23 @@ fn expand_in_order(
     Body::Named(w, n)
 }
 
-// The naming pass: the tables then hold the lifts in walk order, the number of each at its place, and their order; or document 01's number of a refusal.
-pub fn expand_definitions(
+// The naming pass with scratch tables that are lent.
+fn expand_with(
     s: &[u8],
+    binders: &mut [u16],
+    bound: &mut [u32],
+    uses: &mut [u32],
+    spare: &mut [u32],
     made: &mut [u8],
     rows: &mut [u16],
     params: &mut [u16],
     number: &mut [u16],
     order: &mut [u16],
 ) -> Body
-    requires { ⌜ Starts (now s) (now made) (now rows) (now params) (now number) (now order) ⌝ }
+    requires { ⌜ Starts (now s) (now made) (now rows) (now params) (now number) (now order) × Scratch (now s) (now bound) (now uses) (now spare) × (length (now s) ≤ length (now binders)) ⌝ }
     ensures { λ r. ⌜ Expands (now (s .entry)) (now (made .exit)) (now (rows .exit)) (now (params .exit)) (now (number .exit)) (now (order .exit)) r ⌝ }
 {
     let mut path = [0u8; 255];
-    let mut binders = [0u16; 16384];
-    let mut bound = [0u32; 16384];
-    let mut uses = [0u32; 16384];
-    let mut spare = [0u32; 16384];
     let mut places = [0u16; 512];
     let mut hashes = [0u16; 512];
     let mut hints = [0u16; 512];
@@ -275,10 +113,10 @@ pub fn expand_definitions(
     expand_in_order(
         s,
         &mut path,
-        &mut binders,
-        &mut bound,
-        &mut uses,
-        &mut spare,
+        binders,
+        bound,
+        uses,
+        spare,
         made,
         &mut places,
         &mut hashes,
@@ -289,4 +127,82 @@ pub fn expand_definitions(
         order,
         w,
     )
+}
+
+// The scratch tables of a book of at most 2,048 bytes: four numbers a binder and a label for every four bytes, a use for every byte.
+fn expand_short(
+    s: &[u8],
+    made: &mut [u8],
+    rows: &mut [u16],
+    params: &mut [u16],
+    number: &mut [u16],
+    order: &mut [u16],
+) -> Body
+    requires { ⌜ Starts (now s) (now made) (now rows) (now params) (now number) (now order) × (length (now s) ≤ 2048) ⌝ }
+    ensures { λ r. ⌜ Expands (now (s .entry)) (now (made .exit)) (now (rows .exit)) (now (params .exit)) (now (number .exit)) (now (order .exit)) r ⌝ }
+{
+    let mut binders = [0u16; 2048];
+    let mut bound = [0u32; 512];
+    let mut uses = [0u32; 2048];
+    let mut spare = [0u32; 2048];
+    expand_with(
+        s,
+        &mut binders,
+        &mut bound,
+        &mut uses,
+        &mut spare,
+        made,
+        rows,
+        params,
+        number,
+        order,
+    )
+}
+
+// Those of any other book.
+fn expand_long(
+    s: &[u8],
+    made: &mut [u8],
+    rows: &mut [u16],
+    params: &mut [u16],
+    number: &mut [u16],
+    order: &mut [u16],
+) -> Body
+    requires { ⌜ Starts (now s) (now made) (now rows) (now params) (now number) (now order) ⌝ }
+    ensures { λ r. ⌜ Expands (now (s .entry)) (now (made .exit)) (now (rows .exit)) (now (params .exit)) (now (number .exit)) (now (order .exit)) r ⌝ }
+{
+    let mut binders = [0u16; 16384];
+    let mut bound = [0u32; 4096];
+    let mut uses = [0u32; 16384];
+    let mut spare = [0u32; 16384];
+    expand_with(
+        s,
+        &mut binders,
+        &mut bound,
+        &mut uses,
+        &mut spare,
+        made,
+        rows,
+        params,
+        number,
+        order,
+    )
+}
+
+// The naming pass: the tables then hold the lifts in walk order, the number of each at its place, and their order; or document 01's number of a refusal.
+pub fn expand_definitions(
+    s: &[u8],
+    made: &mut [u8],
+    rows: &mut [u16],
+    params: &mut [u16],
+    number: &mut [u16],
+    order: &mut [u16],
+) -> Body
+    requires { ⌜ Starts (now s) (now made) (now rows) (now params) (now number) (now order) ⌝ }
+    ensures { λ r. ⌜ Expands (now (s .entry)) (now (made .exit)) (now (rows .exit)) (now (params .exit)) (now (number .exit)) (now (order .exit)) r ⌝ }
+{
+    if s.len() <= 2048 {
+        return expand_short(s, made, rows, params, number, order);
+    }
+    expand_long(s, made, rows, params, number, order)
 }

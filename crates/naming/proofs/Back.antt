@@ -92,7 +92,7 @@ module _ (at done : ℕ) (name : Name) (env : List Bound) (own : Own) where
       deep-link = omega arith;
     })
 
-    module _ (small : length s ≤ 16384) (room : 16384 ≤ length binders) (few : z .inner ≤ 65535) (l : ℕ) where
+    module _ (small : length s ≤ 16384) (room : length s ≤ length binders) (few : z .inner ≤ 65535) (l : ℕ) where
       pub back-case : (x : List ℕ) (c : Combinator) (h : Cases) (j : CaseKind) (i : ℕ) → FrameIs s path binders k f (node (behind l) (cases (case x c h) j i))
           → FrameIs s path (bindBy s f (caseAt at j x) (z .inner) binders) k (delivered f (caseAt at j x) (caseAt at j x + size c) (z .whole) (boundAfter s f)) (deliver (for-case x c h j i (node (behind l) (cases (case x c h) j i))) z)
       unfolding LinkIs RestIs sizeRest levelsRest levels bindBy boundAfter binding delivered deliver advanced wCombinator countC size
@@ -187,7 +187,7 @@ module _ (at done : ℕ) (name : Name) (env : List Bound) (own : Own) where
             done = rw (g .done);
             link = (refl, g .link .1);
             name = g .name;
-            env = bound-more s binders (f .bound) (pastAt s (f .here) 1) (fieldAt at a) 0 (z .inner) (omega (arith, g .few)) ∙ (rw (n, g .env));
+            env = bound-more s binders (f .bound) (pastAt s (f .here) 1) (fieldAt at a) 0 (z .inner) (omega (arith, g .few, g .here, some-size c, name-some a, v .reach)) ∙ (rw (n, g .env));
             own = g .own;
             few = omega (arith, g .few, g .here, some-size c, name-some a);
             deep = omega (arith, g .deep);

@@ -23,7 +23,7 @@ use Rattle.seek.specs.At.{selectorPast}
 use Rattle.calls.specs.Walked.{Skipped}
 use Rattle.calls.proofs.Link.{skipped}
 use Rattle.naming.specs.Nodes.{Rest, fields, cases, one, tail, restOf, skip}
-use Rattle.naming.specs.Frames.{innerEnd, combinatorEnd, start, casesBegin, beginAt, RestIs, Begins}
+use Rattle.naming.specs.Frames.{innerEnd, combinatorEnd, combinatorPast, start, casesBegin, beginAt, RestIs, Begins}
 
 -- ---- the loop over chains
 module _ (s : List ℕ) (at : ℕ) where
@@ -41,6 +41,10 @@ module _ (s : List ℕ) (at : ℕ) where
   unfolding combinatorEnd
   end-none zero h = refl
   end-none (suc n) h = absurd (omega arith)
+
+pub end-past : (s : List ℕ) (at : ℕ) {end last : ℕ} → end ≡ innerEnd s at → last ≡ combinatorPast s end → last ≡ combinatorEnd 64 s at
+unfolding combinatorPast combinatorEnd
+end-past s at e h = rw e at h
 
 -- ---- where a tree stands
 module _ {s : List ℕ} (small : length s ≤ 65535) {p : ℕ} where

@@ -67,7 +67,7 @@ sorted-short (n ∷ l) = omega (arith, insert-short n (sorted l), sorted-short l
 module _ {s : List ℕ} {at end : ℕ} {c : Combinator} (w : Whole s at end c) (bound uses spare : List ℕ) (x : Scratch s bound uses spare) (short : length s ≤ 16384) where
   pub clear : {k : ℕ} → paramsAt s at bound uses spare .0 ≡ Sorted k → leftover c ≡ false
   clear {k} e = ⊎-elim
-      (λ (h : leftover c ≡ true). let q = params-leftover s at c (w .after) (x .small) (omega arith) (w .deep) (w .is) bound uses spare (omega (arith, x .labels)) h in let z : _≡_ {A = ℕ} 0 1 = cc in absurd (omega arith))
+      (λ (h : leftover c ≡ true). let q = params-leftover s at c (w .after) (x .small) (omega arith) (w .deep) (w .is) bound uses spare (x .labels) h in let z : _≡_ {A = ℕ} 0 1 = cc in absurd (omega arith))
       (λ (h : leftover c ≡ false). h)
       (yes-no (leftover c))
 
@@ -75,19 +75,19 @@ module _ {s : List ℕ} {at end : ℕ} {c : Combinator} (w : Whole s at end c) (
   left-over e = ⊎-elim
       (λ (h : leftover c ≡ true). h)
       (λ (h : leftover c ≡ false).
-      let q = params-count s at c (w .after) (x .small) (omega arith) (w .deep) (w .is) bound uses spare (omega (arith, x .labels)) h (x .uses-long) (x .spare-long) in
+      let q = params-count s at c (w .after) (x .small) (omega arith) (w .deep) (w .is) bound uses spare (x .labels) h (x .uses-long) (x .spare-long) in
       let z : _≡_ {A = ℕ} 0 1 = cc in absurd (omega arith))
       (yes-no (leftover c))
 
   module _ {k : ℕ} (e : paramsAt s at bound uses spare .0 ≡ Sorted k) where
     count : k ≡ length (sorted (free c))
-    count = let q = params-count s at c (w .after) (x .small) (omega arith) (w .deep) (w .is) bound uses spare (omega (arith, x .labels)) (clear e) (x .uses-long) (x .spare-long) in cc
+    count = let q = params-count s at c (w .after) (x .small) (omega arith) (w .deep) (w .is) bound uses spare (x .labels) (clear e) (x .uses-long) (x .spare-long) in cc
 
     pub count-short : k ≤ length s
     count-short = omega (arith, count, sorted-short (free c), free-room c (w .after), here-length (w .is))
 
     pub are-sorted : namesIn s (take k (paramsAt s at bound uses spare .2)) ≡ sorted (free c)
-    are-sorted = rw count (params-names s at c (w .after) (x .small) (omega arith) (w .deep) (w .is) bound uses spare (omega (arith, x .labels)) (clear e) (x .uses-long) (x .spare-long))
+    are-sorted = rw count (params-names s at c (w .after) (x .small) (omega arith) (w .deep) (w .is) bound uses spare (x .labels) (clear e) (x .uses-long) (x .spare-long))
 
 answers : (n : ℕ) (path′ : List ℕ) (m : Res Sheet ℕ) (r : Lifted) (name : Name) (sheet : Counts → Sheet) (good : Counts → Type 0) → Held path′ n name → Gives m r sheet good
     → Answers (m >>= (λ x. ok (record { name = name; call = x .0 }) (x .1))) (namedOf n r) path′ sheet good

@@ -38,6 +38,12 @@ combinatorEnd (suc k) s at =
     let a = pastAt s e 1 in
     pick (eqb (byteAt s e) 1) (combinatorEnd k s a) a
 
+-- where a combinator ends whose inner ends at a place
+unfoldable pub combinatorPast : List ℕ → ℕ → ℕ
+combinatorPast s e =
+    let a = pastAt s e 1 in
+    pick (eqb (byteAt s e) 1) (combinatorEnd 63 s a) a
+
 -- the children of a Choice whose selector stands at a place, and those of the inner at a place
 abbrev pub start : ℕ → ℕ → ℕ → Begin
 start here kind left = record { here = here; kind = kind; left = left }
@@ -225,7 +231,7 @@ pub record Opening (s : List ℕ) (k : ℕ) (f : Frame) (n : Node) (at : ℕ) (b
   pub stands : Stands s at child
   pub deep : levels child ≤ k
   pub behind : f .here ≤ at
-  pub back : (path binders : List ℕ) → FrameIs s path binders k f n → 16384 ≤ length binders → (z : Extent) → z .inner ≤ 65535
+  pub back : (path binders : List ℕ) → FrameIs s path binders k f n → length s ≤ length binders → (z : Extent) → z .inner ≤ 65535
       → FrameIs s path (bindBy s f at (z .inner) binders) k (delivered f at (at + size child) (z .whole) (boundAfter s f)) (deliver wait z)
 
 unfoldable pub NextIs : List ℕ → List ℕ → List ℕ → ℕ → Frame → Node → Next → Type 0

@@ -1,7 +1,7 @@
 -- One lift: the answer, and what the tables say then. Document 01, "Lifting rules", codes 7 to 10.
 use mathlib.Core.List.{List}
 use mathlib.Core.Path.{_≡_}
-use Prim.Native.Nat.{ℕ, _+_, _≤_, _<_}
+use Prim.Native.Nat.{ℕ, _+_, _*_, _≤_, _<_}
 use lib.ListN.{length, take, set}
 use Rattle.definition.specs.Code.{number}
 use Rattle.definition.specs.Res.{Res, bad, ok}
@@ -34,7 +34,7 @@ pub record Some (s : List ℕ) (at end : ℕ) : Type 0 where
 -- the scratch tables of collection: a label for every four bytes, a use for every byte
 pub record Scratch (s bound uses spare : List ℕ) : Type 0 where
   pub small : (i : ℕ) → byteAt s i < 256
-  pub labels : length s ≤ length bound
+  pub labels : length s ≤ 4 * length bound
   pub uses-long : length s ≤ length uses
   pub spare-long : length s ≤ length spare
 

@@ -7,14 +7,14 @@ use seek::length_past;
 use seek::name_past;
 use seek::number;
 use seek::past;
+use seek::selector_past;
 use seek::text_past;
 use skip::skip_inner;
 ghost use mathlib.Core.Path.{_≡_};
 ghost use Prim.Native.Nat.{_-_, _≤_, min};
 ghost use Rattle.lift.specs.Bound.{withParam};
 ghost use Rattle.naming.specs.Walk.{plus};
-ghost use Rattle.seek.specs.At.{selectorPast};
-ghost use Rattle.naming.specs.Frames.{innerEnd, combinatorEnd, casesBegin, beginAt, frameAt, bindBy, boundAfter, delivered, passed};
+ghost use Rattle.naming.specs.Frames.{innerEnd, combinatorEnd, combinatorPast, casesBegin, beginAt, frameAt, bindBy, boundAfter, delivered, passed};
 ghost use Rattle.naming.specs.Next.{nextField, nextOne, nextOf};
 
 pub mod lifts;
@@ -62,7 +62,7 @@ pub fn inner_end(s: &[u8], at: usize) -> usize
 }
 
 // Where the combinator at a place ends, with so many levels left: behind its last chain.
-pub fn combinator_end(s: &[u8], at: usize, levels: usize) -> usize
+fn combinator_end(s: &[u8], at: usize, levels: usize) -> usize
     ensures { λ r. ⌜ r ≡ combinatorEnd levels (now (s .entry)) at ⌝ }
 {
     let mut left = levels;
@@ -79,13 +79,14 @@ pub fn combinator_end(s: &[u8], at: usize, levels: usize) -> usize
     here
 }
 
-fn selector_end(s: &[u8], at: usize) -> usize
-    ensures { λ r. ⌜ r ≡ selectorPast (now (s .entry)) at ⌝ }
+// The same, from where its inner ends.
+pub fn combinator_past(s: &[u8], end: usize) -> usize
+    ensures { λ r. ⌜ r ≡ combinatorPast (now (s .entry)) end ⌝ }
 {
-    let more = byte(s, at);
-    let a = past(s, at, 1);
+    let more = byte(s, end);
+    let a = past(s, end, 1);
     if more == 1 {
-        return name_past(s, a);
+        return combinator_end(s, a, 63);
     }
     a
 }
@@ -94,7 +95,7 @@ fn selector_end(s: &[u8], at: usize) -> usize
 fn cases_of(s: &[u8], at: usize) -> Begin
     ensures { λ r. ⌜ r ≡ casesBegin (now (s .entry)) at ⌝ }
 {
-    let a = selector_end(s, at);
+    let a = selector_past(s, at);
     let kind = byte(s, a);
     let b = past(s, a, 1);
     let left = number(s, b) as usize;
@@ -174,21 +175,22 @@ pub fn minus(a: usize, b: usize) -> usize
     a - b
 }
 
-// The frame of the node whose combinator stands from `at` up to `last`.
+// The frame of the node whose combinator stands from `at` up to `last`, its inner up to `end`.
 pub fn open_node(
     s: &[u8],
     at: usize,
+    end: usize,
     last: usize,
     len: usize,
     bound: usize,
     own: usize,
     call: usize,
 ) -> Frame
+    requires { ⌜ end ≡ innerEnd (now s) at ⌝ }
     ensures { λ r. ⌜ r ≡ frameAt (now (s .entry)) at last len bound own call ⌝ }
 {
     let b = children_of(s, at);
     let here = b.here;
-    let end = inner_end(s, at);
     let more = byte(s, end);
     let done = minus(here, at);
     let chained = more == 1;

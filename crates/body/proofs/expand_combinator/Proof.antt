@@ -8,16 +8,16 @@ use Rattle.body.proofs.expand_combinator.Statement.{statement}
 use Rattle.body.proofs.expand_combinator.Tie as tie
 
 abbrev Inv-loop : tie.InvT-loop
-Inv-loop s at end path₀ len binders₀ b bound₀ uses₀ spare₀ made₀ places₀ hashes₀ hints₀ rows₀ params₀ number₀ order₀ n frames₀ f₀ d₀ counts₀ finished₀ path binders bound uses spare made places hashes hints rows params number order frames f d counts finished =
-    Round s at end path₀ len binders₀ b made₀ places₀ rows₀ params₀ order₀ counts₀ n path binders bound uses spare made places hashes hints rows params number order frames f d counts finished
+Inv-loop s at path₀ len binders₀ b bound₀ uses₀ spare₀ made₀ places₀ hashes₀ hints₀ rows₀ params₀ number₀ order₀ n end last frames₀ f₀ d₀ counts₀ finished₀ path binders bound uses spare made places hashes hints rows params number order frames f d counts finished =
+    Round s at path₀ len binders₀ b made₀ places₀ rows₀ params₀ order₀ counts₀ n path binders bound uses spare made places hashes hints rows params number order frames f d counts finished
     × Lengths path₀ binders₀ bound₀ uses₀ spare₀ made₀ places₀ hashes₀ hints₀ rows₀ params₀ number₀ order₀ path binders bound uses spare made places hashes hints rows params number order
 
 abbrev μ-loop : tie.MeasureT-loop
-μ-loop s at end path₀ len binders₀ b bound₀ uses₀ spare₀ made₀ places₀ hashes₀ hints₀ rows₀ params₀ number₀ order₀ n frames₀ f₀ d₀ counts₀ finished₀ path binders bound uses spare made places hashes hints rows params number order frames f d counts finished =
+μ-loop s at path₀ len binders₀ b bound₀ uses₀ spare₀ made₀ places₀ hashes₀ hints₀ rows₀ params₀ number₀ order₀ n end last frames₀ f₀ d₀ counts₀ finished₀ path binders bound uses spare made places hashes hints rows params number order frames f d counts finished =
     left s frames f d
 
 loop-holds : tie.Need-loop-holds Inv-loop μ-loop
-loop-holds c = (round-start (c .before .before .before .before .before .before .before .before .before .before .before .before .before .before .before .pre .2) (c .before .before .before .before .before .before .before .before .before .before .before .before .before .before .before .pre .0) (c .before .before .before .before .before .before .before .before .before .before .before .before .before .before .before .pre .1) (c .open-node .ensures) refl, record { path = refl; binders = refl; bound = refl; uses = refl; spare = refl; made = refl; places = refl; hashes = refl; hints = refl; rows = refl; params = refl; number = refl; order = refl })
+loop-holds c = (round-start _ (c .before .before .before .before .before .before .before .before .before .before .before .before .before .before .before .before .before .pre .2) (c .before .before .before .before .before .before .before .before .before .before .before .before .before .before .before .before .before .pre .0) (c .before .before .before .before .before .before .before .before .before .before .before .before .before .before .before .before .before .pre .1) (c .open-node .ensures) refl, record { path = refl; binders = refl; bound = refl; uses = refl; spare = refl; made = refl; places = refl; hashes = refl; hints = refl; rows = refl; params = refl; number = refl; order = refl })
 
 pass-requires : tie.Need-pass-requires Inv-loop μ-loop
 pass-requires c κs = pass-safe (c .before .before .before .before .before .before .before .loop .inv .0)
@@ -164,6 +164,8 @@ expand-combinator-spec =
     Inv-loop
     μ-loop
     (λ c κs. search needs)
+    (λ c κs. search needs)
+    (λ c κs. c .before .inner-end .ensures)
     loop-holds
     (λ c κs. search needs)
     (λ c. search needs)

@@ -1,46 +1,24 @@
 -- `formats::expand_definitions` meets its contract.
 -- Assumes nothing.
-use Prim.Native.Nat.{ℕ}
-use native.Mathlib.Omega.{arith}
-use lib.ListN.{length-replicate}
 use borrow.Author.Needs.{needs}
-use Rattle.formats.proofs.Start.{space, the-book, good, expands}
 use Rattle.formats.proofs.expand_definitions.Statement.{statement}
 use Rattle.formats.proofs.expand_definitions.Tie as tie
-
-expand-in-order-requires : tie.Need-expand-in-order-requires
-expand-in-order-requires c κs =
-    let p = c .before .before .before .before .before .before .before .before .before .before .before .before .before .before .before .before .before .before .before .before .before .before .before .before .before .before .before .pre in (
-      good p (c .before .before .before .before .before .before .before .before .before .before .before .before .before .before .before .before .before .take-at-start .ensures) (c .before .before .before .before .before .before .before .before .before .before .before .before .before .number .ensures) (omega (arith, c .before .before .before .before .before .before .before .before .before .before .before .before .before .before .before .before .places2 .given)) (omega (arith, c .before .before .before .before .before .before .before .before .before .before .before .before .before .before .before .hashes2 .given)) (omega (arith, c .before .before .before .before .before .before .before .before .before .before .before .before .before .before .hints2 .given)),
-      space (the-book p) (λ i. omega (arith, c .before .before .before .before .before .before .before .before .before .before .before .before .before .before .before .before .before .before .before .before .before .before .before .before .before .before .shared-slice-known .given i)) (length-replicate {0} {A = ℕ} 255 0) (length-replicate {0} {A = ℕ} 16384 0) (length-replicate {0} {A = ℕ} 16384 0) (length-replicate {0} {A = ℕ} 16384 0) (length-replicate {0} {A = ℕ} 16384 0),
-      the-book p,
-    )
-
-returns : tie.Need-returns
-returns c = expands (c .before .before .before .before .before .before .before .before .before .before .before .before .before .before .before .before .before .before .before .before .before .before .before .before .before .before .before .before .before .before .before .before .before .before .before .before .before .before .before .before .before .before .before .before .before .before .pre) (c .before .before .before .before .before .before .before .before .before .before .before .before .before .before .before .before .before .before .before .before .before .before .before .before .before .before .before .before .before .before .before .before .before .before .before .before .take-at-start .ensures) (c .before .before .before .before .before .before .before .before .before .before .before .before .before .before .before .before .before .before .before .before .before .before .before .before .before .before .before .before .before .before .before .before .number .ensures) (c .before .before .before .before .before .before .before .before .before .before .before .before .before .before .before .before .before .before .expand-in-order .ensures)
 
 pub expand-definitions-spec : {M : Type 1} → statement M
 expand-definitions-spec =
     tie.close
     (tie.spec
-    (λ c. search needs)
-    (λ c. search needs)
-    (λ c. search needs)
-    (λ c κs. search needs)
-    (λ c κs. search needs)
+    (λ c κs. (c .before .before .before .before .before .before .before .before .before .before .before .before .pre, c .before .before .before .before .before .if1 .taken))
     (λ c. search needs)
     (λ c. search needs)
     (λ c. search needs)
     (λ c. search needs)
     (λ c. search needs)
-    (λ c. search needs)
-    (λ c. search needs)
-    (λ c. search needs)
-    (λ c. search needs)
-    expand-in-order-requires
+    (λ c. c .before .before .before .before .before .before .before .before .before .before .expand-short .ensures)
+    (λ c κs. c .before .before .before .before .before .before .before .before .before .before .before .before .pre)
     (λ c. search needs)
     (λ c. search needs)
     (λ c. search needs)
     (λ c. search needs)
     (λ c. search needs)
-    returns)
+    (λ c. c .before .before .before .before .before .before .before .before .before .before .expand-long .ensures))

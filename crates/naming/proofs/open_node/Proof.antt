@@ -8,9 +8,9 @@ use Rattle.naming.proofs.open_node.Tie as tie
 
 returns : tie.Need-returns
 unfolding frameAt
-returns c = rw (← (c .before .before .before .children-of .ensures), ← (c .before .before .inner-end .ensures), ← (c .before .byte .ensures), ← (c .minus .ensures))
+returns c = rw (← (c .before .before .children-of .ensures), ← (c .before .before .before .before .pre), ← (c .before .byte .ensures), ← (c .minus .ensures))
 
 pub open-node-spec : {M : Type 1} → statement M
 open-node-spec =
     tie.close
-    (tie.spec (λ c κs. search needs) (λ c κs. search needs) (λ c κs. search needs) (λ c κs. search needs) returns)
+    (tie.spec (λ c κs. search needs) (λ c κs. search needs) (λ c κs. search needs) returns)

@@ -1,0 +1,91 @@
+-- `format::expand_format` meets its contract.
+-- Assumes nothing.
+use native.Mathlib.Omega.{arith}
+use borrow.Author.Needs.{needs}
+use Rattle.format.proofs.Formats.{len-most, has-params, ready, formatted}
+use Rattle.format.proofs.expand_format.Statement.{statement}
+use Rattle.format.proofs.expand_format.Tie as tie
+
+own-params-requires : tie.Need-own-params-requires
+own-params-requires c κs =
+    let p = c .before .before .before .before .before .before .before .before .before .before .before .before .before .before .before .before .before .before .before .before .before .before .pre in
+    (has-params (p .0 .tables .source) (c .before .before .name-past .ensures) (p .2), p .0 .tables .source, p .1 .binders-long)
+
+expand-combinator-requires : tie.Need-expand-combinator-requires
+expand-combinator-requires c κs =
+    let p = c .before .before .before .before .before .before .before .before .before .before .before .before .before .before .before .before .before .before .before .before .before .before .before .before .before .before .before .before .before .before .before .before .before .before .before .before .before .before .pre in (
+      p .0,
+      ready (p .0 .tables .source) (c .before .before .before .before .before .before .before .before .before .before .before .before .before .before .before .before .before .before .name-past .ensures) (c .before .before .before .before .before .before .before .before .before .before .before .before .before .before .before .own-params .ensures) (c .before .before .before .before .before .before .before .before .before .before .before .before .before .before .before .before .before .number .ensures) (p .2)
+          (omega (arith, c .before .before .before .before .before .before .before .before .before .before .before .before .before .before .before .before .before .before .before .before .path .given, p .1 .path-long)) (omega (arith, c .before .before .before .before .before .before .before .before .before .before .before .before .before .before .binders .given, p .1 .binders-long)) (p .1 .scratch),
+      len-most (c .before .before .before .before .before .before .before .before .before .before .before .before .before .before .before .before .before .before .before .before .before .put-bytes .ensures) (p .1 .path-long),
+    )
+
+same-path : tie.Need-same-length
+same-path c = omega (arith, c .before .before .before .before .before .before .before .before .before .before .before .before .before .before .before .before .before .before .before .before .before .before .before .before .before .path2 .given, c .before .before .before .before .before .before .before .before .before .before .before .before .before .before .before .before .before .before .before .before .before .before .before .before .before .before .before .before .before .before .before .before .before .before .before .before .before .before .before .before .before .before .before .before .before .before .before .path .given)
+
+same-binders : tie.Need-same-length-2
+same-binders c = omega (arith, c .before .before .before .before .before .before .before .before .before .before .before .before .before .before .before .before .before .before .before .before .before .before .before .binders2 .given, c .before .before .before .before .before .before .before .before .before .before .before .before .before .before .before .before .before .before .before .before .before .before .before .before .before .before .before .before .before .before .before .before .before .before .before .before .before .before .before .before .before .binders .given)
+
+same-bound : tie.Need-same-length-3
+same-bound c = c .before .before .before .before .before .before .before .before .before .before .before .before .before .before .before .before .before .before .before .before .before .bound .given
+
+same-uses : tie.Need-same-length-4
+same-uses c = c .before .before .before .before .before .before .before .before .before .before .before .before .before .before .before .before .before .before .before .uses .given
+
+same-spare : tie.Need-same-length-5
+same-spare c = c .before .before .before .before .before .before .before .before .before .before .before .before .before .before .before .before .before .spare .given
+
+same-made : tie.Need-same-length-6
+same-made c = c .before .before .before .before .before .before .before .before .before .before .before .before .before .before .before .made .given
+
+same-places : tie.Need-same-length-7
+same-places c = c .before .before .before .before .before .before .before .before .before .before .before .before .before .places .given
+
+same-hashes : tie.Need-same-length-8
+same-hashes c = c .before .before .before .before .before .before .before .before .before .before .before .hashes .given
+
+same-hints : tie.Need-same-length-9
+same-hints c = c .before .before .before .before .before .before .before .before .before .hints .given
+
+same-rows : tie.Need-same-length-10
+same-rows c = c .before .before .before .before .before .before .before .rows .given
+
+same-params : tie.Need-same-length-11
+same-params c = c .before .before .before .before .before .params .given
+
+same-numbers : tie.Need-same-length-12
+same-numbers c = c .before .before .before .numbers .given
+
+same-order : tie.Need-same-length-13
+same-order c = c .before .order .given
+
+returns : tie.Need-returns
+returns c =
+    let p = c .before .before .before .before .before .before .before .before .before .before .before .before .before .before .before .before .before .before .before .before .before .before .before .before .before .before .before .before .before .before .before .before .before .before .before .before .before .before .before .before .before .before .before .before .before .before .before .before .before .before .before .before .before .before .before .before .before .before .before .before .before .before .before .before .before .pre in
+    formatted (p .0 .tables .source) (c .before .before .before .before .before .before .before .before .before .before .before .before .before .before .before .before .before .before .before .before .before .before .before .before .before .before .before .before .before .before .before .before .before .before .before .before .before .before .before .before .before .before .before .before .before .name-past .ensures) (c .before .before .before .before .before .before .before .before .before .before .before .before .before .before .before .before .before .before .before .before .before .before .before .before .before .before .before .before .before .before .before .before .before .before .before .before .before .before .before .before .before .before .own-params .ensures) (c .before .before .before .before .before .before .before .before .before .before .before .before .before .before .before .before .before .before .before .before .before .before .before .before .before .before .before .before .before .before .before .before .before .before .before .before .before .before .before .before .before .before .before .before .number .ensures) (rw (c .before .before .before .before .before .before .before .before .before .before .before .before .before .before .before .before .before .before .before .before .before .before .before .before .before .before .before .before .before .before .before .before .before .before .before .before .before .before .before .before .before .before .before .before .before .before .before .before .before .before .name-at .ensures) at (c .before .before .before .before .before .before .before .before .before .before .before .before .before .before .before .before .before .before .before .before .before .before .before .before .before .before .before .before .before .before .before .before .before .before .before .before .before .before .before .before .before .before .before .before .before .before .before .before .put-bytes .ensures)) (c .before .before .before .before .before .before .before .before .before .before .before .before .before .before .before .before .before .before .before .before .before .before .before .before .before .before .expand-combinator .ensures)
+
+pub expand-format-spec : {M : Type 1} → statement M
+expand-format-spec =
+    tie.close
+    (tie.spec
+    (λ c κs. search needs)
+    (λ c κs. search needs)
+    (λ c κs. search needs)
+    (λ c κs. search needs)
+    (λ c. search needs)
+    own-params-requires
+    expand-combinator-requires
+    same-path
+    same-binders
+    same-bound
+    same-uses
+    same-spare
+    same-made
+    same-places
+    same-hashes
+    same-hints
+    same-rows
+    same-params
+    same-numbers
+    same-order
+    returns)
