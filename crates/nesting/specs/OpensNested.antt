@@ -22,16 +22,16 @@ pub record RefusesNested (book : List ℕ) (workLength : ℕ) (code : ℕ) : Typ
   pub is : openedNested book workLength ≡ refused reason
   pub numbered : code ≡ number reason
 
-pub record ExpandsNested (book : List ℕ) (workLength : ℕ) (work : List ℕ) (len : ℕ) : Type 0 where
+pub record ExpandsNested (book : List ℕ) (workLength : ℕ) (out : List ℕ) (len : ℕ) : Type 0 where
   pub left : List Definition
   pub is : openedNested book workLength ≡ done left
   pub isBook : IsBook left
-  pub holds : take len work ≡ wBook left
-  pub fits : len ≤ workLength
+  pub holds : take len out ≡ wBook left
+  pub fits : len ≤ 16384
 
 abbrev pub OpensNestedBy : List ℕ → ℕ → List ℕ → Opened → Type 0
-OpensNestedBy book workLength work (Book len) = ExpandsNested book workLength work len
-OpensNestedBy book workLength work (Refused code) = RefusesNested book workLength code
+OpensNestedBy book workLength out (Book len) = ExpandsNested book workLength out len
+OpensNestedBy book workLength out (Refused code) = RefusesNested book workLength code
 
-pub record OpensNested (book : List ℕ) (workLength : ℕ) (work : List ℕ) (r : Opened) : Type 0 where
-  pub by : OpensNestedBy book workLength work r
+pub record OpensNested (book : List ℕ) (workLength : ℕ) (out : List ℕ) (r : Opened) : Type 0 where
+  pub by : OpensNestedBy book workLength out r

@@ -13,16 +13,17 @@ ghost use Rattle.nested.specs.Nested.{attemptNested, answerNested, outputNested
 ghost use Rattle.closing.specs.Elaborates.{reported, Reports};
 ghost use Rattle.nesting.specs.OpensNested.{OpensNested};
 
-// Codes 1 to 6 and 12. The book after the last pass fills the work area's first bytes.
-fn open_nested(book: &[u8], work: &mut [u8]) -> Opened
-    ensures { λ r. ⌜ OpensNested (now (book .entry)) (length (now (work .entry))) (now (work .exit)) r ⌝ }
+// Codes 1 to 6 and 12. The book after the last pass fills the output's first bytes.
+fn open_nested(book: &[u8], work: &mut [u8], out: &mut [u8]) -> Opened
+    requires { ⌜ length (now out) ≡ 16384 ⌝ }
+    ensures { λ r. ⌜ OpensNested (now (book .entry)) (length (now (work .entry))) (now (out .exit)) r ⌝ }
 {
-    let opened = open_book(book, work);
+    let opened = open_book(book, work, out);
     match opened {
         Opened::Refused { code } => Opened::Refused { code },
         Opened::Book { len } => {
             let mut next = [0u8; 16384];
-            let got = expand_again(book, &mut work[..16384], len, &mut next);
+            let got = expand_again(book, out, len, &mut work[..32768], &mut next);
             match got {
                 Passes::Grown => Opened::Refused { code: 6 },
                 Passes::Left => Opened::Refused { code: 12 },
@@ -36,10 +37,11 @@ fn open_nested(book: &[u8], work: &mut [u8]) -> Opened
 fn attempt_nested(book: &[u8], out: &mut [u8], work: &mut [u8]) -> Elaborated
     ensures { λ r. ⌜ Reports (attemptNested (now (book .entry)) (length (now (out .entry))) (length (now (work .entry)))) (now (out .entry)) (now (out .exit)) r ⌝ }
 {
-    let opened = open_nested(book, work);
+    let mut expanded = [0u8; 16384];
+    let opened = open_nested(book, work, &mut expanded);
     match opened {
         Opened::Refused { code } => Elaborated::Refused { code },
-        Opened::Book { len } => lift_book(&work[..len], out),
+        Opened::Book { len } => lift_book(&expanded[..len], out),
     }
 }
 
