@@ -148,6 +148,24 @@ fn examples_are_what_their_text_says() {
 }
 
 #[test]
+fn the_nested_example_is_what_its_text_says() {
+    let file = |ending| examples().join(format!("nested/packing-list.{ending}"));
+    let text = |ending| fs::read_to_string(file(ending)).expect("a text");
+    let book = fs::read(file("book")).expect("its book");
+    assert_eq!(parsed(&text("layout")), book);
+    assert_eq!(listing(&plain(&book)), Ok(text("listing")));
+    assert_eq!(listing(&nested(&book)), Ok(text("nested")));
+    assert_eq!(passes(&book), Ok(Some((2, End::Settled))));
+    // The inner calls stay in one pass, and in nested mode none is left.
+    let calls = |answer| notation::print(&result(answer)).matches("dated!(").count();
+    assert_eq!((calls(&plain(&book)), calls(&nested(&book))), (7, 0));
+    // As the layout says: inside a nested format one pass is refused.
+    let inside = text("layout") + "format label = struct { head: record!(uuid) }";
+    assert_eq!(plain(&parsed(&inside)).code(), 7);
+    assert_eq!(nested(&parsed(&inside)).code(), 0);
+}
+
+#[test]
 fn worked_bytes_of_document_01() {
     let p2 = [1, 0, 1, 0, 8, 0, 8, 0, 1, 0x65, 0, 0, 0x0d, 0, 0, 0];
     assert_eq!(fs::read(examples().join("p01.book")).expect("P1"), [0, 0]);
