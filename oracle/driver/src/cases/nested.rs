@@ -114,6 +114,8 @@ fn ending(rng: &mut Rng) -> Inner {
     }
 }
 
+const PARAMS: [&[&str]; 6] = [&[], &["a"], &["b"], &["a", "b"], &["b", "a"], &["a", "a"]];
+
 /// Macro `number` of a chain.
 fn link(number: usize) -> String {
     format!("~{number}")
@@ -144,7 +146,7 @@ fn links(rng: &mut Rng, count: usize, end: Inner) -> Vec<Definition> {
             true => inside,
             false => placed(rng, inside),
         };
-        let params: &[&str] = *rng.pick(&[&[][..], &["a"], &["a", "b"], &["b", "a"], &["a", "a"]]);
+        let params = *rng.pick(&PARAMS);
         made.push(macro_definition(&link(number), params, body));
     }
     made
@@ -349,7 +351,7 @@ fn mixed(rng: &mut Rng) -> Book {
         let from = if down { number + 1 } else { 0 };
         let depth = rng.between(0, 2);
         let body = tangle(rng, depth, from, count);
-        let params: &[&str] = *rng.pick(&[&["a"][..], &["a", "b"], &["b"], &[]]);
+        let params = *rng.pick(&PARAMS);
         definitions.push(macro_definition(name, params, body));
     }
     let mut formats = Vec::new();
@@ -393,7 +395,7 @@ fn tangled(rng: &mut Rng, depth: usize, from: usize, count: usize) -> Inner {
             let arg = |_| tangled(rng, depth - 1, from, count);
             macro_call(name, (0..args).map(arg).collect())
         }
-        4 | 5 => call(*rng.pick(&["a", "b"]), &[]),
+        4 | 5 => call(rng.pick::<&str>(&["a", "b"]), &[]),
         _ => ending(rng),
     }
 }
