@@ -5,6 +5,7 @@ use compare::case::{expected, judge, Case, Out, Sizes, PLAIN};
 use compare::shrink::shrink;
 use compare::tally::Tally;
 use driver::cases::{case, nested_case, Rng};
+use driver::passes::{passes, End};
 
 /// Answers as the oracle does, then does what is wrong with it.
 struct Fake(fn(&Request, &mut Reply));
@@ -162,6 +163,17 @@ fn a_12_that_is_a_6_shrinks_to_a_bare_chain() {
     });
     assert_eq!(case.sizes, PLAIN);
     assert!(case.book.len() <= 200, "{} bytes", case.book.len());
+}
+
+#[test]
+fn a_pass_too_few_is_noticed() {
+    let case = found(Call::Nested, |request, reply| {
+        let last = passes(request.book) == Ok(Some((16, End::Settled)));
+        if last && request.work >= 65_536 {
+            (reply.numbers, reply.out) = ([12, 0, 0, 0], Vec::new());
+        }
+    });
+    assert_eq!(passes(&case.book), Ok(Some((16, End::Settled))));
 }
 
 #[test]
