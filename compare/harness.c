@@ -1,7 +1,7 @@
 /* Calls the archive for a program that judges its answers: `compare` of oracle/, which runs this one and talks to it
  * over standard input and output. All numbers are little-endian u32.
  *
- * A case: which call (0 premise, 1 elaborate), length of the book, of the output, of the work area, a number that
+ * A case: which call (0 premise, 1 elaborate, 2 elaborate_nested), length of the book, of the output, of the work area, a number that
  * chooses the noise, how often to call; the book.
  * Its answer: the last call's four numbers (premise: code, holds, 0, 0); how many bytes of the work area are not zero;
  * how many bytes were written that must not be (of the book, or before a buffer); a measure; how many bytes of the
@@ -115,6 +115,8 @@ static struct samulsto_answer call(uint32_t which, const struct buffers *b)
     struct slice book = b->book, out = b->out, work = b->work;
     if (which == 1)
         return samulsto_elaborate(book.bytes, book.length, out.bytes, out.length, work.bytes, work.length);
+    if (which == 2)
+        return samulsto_elaborate_nested(book.bytes, book.length, out.bytes, out.length, work.bytes, work.length);
     struct samulsto_premise_answer got = samulsto_premise(book.bytes, book.length, work.bytes, work.length);
     struct samulsto_answer numbers = {got.code, got.holds, 0, 0};
     return numbers;
@@ -188,7 +190,7 @@ static void answer_case(uint32_t which, uint32_t times, const struct buffers *b,
         measure = quickest(which, b, times, &got);
     uint32_t strayed = differing(b->book.bytes - BEFORE, copy, BEFORE + b->book.length) +
                        differing(b->out.bytes - BEFORE, was, BEFORE) + differing(b->work.bytes - BEFORE, was, BEFORE);
-    uint32_t shown = to_show(b->out.bytes, was + BEFORE, b->out.length, which == 1 ? got.length : 0);
+    uint32_t shown = to_show(b->out.bytes, was + BEFORE, b->out.length, which != 0 ? got.length : 0);
     uint32_t answer[8] = {got.code, got.length, got.definitions, got.lifted, 0, strayed, measure, shown};
     answer[4] = not_zero(b->work.bytes, b->work.length);
     give(answer, sizeof answer);

@@ -30,9 +30,11 @@ extern "C" {
 #define SAMULSTO_DEFINITIONS 512   /* definitions of a book and of a result, at most */
 #define SAMULSTO_NAME_BYTES 255    /* bytes of a name, at most */
 #define SAMULSTO_LEVELS 64         /* levels of a body, at most */
+#define SAMULSTO_PASSES 16         /* passes of the nested mode, at most */
 
 /* Codes. They are tested in this order, so a smaller one hides a larger one; but 7 to 10 are tested at each lift, in
- * the order 9, 7, 8, 10, and the first lift with one of them decides. docs/CODES.md says what to do about each. */
+ * the order 9, 7, 8, 10, and the first lift with one of them decides; and 12, which the nested mode alone answers, is
+ * tested after 6 and before any lift. docs/CODES.md says what to do about each. */
 enum samulsto_code {
     SAMULSTO_DONE = 0,                 /* done */
     SAMULSTO_WORK_TOO_SHORT = 1,       /* the work area is under 65,536 bytes */
@@ -45,10 +47,11 @@ enum samulsto_code {
     SAMULSTO_NO_BINDER = 8,            /* a lifted format uses a name that nothing before it binds */
     SAMULSTO_LIFTED_NAME_TOO_LONG = 9, /* the name of a lifted format would be over 255 bytes */
     SAMULSTO_RESULT_TOO_LARGE = 10,    /* the result would be over 16,384 bytes or 512 definitions */
-    SAMULSTO_OUT_TOO_SHORT = 11        /* the output is shorter than the result */
+    SAMULSTO_OUT_TOO_SHORT = 11,       /* the output is shorter than the result */
+    SAMULSTO_MACRO_CALL_LEFT = 12      /* a known macro call is left after pass 16 */
 };
 
-/* What samulsto_elaborate answers. After a refusal the last three are 0. */
+/* What samulsto_elaborate (0 to 11) and samulsto_elaborate_nested (0 to 12) answer. After a refusal the last three are 0. */
 struct samulsto_answer {
     uint32_t code;        /* one of enum samulsto_code */
     uint32_t length;      /* bytes of the result: out[0] to out[length - 1] */
@@ -70,9 +73,20 @@ struct samulsto_premise_answer {
 struct samulsto_answer samulsto_elaborate(const uint8_t *book, size_t book_length, uint8_t *out, size_t out_length,
                                           uint8_t *work, size_t work_length);
 
-/* Whether, once macros are expanded, every format that is called in a format's body is defined in the book (constants
- * count too) and chains stand on Bytes and Tail alone. Where it does, putting the lifted definitions back gives the
- * expanded book again, and their parameters are exactly the ones that are needed.
+/* The same in nested mode, for macros that call macros. samulsto_elaborate expands macros in one pass, which leaves the
+ * macro calls of a macro's body and of an argument that is put in. Here the pass is run again on its result, with the
+ * same macros, until no call of a macro of the book stands where a pass reaches: at most 16 passes in all. A pass
+ * reaches all of a format's body but the arguments of a macro call; it does not reach parameter types.
+ *
+ * Code 6 is tested in every pass. 12: a call of a macro of the book is left after pass 16. Macros that call themselves,
+ * directly or through others, end with one of the two. Where one pass is enough, both calls answer the same.
+ * Output, counts, work area and book: as with samulsto_elaborate. */
+struct samulsto_answer samulsto_elaborate_nested(const uint8_t *book, size_t book_length, uint8_t *out,
+                                                 size_t out_length, uint8_t *work, size_t work_length);
+
+/* Whether, once macros are expanded as samulsto_elaborate does, every format that is called in a format's body is
+ * defined in the book (constants count too) and chains stand on Bytes and Tail alone. Where it does, putting the lifted
+ * definitions back gives the expanded book again, and their parameters are exactly the ones that are needed.
  * In every case work is all zero afterwards, however long it is, and the book is not written to. */
 struct samulsto_premise_answer samulsto_premise(const uint8_t *book, size_t book_length, uint8_t *work,
                                                 size_t work_length);

@@ -14,6 +14,7 @@ int main(void)
     /* One byte more than a book may have, so that a longer one is seen to be longer. */
     size_t length = fread(book, 1, sizeof book, stdin);
     struct samulsto_premise_answer premise = samulsto_premise(book, length, work, sizeof work);
+    /* For macros that call macros: samulsto_elaborate_nested, with the same words. */
     struct samulsto_answer answer = samulsto_elaborate(book, length, out, sizeof out, work, sizeof work);
 
     if (answer.code != SAMULSTO_DONE) {

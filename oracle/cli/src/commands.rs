@@ -4,8 +4,10 @@ use crate::{files, judges};
 use driver::answer::{answer, premise, Answer, Internal};
 use driver::cases::{self, short, sweep};
 use driver::expand::Mode;
+use driver::passes::{passes, End};
 use driver::{bench, notation, read, stream, write};
 use std::collections::BTreeMap;
+use std::fmt::Debug;
 use std::io::{self, BufReader, BufWriter, Read, Write};
 
 type Outcome = Result<(), String>;
@@ -13,19 +15,23 @@ type Outcome = Result<(), String>;
 const USAGE: &str = "\
 oracle answer [--nested]    case stream in, answers out
 oracle premise [--nested]   case stream in, premise answers and expanded books out
-oracle cases SEED COUNT     case stream out
+oracle cases [--nested] SEED COUNT
+                            case stream out; --nested: macros that call macros
 oracle short                case stream out: everything short
 oracle sweep                book in, case stream out: all its small damages
-oracle tally SEED COUNT     codes by kind of generated case
+oracle tally [--nested] SEED COUNT
+                            codes by kind of generated case
 oracle book write           text in, book out
 oracle book read            book in, text out
-oracle elaborate            book in, result out
-oracle listing              book in, listing out
+oracle elaborate [--nested] book in, result out
+oracle listing [--nested]   book in, listing out
 oracle bench N              case stream in, times out: best and mean of N repetitions
 oracle record SEED COUNT BOOKS DIRECTORY
                             the recorded list: the books of one directory, the worked
                             ones and generated ones, COUNT in all, into another
-oracle examples DIRECTORY   NAME.book and NAME.listing beside each NAME.layout
+oracle examples [--nested] DIRECTORY
+                            NAME.book and NAME.listing beside each NAME.layout, and
+                            NAME.nested, the listing in nested mode
 oracle judges               whose word each code is
 ";
 
@@ -37,18 +43,26 @@ pub fn run(arguments: &[String]) -> Outcome {
         ["premise"] => premises(Mode::Plain),
         ["premise", "--nested"] => premises(Mode::Nested),
         ["cases", seed, count] => generated(number(seed)?, number(count)?),
+        ["cases", "--nested", seed, count] => nested(number(seed)?, number(count)?),
         ["short"] => everything_short(),
         ["sweep"] => sweep(),
         ["tally", seed, count] => tally(number(seed)?, number(count)?),
+        ["tally", "--nested", seed, count] => tally_nested(number(seed)?, number(count)?),
         ["book", "write"] => book_write(),
         ["book", "read"] => book_read(),
-        ["elaborate"] => elaborate(),
-        ["listing"] => listing(),
+        ["elaborate"] => elaborate(Mode::Plain),
+        ["elaborate", "--nested"] => elaborate(Mode::Nested),
+        ["listing"] => listing(Mode::Plain),
+        ["listing", "--nested"] => listing(Mode::Nested),
         ["bench", repetitions] => bench(number(repetitions)?),
         ["record", seed, count, books, directory] => {
             files::record(number(seed)?, number(count)?, books, directory)
         }
-        ["examples", directory] => files::examples(directory),
+        ["examples", directory] => files::examples(directory, &[(Mode::Plain, "listing")]),
+        ["examples", "--nested", directory] => files::examples(
+            directory,
+            &[(Mode::Plain, "listing"), (Mode::Nested, "nested")],
+        ),
         ["judges"] => print(judges::JUDGES),
         ["help" | "--help" | "-h"] => print(USAGE),
         [] => Err("no subcommand; `oracle help` names them".to_string()),
@@ -129,6 +143,10 @@ fn generated(seed: u64, count: u64) -> Outcome {
     stream_out((0..count).map(|number| cases::case(seed, number).bytes))
 }
 
+fn nested(seed: u64, count: u64) -> Outcome {
+    stream_out((0..count).map(|number| cases::nested_case(seed, number).bytes))
+}
+
 fn everything_short() -> Outcome {
     stream_out(short::strings().chain(short::books()))
 }
@@ -146,21 +164,47 @@ fn stream_out(books: impl Iterator<Item = Vec<u8>>) -> Outcome {
 }
 
 fn tally(seed: u64, count: u64) -> Outcome {
-    let mut codes: BTreeMap<u8, u64> = BTreeMap::new();
-    let mut kinds: BTreeMap<cases::Kind, BTreeMap<u8, u64>> = BTreeMap::new();
+    let case = |number| cases::case(seed, number);
+    let cases = (0..count).map(case).map(|case| (case.kind, case.bytes));
+    print(&tallied(cases, Mode::Plain)?)
+}
+
+/// Of the cases for the nested mode: how many end with each pass, too.
+fn tally_nested(seed: u64, count: u64) -> Outcome {
+    let case = |number| cases::nested_case(seed, number);
+    let cases = (0..count).map(case).map(|case| (case.kind, case.bytes));
+    let mut ends: BTreeMap<(usize, End), u64> = BTreeMap::new();
     for number in 0..count {
-        let case = cases::case(seed, number);
-        let code = answer(&case.bytes, Mode::Plain)
-            .map_err(|error| disagreement(number, &case.bytes, &error))?
+        if let Some(end) = passes(&case(number).bytes)? {
+            *ends.entry(end).or_default() += 1;
+        }
+    }
+    let mut text = tallied(cases, Mode::Nested)?;
+    for ((pass, end), count) in ends {
+        text.push_str(&format!("pass {pass} {end:?}:{count}\n"));
+    }
+    print(&text)
+}
+
+/// Codes of all cases, then by kind.
+fn tallied<K: Ord + Debug>(
+    cases: impl Iterator<Item = (K, Vec<u8>)>,
+    mode: Mode,
+) -> Result<String, String> {
+    let mut codes: BTreeMap<u8, u64> = BTreeMap::new();
+    let mut kinds: BTreeMap<K, BTreeMap<u8, u64>> = BTreeMap::new();
+    for (number, (kind, bytes)) in (0..).zip(cases) {
+        let code = answer(&bytes, mode)
+            .map_err(|error| disagreement(number, &bytes, &error))?
             .code();
         *codes.entry(code).or_default() += 1;
-        *kinds.entry(case.kind).or_default().entry(code).or_default() += 1;
+        *kinds.entry(kind).or_default().entry(code).or_default() += 1;
     }
     let mut text = format!("all {}\n", counts(&codes));
     for (kind, codes) in kinds {
         text.push_str(&format!("{kind:?} {}\n", counts(&codes)));
     }
-    print(&text)
+    Ok(text)
 }
 
 fn counts(codes: &BTreeMap<u8, u64>) -> String {
@@ -171,21 +215,21 @@ fn counts(codes: &BTreeMap<u8, u64>) -> String {
     parts.join(" ")
 }
 
-fn listing() -> Outcome {
-    print(&driver::listing::listing(&one_answer()?)?)
+fn listing(mode: Mode) -> Outcome {
+    print(&driver::listing::listing(&one_answer(mode)?)?)
 }
 
-fn elaborate() -> Outcome {
-    match one_answer()? {
+fn elaborate(mode: Mode) -> Outcome {
+    match one_answer(mode)? {
         Answer::Done(done) => put(&done.book),
         Answer::Refused(code) => Err(format!("refused {code}")),
     }
 }
 
 /// The answer to the one book on standard input.
-fn one_answer() -> Result<Answer, String> {
+fn one_answer(mode: Mode) -> Result<Answer, String> {
     let book = stdin_whole()?;
-    answer(&book, Mode::Plain).map_err(|error| disagreement(0, &book, &error))
+    answer(&book, mode).map_err(|error| disagreement(0, &book, &error))
 }
 
 fn book_write() -> Outcome {

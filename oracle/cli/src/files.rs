@@ -31,8 +31,9 @@ pub fn record(seed: u64, count: u64, books: &str, directory: &str) -> Result<(),
     )
 }
 
-/// Writes NAME.book and NAME.listing beside each NAME.layout.
-pub fn examples(directory: &str) -> Result<(), String> {
+/// Writes NAME.book beside each NAME.layout, and its listing in each mode under
+/// an ending of its own.
+pub fn examples(directory: &str, listings: &[(Mode, &str)]) -> Result<(), String> {
     for path in with_ending(Path::new(directory), "layout")? {
         let shown = path.display();
         let fault = |error: String| format!("{shown}: {error}");
@@ -40,11 +41,13 @@ pub fn examples(directory: &str) -> Result<(), String> {
         let book = notation::parse(&text)
             .and_then(|book| write(&book))
             .map_err(fault)?;
-        let listed = answer(&book, Mode::Plain)
-            .and_then(|answer| listing(&answer))
-            .map_err(fault)?;
         save(&path.with_extension("book"), &book)?;
-        save(&path.with_extension("listing"), listed.as_bytes())?;
+        for (mode, ending) in listings {
+            let listed = answer(&book, *mode)
+                .and_then(|answer| listing(&answer))
+                .map_err(fault)?;
+            save(&path.with_extension(ending), listed.as_bytes())?;
+        }
     }
     Ok(())
 }

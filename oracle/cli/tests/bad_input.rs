@@ -49,6 +49,9 @@ fn words() {
     refuses(&[], b"", "no subcommand");
     refuses(&["nonsense"], b"", "`nonsense`");
     refuses(&["answer", "--netsed"], b"", "no subcommand");
+    refuses(&["listing", "--netsed"], b"", "no subcommand");
+    refuses(&["sweep", "--nested"], b"", "no subcommand");
+    refuses(&["cases", "--nested", "x", "1"], b"", "`x` is no number");
     refuses(&["answer", "two\nlines"], b"", "no subcommand");
     refuses(&["cases"], b"", "no subcommand");
     refuses(&["cases", "x", "1"], b"", "`x` is no number");
@@ -163,6 +166,23 @@ fn any_bytes_get_an_answer() {
 }
 
 #[test]
+fn nested_mode() {
+    let text = "macro f!() = vec<g!()> macro g!() = enum format m = struct { a: f!() }";
+    let book = succeeds(&["book", "write"], text.as_bytes());
+    assert_eq!(succeeds(&["listing"], &book), b"ok 1 0\nformat m 0\n");
+    let listed = "ok 3 2\nformat m 0\nlifted m_a_item 0\nlifted m_a 0\n";
+    assert_eq!(succeeds(&["listing", "--nested"], &book), listed.as_bytes());
+    let result = succeeds(&["elaborate", "--nested"], &book);
+    assert_eq!(succeeds(&["elaborate"], &result), result);
+    let back = succeeds(
+        &["book", "write"],
+        b"macro f!() = f!() format m = struct { a: f!() }",
+    );
+    refuses(&["elaborate", "--nested"], &back, "refused 12");
+    assert_eq!(succeeds(&["listing", "--nested"], &back), b"refused 12\n");
+}
+
+#[test]
 fn files() {
     refuses(
         &["record", "1", "10", "no-such-directory", "."],
@@ -195,6 +215,9 @@ fn one_seed_one_stream() {
     assert_ne!(succeeds(&["cases", "6", "400"], b""), once);
     let answers = succeeds(&["answer"], &once);
     assert_eq!(succeeds(&["answer"], &once), answers);
+    let nested = succeeds(&["cases", "--nested", "5", "400"], b"");
+    assert_eq!(succeeds(&["cases", "--nested", "5", "400"], b""), nested);
+    assert_ne!(nested, once);
 }
 
 #[test]

@@ -7,6 +7,25 @@ use std::process::{Child, ChildStdin, ChildStdout, Command, Stdio};
 pub enum Call {
     Premise,
     Elaborate,
+    /// `samulsto_elaborate_nested`.
+    Nested,
+}
+
+impl Call {
+    /// All of them, in the order of tables.
+    pub const ALL: [Call; 3] = [Call::Elaborate, Call::Nested, Call::Premise];
+
+    pub fn word(self) -> &'static str {
+        match self {
+            Call::Premise => "premise",
+            Call::Elaborate => "elaborate",
+            Call::Nested => "nested",
+        }
+    }
+
+    pub fn of_word(word: &str) -> Option<Call> {
+        Call::ALL.into_iter().find(|call| call.word() == word)
+    }
 }
 
 /// A call with buffers of these lengths, full of the noise of that number.
@@ -146,6 +165,7 @@ fn encoded(request: &Request) -> Vec<u8> {
     let call = match request.call {
         Call::Premise => 0,
         Call::Elaborate => 1,
+        Call::Nested => 2,
     };
     let times = match request.times {
         Times::ForStack => 0,

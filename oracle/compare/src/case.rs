@@ -1,4 +1,4 @@
-//! A case, what document 01 says of it, and whether the callee says the same.
+//! A case, what documents 01 and 02 say of it, and whether the callee says the same.
 
 use crate::callee::{Call, Callee, Reply, Request, Times};
 use driver::answer::{answer, premise, Answer, Internal, Premise};
@@ -91,6 +91,7 @@ pub fn expected(case: &Case) -> Result<Expected, Internal> {
     match case.call {
         Call::Premise => Ok(of_premise(case, premise(&case.book, Mode::Plain)?)),
         Call::Elaborate => Ok(of_answer(case, answer(&case.book, Mode::Plain)?)),
+        Call::Nested => Ok(of_answer(case, answer(&case.book, Mode::Nested)?)),
     }
 }
 

@@ -11,8 +11,8 @@ use std::process::ExitCode;
 const STACK_BYTES: usize = 256 << 20;
 
 const USAGE: &str = "\
-compare answers [--only premise|elaborate] COUNT SEED PROGRAM WORDS..
-compare stack [--only premise|elaborate] COUNT SEED PROGRAM WORDS..
+compare answers [--only elaborate|nested|premise] COUNT SEED PROGRAM WORDS..
+compare stack [--only elaborate|nested|premise] COUNT SEED PROGRAM WORDS..
 compare times PROGRAM WORDS..";
 
 fn main() -> ExitCode {
@@ -40,9 +40,11 @@ fn main() -> ExitCode {
 fn compared(words: Vec<String>) -> Result<String, String> {
     let words: Vec<&str> = words.iter().map(String::as_str).collect();
     let (calls, rest) = match words.get(1..) {
-        Some(["--only", "premise", rest @ ..]) => (vec![Call::Premise], rest),
-        Some(["--only", "elaborate", rest @ ..]) => (vec![Call::Elaborate], rest),
-        Some(rest) => (vec![Call::Elaborate, Call::Premise], rest),
+        Some(["--only", word, rest @ ..]) => match Call::of_word(word) {
+            Some(call) => (vec![call], rest),
+            None => return Err(format!("`{word}` is no call\n{USAGE}")),
+        },
+        Some(rest) => (Call::ALL.to_vec(), rest),
         None => return Err(USAGE.to_string()),
     };
     match (words[0], rest) {

@@ -1,5 +1,6 @@
 //! The books of a comparison, in parts.
 
+use crate::callee::Call;
 use crate::case::{drawn, Sizes, OUTS, WORKS};
 use driver::cases::{self, short, sweep, Rng};
 use driver::stories;
@@ -13,18 +14,20 @@ pub struct Part {
     pub count: u64,
 }
 
-/// All parts: those that are always the same, then so many generated books of a seed.
-pub fn parts(seed: u64, count: u64) -> Vec<Part> {
+/// All parts: those that are always the same, then so many generated books of a seed. Where the nested mode is called,
+/// the first parts have its books too, and as many are generated for it.
+pub fn parts(calls: &[Call], seed: u64, count: u64) -> Vec<Part> {
+    let nested = calls.contains(&Call::Nested);
     let generated = (0..count).map(move |number| cases::case(seed, number).bytes);
-    let swept: Vec<Vec<u8>> = told()
+    let swept: Vec<Vec<u8>> = told(nested)
         .into_iter()
         .filter(|book| book.len() <= SWEPT_BYTES)
         .collect();
     let damages = swept
         .into_iter()
         .flat_map(|book| sweep::sweep(&book).collect::<Vec<_>>());
-    vec![
-        part("limits", Box::new(around_the_limits())),
+    let mut parts = vec![
+        part("limits", Box::new(around_the_limits(nested))),
         with_sizes("strings", seed, short::strings()),
         with_sizes("small books", seed, short::books()),
         with_sizes("damages", seed, damages),
@@ -33,7 +36,16 @@ pub fn parts(seed: u64, count: u64) -> Vec<Part> {
             cases: sized(seed, generated),
             name: "generated",
         },
-    ]
+    ];
+    if nested {
+        let macros = (0..count).map(move |number| cases::nested_case(seed, number).bytes);
+        parts.push(Part {
+            count,
+            cases: sized(seed, macros),
+            name: "macros in macros",
+        });
+    }
+    parts
 }
 
 fn part(name: &'static str, cases: Box<dyn Iterator<Item = (Vec<u8>, Sizes)>>) -> Part {
@@ -62,9 +74,8 @@ fn sized(
 }
 
 /// Every limit from both sides and the books with a story, with buffers of all lengths around the limits.
-fn around_the_limits() -> impl Iterator<Item = (Vec<u8>, Sizes)> {
-    let limits = cases::both_sides().into_iter().map(|side| side.bytes);
-    let books: Vec<Vec<u8>> = limits.chain(told()).collect();
+fn around_the_limits(nested: bool) -> impl Iterator<Item = (Vec<u8>, Sizes)> {
+    let books: Vec<Vec<u8>> = limits(nested).into_iter().chain(told(nested)).collect();
     books.into_iter().enumerate().flat_map(|(number, book)| {
         let noise = number as u32;
         let works = WORKS.into_iter();
@@ -76,7 +87,20 @@ fn around_the_limits() -> impl Iterator<Item = (Vec<u8>, Sizes)> {
     })
 }
 
-fn told() -> Vec<Vec<u8>> {
-    let told = stories::stories();
+/// Every limit from both sides, with those of the nested mode or without.
+pub fn limits(nested: bool) -> Vec<Vec<u8>> {
+    let mut sides = cases::both_sides();
+    if nested {
+        sides.extend(cases::nested_sides());
+    }
+    sides.into_iter().map(|side| side.bytes).collect()
+}
+
+/// The books with a story, likewise.
+pub fn told(nested: bool) -> Vec<Vec<u8>> {
+    let mut told = stories::stories();
+    if nested {
+        told.extend(stories::nested_stories());
+    }
     told.into_iter().map(|story| story.bytes).collect()
 }

@@ -19,7 +19,7 @@ pub fn run(
 ) -> Result<String, String> {
     let mut tally = Tally::default();
     let start = Instant::now();
-    for part in parts(seed, count) {
+    for part in parts(calls, seed, count) {
         tally.begin(part.name);
         say(&format!("{}: {} books", part.name, part.count));
         let mut last = Instant::now();
@@ -32,7 +32,7 @@ pub fn run(
             for call in calls {
                 case.call = *call;
                 match judge(callee, &case) {
-                    Ok(Ok(agreed)) => tally.count(&case, &agreed),
+                    Ok(Ok(agreed)) => tally.count(&case, &agreed)?,
                     Ok(Err(difference)) => {
                         let place = format!("{} book {number}", part.name);
                         return Err(report(callee, &place, case, difference, say));

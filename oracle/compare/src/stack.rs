@@ -2,10 +2,13 @@
 
 use crate::callee::{Call, Callee, Request, Times};
 use crate::case::WORK_BYTES;
-use driver::cases::{both_sides, case};
+use crate::parts::{limits, told};
+use driver::cases::{case, nested_case};
 use driver::limits::BOOK_BYTES;
-use driver::stories::stories;
 use std::fmt::Write;
+
+/// 0 to 12.
+const CODES: usize = 13;
 
 /// A table in Markdown: bytes of stack by code, the deepest book of each.
 pub fn stack(
@@ -18,7 +21,8 @@ pub fn stack(
     for call in calls {
         let _ = writeln!(
             text,
-            "| {call:?}, code | books | least stack | most stack |\n|---|---|---|---|"
+            "| {}, code | books | least stack | most stack |\n|---|---|---|---|",
+            call.word()
         );
         for (code, [books, least, most]) in used(callee, *call, seed, count)?.iter().enumerate() {
             if *books > 0 {
@@ -36,12 +40,14 @@ fn used(
     call: Call,
     seed: u64,
     count: u64,
-) -> Result<[[u32; 3]; 12], String> {
-    let limits = both_sides().into_iter().map(|side| side.bytes);
-    let told = stories().into_iter().map(|story| story.bytes);
+) -> Result<[[u32; 3]; CODES], String> {
+    let nested = call == Call::Nested;
+    let told = limits(nested).into_iter().chain(told(nested));
     let generated = (0..count).map(|number| case(seed, number).bytes);
-    let mut codes = [[0, u32::MAX, 0]; 12];
-    for book in limits.chain(told).chain(generated) {
+    let for_nested = if nested { count } else { 0 };
+    let macros = (0..for_nested).map(|number| nested_case(seed, number).bytes);
+    let mut codes = [[0, u32::MAX, 0]; CODES];
+    for book in told.chain(generated).chain(macros) {
         let reply = callee.call(&Request {
             call,
             book: &book,

@@ -2,6 +2,9 @@
 
 use crate::callee::Call;
 use crate::case::{Case, Expected, WORK_BYTES};
+use driver::answer::Internal;
+use driver::limits::PASSES;
+use driver::passes::{passes, End};
 use std::cmp::Ordering;
 use std::collections::BTreeMap;
 use std::fmt::Write;
@@ -11,9 +14,18 @@ pub struct Tally {
     parts: Vec<&'static str>,
     /// By call, code and, for the premise, its answer; a count per part.
     rows: BTreeMap<(Call, u32, u32), Vec<u64>>,
+    /// By the nested mode's last pass and how it ended.
+    ends: BTreeMap<(usize, End), u64>,
     works: [u64; 3],
     outs: [u64; 3],
 }
+
+const ENDS: [(End, &str); 4] = [
+    (End::Settled, "no known call left"),
+    (End::Grown, "6"),
+    (End::LongChain, "12, a chain"),
+    (End::Cycle, "12, a cycle"),
+];
 
 impl Tally {
     /// Cases counted from here on belong to this part.
@@ -21,10 +33,10 @@ impl Tally {
         self.parts.push(part);
     }
 
-    pub fn count(&mut self, case: &Case, agreed: &Expected) {
+    pub fn count(&mut self, case: &Case, agreed: &Expected) -> Result<(), Internal> {
         let holds = match case.call {
             Call::Premise => agreed.numbers[1],
-            Call::Elaborate => 0,
+            Call::Elaborate | Call::Nested => 0,
         };
         let row = self
             .rows
@@ -33,13 +45,19 @@ impl Tally {
         row.resize(self.parts.len(), 0);
         row[self.parts.len() - 1] += 1;
         self.works[place(case.sizes.work.cmp(&WORK_BYTES))] += 1;
-        if case.call == Call::Elaborate && [0, 11].contains(&agreed.numbers[0]) {
+        if case.call != Call::Premise && [0, 11].contains(&agreed.numbers[0]) {
             let result = match agreed.numbers[0] {
                 0 => agreed.out_bytes.cmp(&agreed.out.len()),
                 _ => Ordering::Less,
             };
             self.outs[place(result)] += 1;
         }
+        if case.call == Call::Nested && case.sizes.work >= WORK_BYTES {
+            if let Some(end) = passes(&case.book)? {
+                *self.ends.entry(end).or_default() += 1;
+            }
+        }
+        Ok(())
     }
 
     pub fn calls(&self) -> u64 {
@@ -49,10 +67,13 @@ impl Tally {
     /// In Markdown.
     pub fn tables(&self) -> String {
         let mut text = String::new();
-        for call in [Call::Elaborate, Call::Premise] {
+        for call in Call::ALL {
             if self.rows.keys().any(|key| key.0 == call) {
                 self.table(call, &mut text);
             }
+        }
+        if !self.ends.is_empty() {
+            self.passes(&mut text);
         }
         let [less, equal, more] = self.works;
         let _ = writeln!(
@@ -70,11 +91,8 @@ impl Tally {
     }
 
     fn table(&self, call: Call, text: &mut String) {
-        let word = match call {
-            Call::Elaborate => "elaborate",
-            Call::Premise => "premise",
-        };
-        let _ = writeln!(text, "| {word} | {} | all |", self.parts.join(" | "));
+        let parts = self.parts.join(" | ");
+        let _ = writeln!(text, "| {} | {parts} | all |", call.word());
         let _ = writeln!(text, "|---|{}", "---|".repeat(self.parts.len() + 1));
         for ((of, code, holds), counts) in &self.rows {
             if *of != call {
@@ -90,6 +108,19 @@ impl Tally {
             let cells: Vec<String> = cells.collect();
             let all: u64 = counts.iter().sum();
             let _ = writeln!(text, "| {name} | {} | {all} |", cells.join(" | "));
+        }
+        text.push('\n');
+    }
+
+    /// How many calls of the nested mode ended with each pass, and how.
+    fn passes(&self, text: &mut String) {
+        let heads = ENDS.map(|(_, head)| head);
+        let _ = writeln!(text, "| passes | {} |", heads.join(" | "));
+        let _ = writeln!(text, "|---|{}", "---|".repeat(ENDS.len()));
+        for pass in 1..=PASSES {
+            let cell = |end| self.ends.get(&(pass, end)).unwrap_or(&0).to_string();
+            let cells = ENDS.map(|(end, _)| cell(end));
+            let _ = writeln!(text, "| {pass} | {} |", cells.join(" | "));
         }
         text.push('\n');
     }

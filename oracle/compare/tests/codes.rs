@@ -42,10 +42,13 @@ fn buffers(code: u32) -> Sizes {
 fn each_book_has_its_code() {
     let books = books();
     let codes: Vec<u32> = books.keys().copied().collect();
-    assert_eq!(codes, (1..=11).collect::<Vec<u32>>());
+    assert_eq!(codes, (1..=12).collect::<Vec<u32>>());
     for (code, book) in books {
         let case = Case {
-            call: Call::Elaborate,
+            call: match code {
+                12 => Call::Nested,
+                _ => Call::Elaborate,
+            },
             book,
             sizes: buffers(code),
         };

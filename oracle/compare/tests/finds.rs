@@ -3,7 +3,9 @@
 use compare::callee::{Call, Callee, Reply, Request};
 use compare::case::{expected, judge, Case, Out, Sizes, PLAIN};
 use compare::shrink::shrink;
-use driver::cases::{case, Rng};
+use compare::tally::Tally;
+use driver::cases::{case, nested_case, Rng};
+use driver::passes::{passes, End};
 
 /// Answers as the oracle does, then does what is wrong with it.
 struct Fake(fn(&Request, &mut Reply));
@@ -35,7 +37,10 @@ impl Callee for Fake {
 fn cases(call: Call) -> impl Iterator<Item = Case> {
     (0..1500).map(move |number| Case {
         call,
-        book: case(3, number).bytes,
+        book: match call {
+            Call::Nested => nested_case(3, number).bytes,
+            Call::Elaborate | Call::Premise => case(3, number).bytes,
+        },
         sizes: compare::case::drawn(&mut Rng::of_case(4, number)),
     })
 }
@@ -53,7 +58,7 @@ fn found(call: Call, fault: fn(&Request, &mut Reply)) -> Case {
 
 #[test]
 fn an_honest_callee_passes() {
-    for call in [Call::Premise, Call::Elaborate] {
+    for call in Call::ALL {
         for case in cases(call) {
             assert!(judge(&mut Fake(|_, _| {}), &case).unwrap().is_ok());
         }
@@ -130,4 +135,69 @@ fn a_wrong_yes_shrinks_to_a_call_of_nothing() {
         }
     });
     assert!(case.book.len() <= 20, "{} bytes", case.book.len());
+}
+
+#[test]
+fn a_nested_mode_that_is_the_plain_one_is_noticed() {
+    let case = found(Call::Nested, |request, reply| {
+        let plain = Case {
+            call: Call::Elaborate,
+            book: request.book.to_vec(),
+            sizes: PLAIN,
+        };
+        let plain = expected(&plain).unwrap();
+        if request.work >= 65_536 && reply.numbers[0] != 11 {
+            (reply.numbers, reply.out) = (plain.numbers, plain.out);
+        }
+    });
+    // Two macros and a format.
+    assert!(case.book.len() <= 60, "{} bytes", case.book.len());
+}
+
+#[test]
+fn a_12_that_is_a_6_shrinks_to_a_bare_chain() {
+    let case = found(Call::Nested, |_, reply| {
+        if reply.numbers[0] == 12 {
+            reply.numbers[0] = 6;
+        }
+    });
+    assert_eq!(case.sizes, PLAIN);
+    assert!(case.book.len() <= 200, "{} bytes", case.book.len());
+}
+
+#[test]
+fn a_pass_too_few_is_noticed() {
+    let case = found(Call::Nested, |request, reply| {
+        let last = passes(request.book) == Ok(Some((16, End::Settled)));
+        if last && request.work >= 65_536 {
+            (reply.numbers, reply.out) = ([12, 0, 0, 0], Vec::new());
+        }
+    });
+    assert_eq!(passes(&case.book), Ok(Some((16, End::Settled))));
+}
+
+#[test]
+fn passes_are_counted_in_a_table() {
+    let mut tally = Tally::default();
+    tally.begin("macros in macros");
+    for case in cases(Call::Nested) {
+        let agreed = expected(&case).unwrap();
+        tally.count(&case, &agreed).unwrap();
+    }
+    let tables = tally.tables();
+    let (codes, passes) = tables.split_once("\n\n").expect("two tables");
+    assert!(codes.starts_with("| nested | macros in macros | all |\n"));
+    assert!(codes.contains("\n| 12 | "));
+    let rows: Vec<&str> = passes.lines().collect();
+    assert_eq!(
+        rows[0],
+        "| passes | no known call left | 6 | 12, a chain | 12, a cycle |"
+    );
+    for pass in 1..=16 {
+        let cells: Vec<&str> = rows[1 + pass].split(" | ").collect();
+        assert_eq!(cells[0], format!("| {pass}"));
+        assert_ne!(cells[1], "0", "pass {pass}");
+        assert_eq!(cells[3] == "0", pass < 16, "a chain in pass {pass}");
+        assert_eq!(cells[4] == "0 |", pass < 16, "a cycle in pass {pass}");
+    }
 }

@@ -28,32 +28,45 @@ const CARRIED_OUT: usize = 1 << 20;
 
 type Macros<'d, 'a> = HashMap<&'d str, (&'d [String], &'d Combinator<'a>)>;
 
+/// What became of a list, and the pass in which it was decided.
+pub struct Course<'a> {
+    pub passes: usize,
+    pub outcome: Result<Vec<Definition<'a>>, Stop>,
+}
+
 /// Expands the list, macros removed, or answers 6 (or 12, in nested mode).
 pub fn expand<'a>(
     definitions: Vec<Definition<'a>>,
     texts: &Texts,
     mode: Mode,
 ) -> Result<Vec<Definition<'a>>, Stop> {
+    course(definitions, texts, mode).outcome
+}
+
+/// The same, with the count of passes.
+pub fn course<'a>(definitions: Vec<Definition<'a>>, texts: &Texts, mode: Mode) -> Course<'a> {
     let library: Vec<Definition> = definitions
         .iter()
         .filter(|definition| matches!(definition, Definition::MacroDefn { .. }))
         .cloned()
         .collect();
     let macros = macros(&library);
-    let mut list = pass(definitions, &macros, texts)?;
-    if mode == Mode::Plain {
-        return Ok(list);
-    }
-    for _ in 1..PASSES {
-        if !has_known_call(&list, &macros) {
-            return Ok(list);
+    let ended = |passes, outcome| Course { passes, outcome };
+    let mut outcome = pass(definitions, &macros, texts);
+    for passes in 1..PASSES {
+        match outcome {
+            Ok(mut list) if mode == Mode::Nested && has_known_call(&list, &macros) => {
+                list.splice(0..0, library.iter().cloned());
+                outcome = pass(list, &macros, texts);
+            }
+            settled => return ended(passes, settled),
         }
-        list.splice(0..0, library.iter().cloned());
-        list = pass(list, &macros, texts)?;
     }
-    match has_known_call(&list, &macros) {
-        true => Err(Stop::Refused(code::MACRO_CALL_LEFT)),
-        false => Ok(list),
+    match outcome {
+        Ok(list) if has_known_call(&list, &macros) => {
+            ended(PASSES, Err(Stop::Refused(code::MACRO_CALL_LEFT)))
+        }
+        settled => ended(PASSES, settled),
     }
 }
 

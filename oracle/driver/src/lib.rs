@@ -12,6 +12,7 @@ pub mod limits;
 pub mod listing;
 pub mod measure;
 pub mod notation;
+pub mod passes;
 pub mod reach;
 pub mod read;
 pub mod record;
@@ -19,5 +20,4 @@ pub mod stop;
 pub mod stories;
 pub mod stream;
 pub mod tree;
-
 pub mod write;

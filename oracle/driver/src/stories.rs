@@ -4,7 +4,7 @@
 use crate::answer::Answer;
 use crate::build::*;
 use crate::limits::code;
-use crate::tree::{Book, Combinator, Inner};
+use crate::tree::{Book, Combinator, Definition, Inner};
 use crate::write::write;
 
 pub struct Story {
@@ -224,6 +224,148 @@ pub fn stories() -> Vec<Story> {
     ]
 }
 
+/// Books of the nested mode (document 02 b); `code` is its answer.
+pub fn nested_stories() -> Vec<Story> {
+    let f = || macro_call("f", vec![]);
+    let g = || macro_call("g", vec![]);
+    let macro_f = |inner: Inner| macro_definition("f", &[], inner);
+    let s = |inner: Inner| structure(vec![field("s", structure(vec![field("x", inner)]))]);
+    let m = |of: Vec<Definition>, inner: Inner| {
+        book(of.into_iter().chain([format("m", inner)]).collect())
+    };
+    let long = "x".repeat(254);
+    let twice = |name: &str| {
+        let one = || macro_call(name, vec![]);
+        structure(vec![field("l", one()), field("r", one())])
+    };
+    vec![
+        refused(
+            "the smallest 12",
+            book(vec![
+                format("", macro_call("", vec![])),
+                macro_definition("", &[], macro_call("", vec![])),
+            ]),
+            12,
+        ),
+        refused(
+            "two passes",
+            m(
+                vec![macro_f(g()), macro_definition("g", &[], nothing())],
+                f(),
+            ),
+            0,
+        ),
+        lifts(
+            "a macro that calls a macro, lifted",
+            m(
+                vec![
+                    macro_f(structure(vec![field("x", g())])),
+                    macro_definition("g", &[], enumeration()),
+                ],
+                vec(f()),
+            ),
+            &["m_item_x", "m_item"],
+        ),
+        refused(
+            "a cycle of one in a vec",
+            m(vec![macro_f(vec(f()))], f()),
+            12,
+        ),
+        refused(
+            "a cycle of three",
+            m(
+                vec![
+                    macro_f(g()),
+                    macro_definition("g", &[], macro_call("h", vec![])),
+                    macro_definition("h", &[], f()),
+                ],
+                f(),
+            ),
+            12,
+        ),
+        refused("6 before 12", m(vec![macro_f(twice("f"))], f()), 6),
+        refused(
+            "an unknown macro's arguments at a lift",
+            m(vec![macro_f(f())], s(macro_call("zz", vec![f()]))),
+            7,
+        ),
+        refused(
+            "12 before 7 at a lift that comes first",
+            book(vec![
+                format("m", s(macro_call("zz", vec![]))),
+                macro_f(f()),
+                format("r", f()),
+            ]),
+            12,
+        ),
+        refused(
+            "12 before 8 and 9",
+            book(vec![
+                format(&long, s(bytes(&["n"]))),
+                macro_f(f()),
+                format("r", f()),
+            ]),
+            12,
+        ),
+        refused(
+            "known calls in the arguments of an unknown macro",
+            m(vec![macro_f(f())], macro_call("zz", vec![f(), vec(f())])),
+            0,
+        ),
+        refused(
+            "an argument that is dropped",
+            m(
+                vec![macro_definition("g", &["a"], nothing()), macro_f(f())],
+                macro_call("g", vec![f()]),
+            ),
+            0,
+        ),
+        refused(
+            "a cycle in a parameter's type",
+            book(vec![
+                macro_f(f()),
+                format_with("m", vec![("n", f())], nothing()),
+            ]),
+            0,
+        ),
+        refused(
+            "a cycle in a chain that is lost",
+            m(
+                vec![macro_definition(
+                    "f",
+                    &[],
+                    Combinator::chained(nothing(), f().into()),
+                )],
+                f(),
+            ),
+            0,
+        ),
+        refused(
+            "the last definition counts in the second pass too",
+            m(
+                vec![
+                    macro_f(f()),
+                    macro_definition("g", &[], f()),
+                    macro_f(nothing()),
+                ],
+                g(),
+            ),
+            0,
+        ),
+        refused(
+            "an argument that comes back",
+            m(
+                vec![
+                    macro_definition("g", &["a"], call("a", &[])),
+                    macro_f(macro_call("g", vec![f()])),
+                ],
+                f(),
+            ),
+            12,
+        ),
+    ]
+}
+
 /// The names that an answer lifted, in order.
 pub fn lifted_names(answer: &Answer) -> Vec<String> {
     let Answer::Done(done) = answer else {
@@ -236,7 +378,7 @@ pub fn lifted_names(answer: &Answer) -> Vec<String> {
     book.definitions[first..]
         .iter()
         .filter_map(|definition| match definition {
-            crate::tree::Definition::Format { name, .. } => Some(name.clone()),
+            Definition::Format { name, .. } => Some(name.clone()),
             _ => None,
         })
         .collect()

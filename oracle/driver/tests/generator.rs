@@ -2,8 +2,9 @@
 //! readings.
 
 use driver::answer::{answer, Answer};
-use driver::cases::{case, short, KINDS};
+use driver::cases::{case, nested_case, short, KINDS, NESTED_KINDS};
 use driver::expand::Mode;
+use driver::passes::{passes, End};
 use std::collections::BTreeMap;
 
 fn code(bytes: &[u8]) -> u8 {
@@ -19,6 +20,9 @@ fn one_seed_one_stream() {
     }
     let differ = (0..100).filter(|n| case(5, *n).bytes != case(6, *n).bytes);
     assert!(differ.count() > 90);
+    for number in 0..500 {
+        assert_eq!(nested_case(5, number).bytes, nested_case(5, number).bytes);
+    }
 }
 
 #[test]
@@ -36,6 +40,44 @@ fn each_code_has_one_case_in_a_hundred() {
 #[test]
 fn shares_are_of_a_thousand() {
     assert_eq!(KINDS.iter().map(|(_, share)| share).sum::<usize>(), 1000);
+    let nested = NESTED_KINDS.iter().map(|(_, share)| share);
+    assert_eq!(nested.sum::<usize>(), 1000);
+}
+
+/// Each count of passes, growth in a later pass and both ways to 12 have one
+/// nested case in a hundred or so, and each code comes after a second pass.
+#[test]
+fn nested_cases_need_every_count_of_passes() {
+    let mut ends: BTreeMap<(usize, End), usize> = BTreeMap::new();
+    let mut later: BTreeMap<u8, usize> = BTreeMap::new();
+    for number in 0..10_000 {
+        let bytes = nested_case(1, number).bytes;
+        let code = answer(&bytes, Mode::Nested)
+            .expect("both readings agree")
+            .code();
+        if let Some((pass, end)) = passes(&bytes).expect("both readings agree") {
+            *ends.entry((pass, end)).or_default() += 1;
+            if pass > 1 {
+                *later.entry(code).or_default() += 1;
+            }
+        }
+    }
+    let ended = |pass, end| ends.get(&(pass, end)).copied().unwrap_or(0);
+    for pass in 1..=16 {
+        assert!(ended(pass, End::Settled) >= 100, "pass {pass}: {ends:?}");
+        assert!(
+            pass == 1 || ended(pass, End::Grown) >= 8,
+            "6 in pass {pass}: {ends:?}"
+        );
+    }
+    assert!(ended(16, End::LongChain) >= 500, "{ends:?}");
+    assert!(ended(16, End::Cycle) >= 1000, "{ends:?}");
+    for code in [0, 6, 7, 8, 9, 10, 12] {
+        assert!(
+            later.get(&code).is_some_and(|count| *count >= 80),
+            "{later:?}"
+        );
+    }
 }
 
 #[test]

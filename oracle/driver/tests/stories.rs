@@ -1,12 +1,13 @@
 //! The worked books, the settled readings and the limits from both sides.
 
 use driver::answer::{answer, premise, Answer, Premise};
-use driver::cases::both_sides;
+use driver::cases::{both_sides, nested_sides};
 use driver::expand::Mode;
 use driver::listing::listing;
 use driver::notation;
+use driver::passes::{passes, End};
 use driver::read::read;
-use driver::stories::{binder_search, lifted_names, six_uses, stories};
+use driver::stories::{binder_search, lifted_names, nested_stories, six_uses, stories};
 use driver::tree::{Book, Definition, Inner};
 use driver::write::write;
 use std::fs;
@@ -14,6 +15,10 @@ use std::path::PathBuf;
 
 fn plain(bytes: &[u8]) -> Answer {
     answer(bytes, Mode::Plain).expect("both readings agree")
+}
+
+fn nested(bytes: &[u8]) -> Answer {
+    answer(bytes, Mode::Nested).expect("both readings agree")
 }
 
 fn parsed(text: &str) -> Vec<u8> {
@@ -43,9 +48,23 @@ fn stories_answer_as_they_say() {
 }
 
 #[test]
+fn nested_stories_answer_as_they_say() {
+    for one in nested_stories() {
+        let answer = nested(&one.bytes);
+        assert_eq!(answer.code(), one.code, "{}", one.name);
+        if let Some(lifted) = one.lifted {
+            assert_eq!(lifted_names(&answer), lifted, "{}", one.name);
+        }
+    }
+}
+
+#[test]
 fn limits_hold_from_both_sides() {
     for side in both_sides() {
         assert_eq!(plain(&side.bytes).code(), side.code, "{}", side.name);
+    }
+    for side in nested_sides() {
+        assert_eq!(nested(&side.bytes).code(), side.code, "{}", side.name);
     }
 }
 
@@ -129,6 +148,24 @@ fn examples_are_what_their_text_says() {
 }
 
 #[test]
+fn the_nested_example_is_what_its_text_says() {
+    let file = |ending| examples().join(format!("nested/packing-list.{ending}"));
+    let text = |ending| fs::read_to_string(file(ending)).expect("a text");
+    let book = fs::read(file("book")).expect("its book");
+    assert_eq!(parsed(&text("layout")), book);
+    assert_eq!(listing(&plain(&book)), Ok(text("listing")));
+    assert_eq!(listing(&nested(&book)), Ok(text("nested")));
+    assert_eq!(passes(&book), Ok(Some((2, End::Settled))));
+    // The inner calls stay in one pass, and in nested mode none is left.
+    let calls = |answer| notation::print(&result(answer)).matches("dated!(").count();
+    assert_eq!((calls(&plain(&book)), calls(&nested(&book))), (7, 0));
+    // As the layout says: inside a nested format one pass is refused.
+    let inside = text("layout") + "format label = struct { head: record!(uuid) }";
+    assert_eq!(plain(&parsed(&inside)).code(), 7);
+    assert_eq!(nested(&parsed(&inside)).code(), 0);
+}
+
+#[test]
 fn worked_bytes_of_document_01() {
     let p2 = [1, 0, 1, 0, 8, 0, 8, 0, 1, 0x65, 0, 0, 0x0d, 0, 0, 0];
     assert_eq!(fs::read(examples().join("p01.book")).expect("P1"), [0, 0]);
@@ -138,11 +175,7 @@ fn worked_bytes_of_document_01() {
 
 #[test]
 fn nested_macros_and_their_limit() {
-    let nested = |text: &str| {
-        answer(&parsed(text), Mode::Nested)
-            .expect("agreement")
-            .code()
-    };
+    let nested = |text: &str| nested(&parsed(text)).code();
     let twice = "macro f!() = struct { x: g!() } macro g!() = nothing format m = vec<f!()>";
     assert_eq!(plain(&parsed(twice)).code(), 7);
     assert_eq!(nested(twice), 0);
@@ -160,12 +193,39 @@ fn passes_are_counted() {
         let macros = (1..count).map(|n| format!("macro f{}!() = f{n}!()\n", n - 1));
         let last = format!("macro f{}!() = nothing\n", count - 1);
         let text: String = macros.chain([last]).collect();
-        answer(&parsed(&format!("{text}format m = f0!()")), Mode::Nested)
-            .expect("agreement")
-            .code()
+        parsed(&format!("{text}format m = f0!()"))
     };
-    assert_eq!(chain(16), 0);
-    assert_eq!(chain(17), 12);
+    for count in 1..=16 {
+        assert_eq!(nested(&chain(count)).code(), 0);
+        assert_eq!(passes(&chain(count)), Ok(Some((count, End::Settled))));
+    }
+    assert_eq!(nested(&chain(17)).code(), 12);
+}
+
+#[test]
+fn how_the_passes_end() {
+    let end = |text: &str| passes(&parsed(text)).expect("agreement");
+    let chain = "macro f!(a) = a format m = ";
+    let deep = |count: usize| format!("{}nothing{}", "f!(".repeat(count), ")".repeat(count));
+    assert_eq!(end("format m = zz!()"), Some((1, End::Settled)));
+    assert_eq!(
+        end(&format!("{chain}{}", deep(17))),
+        Some((16, End::LongChain))
+    );
+    assert_eq!(
+        end("macro f!() = f!() format m = f!()"),
+        Some((16, End::Cycle))
+    );
+    let put_in = "macro g!(a) = a macro f!() = g!(f!()) format m = f!()";
+    assert_eq!(end(put_in), Some((16, End::Cycle)));
+    let aside = "macro o!() = o!() macro f!(a) = a format m = struct { a: zz!(o!()), b: ";
+    assert_eq!(
+        end(&format!("{aside}{} }}", deep(17))),
+        Some((16, End::LongChain))
+    );
+    let grows = "macro f!() = struct { a: f!(), b: f!() } format m = f!()";
+    assert_eq!(end(grows), Some((10, End::Grown)));
+    assert_eq!(passes(&[0]), Ok(None));
 }
 
 #[test]
@@ -192,6 +252,11 @@ fn listed_books_are_the_examples() {
     for entry in fs::read_dir(data).expect("data of listings") {
         let path = entry.expect("entry").path();
         let original = examples().join(path.file_name().expect("name"));
-        assert_eq!(fs::read(&path).expect("copy"), fs::read(original).expect("original"), "{}", path.display());
+        assert_eq!(
+            fs::read(&path).expect("copy"),
+            fs::read(original).expect("original"),
+            "{}",
+            path.display()
+        );
     }
 }

@@ -19,6 +19,7 @@ mod sys;
 
 pub use definitions::{Definition, Definitions, Kind};
 pub use refusal::Refusal;
+use sys::Mode;
 
 /// A book is at most so long.
 pub const BOOK_BYTES: usize = 16_384;
@@ -60,14 +61,44 @@ impl Elaborated {
 }
 
 /// Expands macros and lifts nested formats. It lends buffers of its own, so it never answers
-/// [`Refusal::WorkTooShort`] or [`Refusal::OutTooShort`].
+/// [`Refusal::WorkTooShort`] or [`Refusal::OutTooShort`]; nor [`Refusal::MacroCallLeft`], which is the nested mode's.
 pub fn elaborate(book: &[u8]) -> Result<Elaborated, Refusal> {
+    with_own_buffers(Mode::Plain, book)
+}
+
+/// The same in nested mode, for macros that call macros: they are expanded again and again, at most 16 times, until
+/// none of the book's macros is called in a format's body, the arguments of a macro call left aside. Where one pass is
+/// enough, it answers what [`elaborate`] does.
+pub fn elaborate_nested(book: &[u8]) -> Result<Elaborated, Refusal> {
+    with_own_buffers(Mode::Nested, book)
+}
+
+/// [`elaborate`] in buffers of the caller: the result stands in the first bytes of `out`, and what is behind it is as
+/// before, as is all of `out` after a refusal. `work` is all zero afterwards, however long it is.
+pub fn elaborate_into<'out>(
+    book: &[u8],
+    out: &'out mut [u8],
+    work: &mut [u8],
+) -> Result<Elaborated<&'out [u8]>, Refusal> {
+    with_buffers(Mode::Plain, book, out, work)
+}
+
+/// [`elaborate_nested`] in buffers of the caller, which hold afterwards what [`elaborate_into`] says.
+pub fn elaborate_nested_into<'out>(
+    book: &[u8],
+    out: &'out mut [u8],
+    work: &mut [u8],
+) -> Result<Elaborated<&'out [u8]>, Refusal> {
+    with_buffers(Mode::Nested, book, out, work)
+}
+
+fn with_own_buffers(mode: Mode, book: &[u8]) -> Result<Elaborated, Refusal> {
     let mut bytes = vec![0; OUT_BYTES];
     let Elaborated {
         bytes: result,
         definitions,
         lifted,
-    } = elaborate_into(book, &mut bytes, &mut vec![0; WORK_BYTES])?;
+    } = with_buffers(mode, book, &mut bytes, &mut vec![0; WORK_BYTES])?;
     let length = result.len();
     bytes.truncate(length);
     Ok(Elaborated {
@@ -77,14 +108,13 @@ pub fn elaborate(book: &[u8]) -> Result<Elaborated, Refusal> {
     })
 }
 
-/// The same in buffers of the caller: the result stands in the first bytes of `out`, and what is behind it is as
-/// before, as is all of `out` after a refusal. `work` is all zero afterwards, however long it is.
-pub fn elaborate_into<'out>(
+fn with_buffers<'out>(
+    mode: Mode,
     book: &[u8],
     out: &'out mut [u8],
     work: &mut [u8],
 ) -> Result<Elaborated<&'out [u8]>, Refusal> {
-    let answer = sys::elaborate(book, out, work);
+    let answer = sys::elaborate(mode, book, out, work);
     match Refusal::of(answer.code) {
         Some(refusal) => Err(refusal),
         None => Ok(Elaborated {
@@ -95,7 +125,7 @@ pub fn elaborate_into<'out>(
     }
 }
 
-/// Whether, once macros are expanded, every format called is defined in the book and chains stand on Bytes and Tail
+/// Whether, once macros are expanded as [`elaborate`] does, every format called is defined in the book and chains stand on Bytes and Tail
 /// alone. Then putting lifted definitions back gives the expanded book again, and none has a parameter too many.
 pub fn premise(book: &[u8]) -> Result<bool, Refusal> {
     premise_with(book, &mut vec![0; WORK_BYTES])

@@ -17,11 +17,13 @@ pub enum Refusal {
     LiftedNameTooLong = 9,
     ResultTooLarge = 10,
     OutTooShort = 11,
+    /// Of the nested mode alone.
+    MacroCallLeft = 12,
 }
 
 impl Refusal {
     /// All of them, by code.
-    pub const ALL: [Refusal; 11] = [
+    pub const ALL: [Refusal; 12] = [
         Refusal::WorkTooShort,
         Refusal::BookTooLong,
         Refusal::NotABook,
@@ -33,6 +35,7 @@ impl Refusal {
         Refusal::LiftedNameTooLong,
         Refusal::ResultTooLarge,
         Refusal::OutTooShort,
+        Refusal::MacroCallLeft,
     ];
 
     /// None where nothing is refused. There is no other code: that is proved.
@@ -41,7 +44,7 @@ impl Refusal {
         Some(Refusal::ALL[place])
     }
 
-    /// Its number, 1 to 11.
+    /// Its number, 1 to 12.
     pub fn code(self) -> u8 {
         self as u8
     }
@@ -60,6 +63,7 @@ impl Refusal {
             Refusal::LiftedNameTooLong => "lifted name too long",
             Refusal::ResultTooLarge => "result too large",
             Refusal::OutTooShort => "output too short",
+            Refusal::MacroCallLeft => "macro call left after 16 passes",
         }
     }
 
@@ -86,7 +90,7 @@ impl Refusal {
             }
             Refusal::LeftoverMacro => {
                 "A nested format calls a macro that is not defined, or calls one from inside a macro: define it, or \
-                 write the inner macro's body out."
+                 write the inner macro's body out, or elaborate in nested mode, which expands macros in macros."
             }
             Refusal::NoBinder => {
                 "A nested format uses a name (@n) that neither a parameter nor a dependent field before it binds: \
@@ -102,6 +106,10 @@ impl Refusal {
             }
             Refusal::OutTooShort => {
                 "The output is shorter than the result: 16,384 bytes are always enough."
+            }
+            Refusal::MacroCallLeft => {
+                "After 16 passes of the nested mode a call of a defined macro is left: macros come back to themselves, \
+                 or call each other more than 16 deep. Use formats in place of some macros."
             }
         }
     }

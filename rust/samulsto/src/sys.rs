@@ -25,6 +25,15 @@ extern "C" {
         work_length: usize,
     ) -> Answer;
 
+    fn samulsto_elaborate_nested(
+        book: *const u8,
+        book_length: usize,
+        out: *mut u8,
+        out_length: usize,
+        work: *mut u8,
+        work_length: usize,
+    ) -> Answer;
+
     fn samulsto_premise(
         book: *const u8,
         book_length: usize,
@@ -33,10 +42,21 @@ extern "C" {
     ) -> PremiseAnswer;
 }
 
-pub fn elaborate(book: &[u8], out: &mut [u8], work: &mut [u8]) -> Answer {
+/// How often macros are expanded.
+#[derive(Clone, Copy)]
+pub enum Mode {
+    Plain,
+    Nested,
+}
+
+pub fn elaborate(mode: Mode, book: &[u8], out: &mut [u8], work: &mut [u8]) -> Answer {
+    let call = match mode {
+        Mode::Plain => samulsto_elaborate,
+        Mode::Nested => samulsto_elaborate_nested,
+    };
     // SAFETY: each pointer is a slice's, with that slice's length; slices that are lent `&mut` overlap no other.
     unsafe {
-        samulsto_elaborate(
+        call(
             book.as_ptr(),
             book.len(),
             out.as_mut_ptr(),

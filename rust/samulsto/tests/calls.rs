@@ -12,9 +12,9 @@ fn example(name: &str) -> Vec<u8> {
     std::fs::read(examples().join(name)).unwrap()
 }
 
-/// Document 01's listing, for names that need no escape.
-fn listing(book: &[u8]) -> String {
-    let result = match elaborate(book) {
+/// Document 01's listing of an answer, for names that need no escape.
+fn listing(answer: Result<Elaborated, Refusal>) -> String {
+    let result = match answer {
         Ok(result) => result,
         Err(refusal) => return format!("refused {}\n", refusal.code()),
     };
@@ -48,7 +48,7 @@ fn every_example_has_its_listing() {
         if path.extension().is_some_and(|ending| ending == "book") {
             let wanted = std::fs::read_to_string(path.with_extension("listing")).unwrap();
             assert_eq!(
-                listing(&std::fs::read(&path).unwrap()),
+                listing(elaborate(&std::fs::read(&path).unwrap())),
                 wanted,
                 "{}",
                 path.display()
@@ -60,9 +60,51 @@ fn every_example_has_its_listing() {
 }
 
 #[test]
+fn the_nested_example_has_both_its_listings() {
+    let book = example("nested/packing-list.book");
+    let text = |name| String::from_utf8(example(name)).unwrap();
+    assert_eq!(
+        listing(elaborate(&book)),
+        text("nested/packing-list.listing")
+    );
+    assert_eq!(
+        listing(elaborate_nested(&book)),
+        text("nested/packing-list.nested")
+    );
+}
+
+#[test]
+fn macros_that_come_back_are_refused_in_nested_mode() {
+    // format "" = ""!() and macro ""!() = ""!()
+    let mut book = vec![2, 0, 1, 0, 14, 0, 8, 0, 4, 0, 22, 0, 8, 0];
+    book.extend([0, 0, 0, 16, 0, 0, 0, 0].repeat(2));
+    assert_eq!(elaborate_nested(&book), Err(Refusal::MacroCallLeft));
+    assert_eq!(elaborate(&book).map(|result| result.lifted()), Ok(0));
+
+    let (mut out, mut work) = ([9; 64], vec![7; WORK_BYTES]);
+    assert_eq!(
+        elaborate_nested_into(&book, &mut out, &mut work),
+        Err(Refusal::MacroCallLeft)
+    );
+    assert_eq!(out, [9; 64]);
+    assert!(work.iter().all(|byte| *byte == 0));
+}
+
+#[test]
+fn where_one_pass_is_enough_both_modes_answer_the_same() {
+    for name in ["p03.book", "p04.book", "p09-both.book", "packing-list.book"] {
+        let book = example(name);
+        assert_eq!(elaborate_nested(&book), elaborate(&book), "{name}");
+    }
+}
+
+#[test]
 fn a_result_elaborates_to_itself() {
     let once = elaborate(&example("packing-list.book")).unwrap();
     let twice = elaborate(once.book()).unwrap();
+    assert_eq!((once.book(), twice.lifted()), (twice.book(), 0));
+    let once = elaborate_nested(&example("nested/packing-list.book")).unwrap();
+    let twice = elaborate_nested(once.book()).unwrap();
     assert_eq!((once.book(), twice.lifted()), (twice.book(), 0));
 }
 

@@ -4,9 +4,9 @@ use samulsto::Refusal;
 use std::collections::HashSet;
 
 #[test]
-fn codes_are_1_to_11() {
+fn codes_are_1_to_12() {
     let codes: Vec<u8> = Refusal::ALL.iter().map(|refusal| refusal.code()).collect();
-    assert_eq!(codes, (1..=11).collect::<Vec<u8>>());
+    assert_eq!(codes, (1..=12).collect::<Vec<u8>>());
 }
 
 #[test]
@@ -16,7 +16,7 @@ fn each_has_its_own_words() {
         .iter()
         .map(|refusal| refusal.explanation())
         .collect();
-    assert_eq!((names.len(), texts.len()), (11, 11));
+    assert_eq!((names.len(), texts.len()), (12, 12));
 }
 
 #[test]

@@ -15,7 +15,7 @@ pub struct Side {
 }
 
 /// A pair: `make(0)` is accepted, `make(1)` answers `code`.
-fn pair(name: &'static str, code: u8, make: impl Fn(usize) -> Vec<u8>) -> [Side; 2] {
+pub(super) fn pair(name: &'static str, code: u8, make: impl Fn(usize) -> Vec<u8>) -> [Side; 2] {
     [0, 1].map(|past| Side {
         name,
         bytes: make(past),

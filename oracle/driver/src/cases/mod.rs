@@ -6,6 +6,7 @@ mod exact;
 mod growth;
 mod hurt;
 mod macros;
+mod nested;
 mod place;
 mod plain;
 mod race;
@@ -16,6 +17,7 @@ pub mod sweep;
 
 pub use damage::seal;
 pub use exact::both_sides;
+pub use nested::{nested_case, nested_sides, NestedKind, NESTED_KINDS};
 pub use place::{along, STEPS, TAGS};
 pub use rng::Rng;
 
