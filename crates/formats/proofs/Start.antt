@@ -19,7 +19,8 @@ use Rattle.walked.specs.Book.{blank, walkBook}
 use Rattle.body.specs.declared.Body.{Body}
 use Rattle.steps.specs.Good.{Good}
 use Rattle.start.specs.Rows.{Book, AtStart}
-use Rattle.formats.specs.Expands.{Starts, InOrder, Expands}
+use Rattle.inorder.specs.InOrder.{InOrder}
+use Rattle.formats.specs.Expands.{Starts, Expands}
 use Rattle.start.proofs.Rows.{book-short}
 
 abbrev pub counts : ℕ → ℕ → ℕ → Counts

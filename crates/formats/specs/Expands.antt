@@ -6,14 +6,11 @@ use lib.ListN.{length, take, getD}
 use Rattle.definition.specs.Tree.{Definition}
 use Rattle.definition.specs.Write.{wBook}
 use Rattle.laws.specs.Book.{IsBook}
-use Rattle.lifting.specs.After.{firstAt}
-use Rattle.lift.specs.declared.Counts.{Counts}
 use Rattle.lift.specs.Sheet.{sheetOf}
-use Rattle.walked.specs.Book.{walkAll, walkBook}
+use Rattle.walked.specs.Book.{walkBook}
 use Rattle.body.specs.declared.Body.{Body}
 use Rattle.steps.specs.Good.{Good}
 use Rattle.body.specs.Walks.{Ends}
-use Rattle.format.specs.Formats.{EndsIn}
 
 -- the expanded book, and tables that are long enough; no place has a number yet
 pub record Starts (s made rows params number order : List ℕ) : Type 0 where
@@ -26,11 +23,6 @@ pub record Starts (s made rows params number order : List ℕ) : Type 0 where
   pub number-long : length s ≤ length number
   pub order-long : 512 ≤ length order
   pub blank : (p : ℕ) → getD number p 0 ≡ 0
-
--- all definitions in order
-pub record InOrder (s : List ℕ) (made places rows params order : List ℕ) (w : Counts) (made′ places′ hashes′ hints′ rows′ params′ number′ order′ : List ℕ) (r : Body) : Type 0 where
-  pub says : (ds : List Definition) → s ≡ wBook ds → IsBook ds
-      → EndsIn (walkAll ds (firstAt ds) (sheetOf s made places rows params (take 0 order) w)) s made′ places′ hashes′ hints′ rows′ params′ number′ order′ r
 
 -- the lifts that stand in the tables are those of the walk; the rows of names taken are gone when it is done
 pub record Expands (s made′ rows′ params′ number′ order′ : List ℕ) (r : Body) : Type 0 where

@@ -1,11 +1,11 @@
--- `formats::expand_in_order` meets its contract.
+-- `inorder::expand_in_order` meets its contract.
 -- Assumes nothing.
 use mathlib.Core.Path.{refl, _∙_}
 use native.Mathlib.Omega.{arith}
 use borrow.Author.Needs.{needs}
-use Rattle.formats.proofs.Order.{Going, Lengths, going, going-format, going-step, going-refused, going-all, kept}
-use Rattle.formats.proofs.expand_in_order.Statement.{statement}
-use Rattle.formats.proofs.expand_in_order.Tie as tie
+use Rattle.inorder.proofs.Order.{Going, Lengths, going, going-format, going-step, going-refused, going-all, kept}
+use Rattle.inorder.proofs.expand_in_order.Statement.{statement}
+use Rattle.inorder.proofs.expand_in_order.Tie as tie
 
 abbrev Inv-loop : tie.InvT-loop
 Inv-loop s path₀ binders₀ bound₀ uses₀ spare₀ made₀ places₀ hashes₀ hints₀ rows₀ params₀ numbers₀ order₀ left₀ entry₀ at₀ w₀ n₀ path binders bound uses spare made places hashes hints rows params numbers order left entry at w n =

@@ -26,7 +26,7 @@ use Rattle.steps.specs.Good.{Good}
 use Rattle.body.specs.Walks.{Ends}
 use Rattle.start.specs.Rows.{Book}
 use Rattle.format.specs.Formats.{Space, Format, EndsIn, Defined}
-use Rattle.formats.specs.Expands.{InOrder}
+use Rattle.inorder.specs.InOrder.{InOrder}
 
 -- ---- one definition, and then the others
 then-more : (m : Res Sheet Extent) (f : Sheet → Res Sheet (Unit {0})) → m >>= (λ x. f (x .1)) ≡ (_>>=_ {B = Unit {0}} m (λ x. ok tt (x .1))) >>= (λ x. f (x .1))
