@@ -12,12 +12,16 @@ use Rattle.definition.specs.Code.{number, work-short, output-short}
 use Rattle.definition.specs.Out.{Out, refused, done, _>>=_, given}
 use Rattle.definition.specs.Write.{wBook}
 use Rattle.definition.specs.Size.{sizeBook}
-use Rattle.definition.specs.Answer.{elaborated, Result, all, attempt, Answer, answered, filled, answer, output}
+use Rattle.definition.specs.Tree.{Definition}
+use Rattle.definition.specs.Lift.{liftBook}
+use Rattle.definition.specs.Answer.{elaborated, Result, all, outcome, attempt, Answer, answered, filled, answer, output}
 use Rattle.definition.specs.Listing.{listed, listing}
 use Rattle.laws.specs.Book.{Bytes, IsBook}
 use Rattle.laws.proofs.Sizes.{size-book}
-use Rattle.laws.proofs.Steps.{Yields, stops, yields, of-result, yielded}
-use Rattle.laws.proofs.Results.{elaborated-book}
+use Rattle.laws.proofs.Steps.{Yields, stops, yields, next, of-result, yielded}
+use Rattle.laws.proofs.Results.{elaborated-book, lifted-yields, lifted-book}
+use Rattle.nested.specs.Nested.{expandedNested, attemptNested, answerNested, outputNested}
+use Rattle.nested.proofs.Results.{expanded-is-book}
 use Rattle.writer.specs.Buf.{Wrote}
 use Rattle.writer.proofs.Put.{take-written}
 use Rattle.writer.proofs.Wrote.{place-fits}
@@ -26,7 +30,7 @@ use Rattle.closing.specs.declared.Elaborated.the-variants.{Done, Refused}
 use Rattle.closing.specs.Elaborates.{reported, Reports}
 use Rattle.printed.specs.Lines.{Lists, refusal}
 use Rattle.printed.proofs.Room.{code-some, listed-room}
-use Rattle.lines.specs.Lines.{Filled, Prints, Tells}
+use Rattle.lines.specs.Lines.{Filled, Prints, Tells, elaboratedNested, TellsNested}
 
 -- a text of 65,536 bytes holds the lines of every outcome
 fill : {m : Out Result} {text text′ : List ℕ} {n : ℕ} → ((q : Result) → m ≡ done q → IsBook (all q)) → Wrote text 0 (listed m) text′ n → Filled (listed m) text text′ n
@@ -75,3 +79,24 @@ module _ (b out : List ℕ) (w : ℕ) (h : Bytes b) (o : 16384 ≤ length out) (
   pub tells : {r : Elaborated} {out′ text text′ : List ℕ} {n : ℕ} → reported r ≡ answer b (length out) w → out′ ≡ output b out w → Prints r out′ text text′ n → Tells b text text′ n
   unfolding listing
   tells e f p = p .prints (elaborated b) out (reports e f) λ q g. yielded (elaborated-book b h) g
+
+  -- the nested mode
+  lifts-nested : (ds : List Definition) → IsBook ds → Yields (λ r. IsBook (all r)) (outcome (liftBook ds))
+  lifts-nested ds i = lifted-yields (λ r. IsBook (all r)) ds (lifted-book ds i)
+
+  nested-book : Yields (λ r. IsBook (all r)) (elaboratedNested b)
+  unfolding elaboratedNested
+  nested-book = next (of-result (expandedNested b) (λ ds e. expanded-is-book b h ds e)) _ λ ds i. lifts-nested ds (i .0)
+
+  nested-whole : attemptNested b (length out) w ≡ elaboratedNested b
+  unfolding attemptNested elaboratedNested
+  nested-whole = rw (le-leb 65536 w k) (go (expandedNested b) (λ ds e. expanded-is-book b h ds e .0))
+    where
+      go : (m : Out (List Definition)) → ((ds : List Definition) → m ≡ done ds → IsBook ds)
+          → (m >>= λ ds. outcome (liftBook ds) >>= λ r. given (leb (length (wBook (all r))) (length out)) output-short r) ≡ (m >>= λ ds. outcome (liftBook ds))
+      go (refused c) g = refl
+      go (done ds) g = fits-all o (lifts-nested ds (g ds refl))
+
+  pub tells-nested : {r : Elaborated} {out′ text text′ : List ℕ} {n : ℕ} → reported r ≡ answerNested b (length out) w → out′ ≡ outputNested b out w → Prints r out′ text text′ n → TellsNested b text text′ n
+  unfolding answerNested outputNested
+  tells-nested e f p = p .prints (elaboratedNested b) out (record { answers = rw (← nested-whole) e; fills = rw (← nested-whole) f }) λ q g. yielded nested-book g

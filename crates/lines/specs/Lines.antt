@@ -3,10 +3,12 @@ use mathlib.Core.Path.{_≡_}
 use mathlib.Core.List.{List}
 use Prim.Native.Nat.{ℕ, _≤_}
 use lib.ListN.{length, take}
-use Rattle.definition.specs.Out.{Out, done}
-use Rattle.definition.specs.Answer.{Result, all}
+use Rattle.definition.specs.Out.{Out, done, _>>=_}
+use Rattle.definition.specs.Lift.{liftBook}
+use Rattle.definition.specs.Answer.{Result, all, outcome}
 use Rattle.definition.specs.Listing.{listed, listing}
 use Rattle.laws.specs.Book.{IsBook}
+use Rattle.nested.specs.Nested.{expandedNested}
 use Rattle.closing.specs.declared.Elaborated.{Elaborated}
 use Rattle.closing.specs.Elaborates.{Reports}
 
@@ -21,3 +23,12 @@ pub record Prints (r : Elaborated) (out text text′ : List ℕ) (n : ℕ) : Typ
 
 abbrev pub Tells : List ℕ → List ℕ → List ℕ → ℕ → Type 0
 Tells book text text′ n = Filled (listing book) text text′ n
+
+-- document 02 b: codes 2 to 6 and 12, then 7 to 10. "`listing --nested` prints its listing"
+unfoldable pub elaboratedNested : List ℕ → Out Result
+elaboratedNested book = do
+  ds ← expandedNested book
+  outcome (liftBook ds)
+
+abbrev pub TellsNested : List ℕ → List ℕ → List ℕ → ℕ → Type 0
+TellsNested book text text′ n = Filled (listed (elaboratedNested book)) text text′ n

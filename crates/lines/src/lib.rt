@@ -1,11 +1,12 @@
 // The listing of a book, written into a buffer.
 use closing::Elaborated;
 use elab::elaboration::elaborate;
+use nesting::elaborate_nested;
 use printed::put_refusal;
 use printed::put_result;
 ghost use mathlib.Core.Path.{_≡_};
 ghost use lib.ListN.{take};
-ghost use Rattle.lines.specs.Lines.{Prints, Tells};
+ghost use Rattle.lines.specs.Lines.{Prints, Tells, TellsNested};
 
 // The first n bytes, as far as s reaches.
 fn first(s: &[u8], n: usize) -> &[u8]
@@ -41,5 +42,15 @@ pub fn put_listing(book: &[u8], text: &mut [u8]) -> usize
     let mut out = [0u8; 16384];
     let mut work = [0u8; 65536];
     let answer = elaborate(book, &mut out, &mut work);
+    put_answer(answer, &out, text)
+}
+
+// The listing of the nested mode.
+pub fn put_nested_listing(book: &[u8], text: &mut [u8]) -> usize
+    ensures { λ r. ⌜ TellsNested (now (book .entry)) (now (text .entry)) (now (text .exit)) r ⌝ }
+{
+    let mut out = [0u8; 16384];
+    let mut work = [0u8; 65536];
+    let answer = elaborate_nested(book, &mut out, &mut work);
     put_answer(answer, &out, text)
 }
