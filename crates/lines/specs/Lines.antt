@@ -1,6 +1,7 @@
 -- What the listing leaves in a buffer. Document 01, "Premise test and listing".
 use mathlib.Core.Path.{_≡_}
 use mathlib.Core.List.{List}
+use mathlib.Core.Bool.{Bool, true, false}
 use Prim.Native.Nat.{ℕ, _≤_}
 use lib.ListN.{length, take}
 use Rattle.definition.specs.Out.{Out, done, _>>=_}
@@ -32,3 +33,10 @@ elaboratedNested book = do
 
 abbrev pub TellsNested : List ℕ → List ℕ → List ℕ → ℕ → Type 0
 TellsNested book text text′ n = Filled (listed (elaboratedNested book)) text text′ n
+
+abbrev pub listingIn : Bool → List ℕ → List ℕ
+listingIn true book = listed (elaboratedNested book)
+listingIn false book = listing book
+
+abbrev pub TellsIn : Bool → List ℕ → List ℕ → List ℕ → ℕ → Type 0
+TellsIn nested book text text′ n = Filled (listingIn nested book) text text′ n

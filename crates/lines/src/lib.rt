@@ -6,7 +6,7 @@ use printed::put_refusal;
 use printed::put_result;
 ghost use mathlib.Core.Path.{_≡_};
 ghost use lib.ListN.{take};
-ghost use Rattle.lines.specs.Lines.{Prints, Tells, TellsNested};
+ghost use Rattle.lines.specs.Lines.{Prints, Tells, TellsNested, TellsIn};
 
 // The first n bytes, as far as s reaches.
 fn first(s: &[u8], n: usize) -> &[u8]
@@ -53,4 +53,14 @@ pub fn put_nested_listing(book: &[u8], text: &mut [u8]) -> usize
     let mut work = [0u8; 65536];
     let answer = elaborate_nested(book, &mut out, &mut work);
     put_answer(answer, &out, text)
+}
+
+// The listing of either mode.
+pub fn put_lines(nested: bool, book: &[u8], text: &mut [u8]) -> usize
+    ensures { λ r. ⌜ TellsIn nested (now (book .entry)) (now (text .entry)) (now (text .exit)) r ⌝ }
+{
+    if nested {
+        return put_nested_listing(book, text);
+    }
+    put_listing(book, text)
 }

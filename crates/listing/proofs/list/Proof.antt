@@ -10,7 +10,7 @@ use Rattle.listing.proofs.list.Lts as lts
 use Rattle.io.proofs.large_buffer.Reads as large-buffer-reads
 use Rattle.io.proofs.read_full.Reads as read-full-reads
 use Rattle.io.proofs.write_all.Reads as write-all-reads
-use Rattle.listing.proofs.put_lines.Reads as put-lines-reads
+use Rattle.lines.proofs.put_lines.Reads as put-lines-reads
 
 large-buffer-requires : tie.Need-large-buffer-requires
 large-buffer-requires c κs = search needs
@@ -34,10 +34,10 @@ put-lines-requires : tie.Need-put-lines-requires
 put-lines-requires c κs = search needs
 
 array-share-prefix-text : tie.Need-array-share-prefix-text
-array-share-prefix-text c = omega (arith, c .before .put-lines .ensures (omega (arith, c .before .before .before .before .before .before .before .large-buffer .ensures)), c .before .before .before .before .before .before .before .large-buffer .ensures, c .text2 .given)
+array-share-prefix-text c = omega (arith, c .before .put-lines .ensures .fits (omega (arith, c .before .before .before .before .before .before .before .large-buffer .ensures)), c .before .before .before .before .before .before .before .large-buffer .ensures, c .text2 .given)
 
 slice-aggregate-write-all : tie.Need-slice-aggregate-write-all
-slice-aggregate-write-all c = simp length-take (omega (arith, c .before .before .put-lines .ensures (omega (arith, c .before .before .before .before .before .before .before .before .large-buffer .ensures)), c .before .before .before .before .before .before .before .before .large-buffer .ensures, c .before .text2 .given))
+slice-aggregate-write-all c = simp length-take (omega (arith, c .before .before .put-lines .ensures .fits (omega (arith, c .before .before .before .before .before .before .before .before .large-buffer .ensures)), c .before .before .before .before .before .before .before .before .large-buffer .ensures, c .before .text2 .given))
 
 write-all-requires : tie.Need-write-all-requires
 write-all-requires c κs = search needs

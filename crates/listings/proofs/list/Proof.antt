@@ -9,7 +9,7 @@ use Rattle.io.proofs.large_buffer.Reads as large-buffer-reads
 use Rattle.io.proofs.read_full.Reads as read-full-reads
 use Rattle.io.proofs.write_all.Reads as write-all-reads
 use Rattle.libc.proofs.close.Reads as close-reads
-use Rattle.lines.proofs.put_listing.Reads as put-listing-reads
+use Rattle.lines.proofs.put_lines.Reads as put-lines-reads
 use Rattle.os.proofs.fail.Reads as fail-reads
 use Rattle.os.proofs.open_read.Reads as open-read-reads
 
@@ -43,20 +43,20 @@ read-full-requires c κs = search needs
 array-share-prefix-book : tie.Need-array-share-prefix-book
 array-share-prefix-book c = search needs
 
-slice-aggregate-put-listing : tie.Need-slice-aggregate-put-listing
-slice-aggregate-put-listing c = search needs
+slice-aggregate-put-lines : tie.Need-slice-aggregate-put-lines
+slice-aggregate-put-lines c = search needs
 
-slice-aggregate-put-listing-2 : tie.Need-slice-aggregate-put-listing-2
-slice-aggregate-put-listing-2 c = search needs
+slice-aggregate-put-lines-2 : tie.Need-slice-aggregate-put-lines-2
+slice-aggregate-put-lines-2 c = search needs
 
-put-listing-requires : tie.Need-put-listing-requires
-put-listing-requires c κs = search needs
+put-lines-requires : tie.Need-put-lines-requires
+put-lines-requires c κs = search needs
 
 array-share-prefix-text : tie.Need-array-share-prefix-text
-array-share-prefix-text c = omega (arith, c .before .put-listing .ensures .fits (omega (arith, c .before .before .before .before .before .before .before .large-buffer .ensures)), c .before .before .before .before .before .before .before .large-buffer .ensures, c .text2 .given)
+array-share-prefix-text c = omega (arith, c .before .put-lines .ensures .fits (omega (arith, c .before .before .before .before .before .before .before .large-buffer .ensures)), c .before .before .before .before .before .before .before .large-buffer .ensures, c .text2 .given)
 
 slice-aggregate-write-all-2 : tie.Need-slice-aggregate-write-all-2
-slice-aggregate-write-all-2 c = simp length-take (omega (arith, c .before .before .put-listing .ensures .fits (omega (arith, c .before .before .before .before .before .before .before .before .large-buffer .ensures)), c .before .before .before .before .before .before .before .before .large-buffer .ensures, c .before .text2 .given))
+slice-aggregate-write-all-2 c = simp length-take (omega (arith, c .before .before .put-lines .ensures .fits (omega (arith, c .before .before .before .before .before .before .before .before .large-buffer .ensures)), c .before .before .before .before .before .before .before .before .large-buffer .ensures, c .before .text2 .given))
 
 write-all-requires-3 : tie.Need-write-all-requires-3
 write-all-requires-3 c κs = search needs
@@ -81,9 +81,9 @@ list-spec =
     slice-aggregate-read-full
     read-full-requires
     array-share-prefix-book
-    slice-aggregate-put-listing
-    slice-aggregate-put-listing-2
-    put-listing-requires
+    slice-aggregate-put-lines
+    slice-aggregate-put-lines-2
+    put-lines-requires
     array-share-prefix-text
     slice-aggregate-write-all-2
     write-all-requires-3

@@ -60,7 +60,7 @@ same-length-4 : tie.Need-same-length-4
 same-length-4 c = search needs
 
 returns-2 : tie.Need-returns-2
-returns-2 c = 
+returns-2 c =
     opens-6 (c .before .before .before .before .before .before .before .before .before .before .before .before .before .before .before .before .before .before .before .before .before .before .before .before .pre) (rw (c .before .before .before .before .before .before .before .before .before .before .before .before .opened2 .given .1) at (c .before .before .before .before .before .before .before .before .before .before .before .before .before .before .before .before .before .before .open-book .ensures)) (all-bytes (c .before .before .before .before .before .before .before .before .before .before .before .before .before .before .before .before .before .before .before .before .before .before .before .before .args .book .now) (λ i. omega (arith, c .before .before .before .before .before .before .before .before .before .before .before .before .before .before .before .before .before .before .before .before .before .before .before .shared-slice-known .given i))) (c .before .before .before .before .before .before .before .before .before .before .before .before .before .before .before .out .given)
     (length-take-le 32768 (c .before .before .before .before .before .before .before .before .before .before .before .before .before .before .before .before .before .before .open-book .last .1 .0) (omega (arith, areas-long (c .before .before .before .before .before .before .before .before .before .before .before .before .before .before .before .before .before .before .before .before .before .before .before .before .pre) (rw (c .before .before .before .before .before .before .before .before .before .before .before .before .opened2 .given .1) at (c .before .before .before .before .before .before .before .before .before .before .before .before .before .before .before .before .before .before .open-book .ensures)), c .before .before .before .before .before .before .before .before .before .before .before .before .before .before .before .before .before .work .given))) (length-replicate {0} {A = ℕ} 16384 0) (c .before .before .before .before .before .before .before .expand-again .ensures) (c .enum-told .given .1)
 
@@ -71,7 +71,7 @@ same-length-6 : tie.Need-same-length-6
 same-length-6 c = search needs
 
 returns-3 : tie.Need-returns-3
-returns-3 c = 
+returns-3 c =
     opens-12 (c .before .before .before .before .before .before .before .before .before .before .before .before .before .before .before .before .before .before .before .before .before .before .before .before .pre) (rw (c .before .before .before .before .before .before .before .before .before .before .before .before .opened2 .given .1) at (c .before .before .before .before .before .before .before .before .before .before .before .before .before .before .before .before .before .before .open-book .ensures)) (all-bytes (c .before .before .before .before .before .before .before .before .before .before .before .before .before .before .before .before .before .before .before .before .before .before .before .before .args .book .now) (λ i. omega (arith, c .before .before .before .before .before .before .before .before .before .before .before .before .before .before .before .before .before .before .before .before .before .before .before .shared-slice-known .given i))) (c .before .before .before .before .before .before .before .before .before .before .before .before .before .before .before .out .given)
     (length-take-le 32768 (c .before .before .before .before .before .before .before .before .before .before .before .before .before .before .before .before .before .before .open-book .last .1 .0) (omega (arith, areas-long (c .before .before .before .before .before .before .before .before .before .before .before .before .before .before .before .before .before .before .before .before .before .before .before .before .pre) (rw (c .before .before .before .before .before .before .before .before .before .before .before .before .opened2 .given .1) at (c .before .before .before .before .before .before .before .before .before .before .before .before .before .before .before .before .before .before .open-book .ensures)), c .before .before .before .before .before .before .before .before .before .before .before .before .before .before .before .before .before .work .given))) (length-replicate {0} {A = ℕ} 16384 0) (c .before .before .before .before .before .before .before .expand-again .ensures) (c .enum-told2 .given .1)
 
@@ -82,7 +82,7 @@ same-length-8 : tie.Need-same-length-8
 same-length-8 c = search needs
 
 returns-4 : tie.Need-returns-4
-returns-4 c = 
+returns-4 c =
     opens-last (c .before .before .before .before .before .before .before .before .before .before .before .before .before .before .before .before .before .before .before .before .before .before .before .before .before .pre) (rw (c .before .before .before .before .before .before .before .before .before .before .before .before .before .opened2 .given .1) at (c .before .before .before .before .before .before .before .before .before .before .before .before .before .before .before .before .before .before .before .open-book .ensures)) (all-bytes (c .before .before .before .before .before .before .before .before .before .before .before .before .before .before .before .before .before .before .before .before .before .before .before .before .before .args .book .now) (λ i. omega (arith, c .before .before .before .before .before .before .before .before .before .before .before .before .before .before .before .before .before .before .before .before .before .before .before .before .shared-slice-known .given i))) (c .before .before .before .before .before .before .before .before .before .before .before .before .before .before .before .before .out .given)
     (length-take-le 32768 (c .before .before .before .before .before .before .before .before .before .before .before .before .before .before .before .before .before .before .before .open-book .last .1 .0) (omega (arith, areas-long (c .before .before .before .before .before .before .before .before .before .before .before .before .before .before .before .before .before .before .before .before .before .before .before .before .before .pre) (rw (c .before .before .before .before .before .before .before .before .before .before .before .before .before .opened2 .given .1) at (c .before .before .before .before .before .before .before .before .before .before .before .before .before .before .before .before .before .before .before .open-book .ensures)), c .before .before .before .before .before .before .before .before .before .before .before .before .before .before .before .before .before .before .work .given))) (length-replicate {0} {A = ℕ} 16384 0) (c .before .before .before .before .before .before .before .before .expand-again .ensures) _ (c .before .got .given .1)
 
