@@ -49,10 +49,10 @@ pub fn put_listing(book: &[u8], text: &mut [u8]) -> usize
 pub fn put_nested_listing(book: &[u8], text: &mut [u8]) -> usize
     ensures { λ r. ⌜ TellsNested (now (book .entry)) (now (text .entry)) (now (text .exit)) r ⌝ }
 {
-    let mut out = [0u8; 16384];
-    let mut work = [0u8; 65536];
-    let answer = elaborate_nested(book, &mut out, &mut work);
-    put_answer(answer, &out, text)
+    let mut result = [0u8; 16384];
+    let mut area = [0u8; 65536];
+    let answer = elaborate_nested(book, &mut result, &mut area);
+    put_answer(answer, &result, text)
 }
 
 // The listing of either mode.
