@@ -56,3 +56,16 @@ fn calls(time: u128) -> u32 {
     let room = TURN.as_nanos() / time.max(1);
     (room as u32).clamp(*CALLS.start(), *CALLS.end())
 }
+
+/// The quickest of our calls alone; the book must be an accepted one.
+pub fn ours(elaborate: Elaborate, book: &[u8]) -> u128 {
+    let (mut out, mut work) = (vec![0u8; BOOK_BYTES], vec![0u8; WORK_BYTES]);
+    let each = (0..200).map(|_| {
+        let start = Instant::now();
+        let answer = black_box(elaborate(black_box(book), &mut out, &mut work));
+        let time = start.elapsed().as_nanos();
+        assert_eq!(answer.0, 0, "a book is refused");
+        time
+    });
+    each.min().unwrap_or(u128::MAX)
+}

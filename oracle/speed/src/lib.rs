@@ -3,6 +3,7 @@
 
 pub mod clock;
 pub mod kinds;
+pub mod passes;
 pub mod plot;
 pub mod shapes;
 pub mod tables;

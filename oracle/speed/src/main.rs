@@ -7,7 +7,11 @@ fn main() {
         eprintln!("speed: the one word is the plot's file");
         std::process::exit(2);
     };
-    let plot = speed::on_a_large_stack(|| speed::tables::measure(archive::elaborate));
+    let plot = speed::on_a_large_stack(|| {
+        let plot = speed::tables::measure(archive::elaborate);
+        println!("{}", speed::passes::table(archive::elaborate, archive::elaborate_nested));
+        plot
+    });
     if let Err(error) = std::fs::write(path, plot) {
         eprintln!("speed: {path} can't be written: {error}");
         std::process::exit(1);
@@ -31,6 +35,8 @@ mod archive {
         lifted: u32,
     }
 
+    type Call = unsafe extern "C" fn(*const u8, usize, *mut u8, usize, *mut u8, usize) -> Answer;
+
     extern "C" {
         fn samulsto_elaborate(
             book: *const u8,
@@ -40,12 +46,20 @@ mod archive {
             work: *mut u8,
             work_length: usize,
         ) -> Answer;
+        fn samulsto_elaborate_nested(
+            book: *const u8,
+            book_length: usize,
+            out: *mut u8,
+            out_length: usize,
+            work: *mut u8,
+            work_length: usize,
+        ) -> Answer;
     }
 
-    pub fn elaborate(book: &[u8], out: &mut [u8], work: &mut [u8]) -> (u32, usize) {
+    fn called(call: Call, book: &[u8], out: &mut [u8], work: &mut [u8]) -> (u32, usize) {
         // SAFETY: each pointer has as many bytes behind it as its length says; the slices that are written overlap none.
         let answer = unsafe {
-            samulsto_elaborate(
+            call(
                 book.as_ptr(),
                 book.len(),
                 out.as_mut_ptr(),
@@ -55,5 +69,13 @@ mod archive {
             )
         };
         (answer.code, answer.length as usize)
+    }
+
+    pub fn elaborate(book: &[u8], out: &mut [u8], work: &mut [u8]) -> (u32, usize) {
+        called(samulsto_elaborate, book, out, work)
+    }
+
+    pub fn elaborate_nested(book: &[u8], out: &mut [u8], work: &mut [u8]) -> (u32, usize) {
+        called(samulsto_elaborate_nested, book, out, work)
     }
 }
