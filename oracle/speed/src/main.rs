@@ -9,7 +9,10 @@ fn main() {
     };
     let plot = speed::on_a_large_stack(|| {
         let plot = speed::tables::measure(archive::elaborate);
-        println!("{}", speed::passes::table(archive::elaborate, archive::elaborate_nested));
+        println!(
+            "{}",
+            speed::passes::table(archive::elaborate, archive::elaborate_nested)
+        );
         plot
     });
     if let Err(error) = std::fs::write(path, plot) {
