@@ -6,7 +6,7 @@ use std::fmt::Write;
 const COLUMNS: usize = 3;
 const PANEL: (f64, f64) = (300.0, 220.0);
 /// Around the part of a panel that has the lines: left, top, right, bottom.
-const AROUND: (f64, f64, f64, f64) = (56.0, 34.0, 14.0, 40.0);
+const AROUND: (f64, f64, f64, f64) = (56.0, 34.0, 20.0, 40.0);
 const HEAD: f64 = 34.0;
 const OURS: (&str, &str, &str) = ("the proved port", "#0b61a4", "");
 const RUST: (&str, &str, &str) = ("the Rust", "#d95f02", " stroke-dasharray=\"5 3\"");

@@ -1,7 +1,7 @@
 //! The tables of docs/SPEED.md, in Markdown.
 
 use crate::clock::{pair, Pair};
-use crate::kinds::{kinds, HURTING, TYPICAL};
+use crate::kinds::{kinds, result, HURTING, TYPICAL};
 use crate::plot::plot;
 use crate::shapes::{largest, SHAPES};
 use crate::{Elaborate, Named};
@@ -19,7 +19,7 @@ struct Row {
     time: Pair,
 }
 
-/// Time against size for a shape: bytes of the book, and what it takes.
+/// Time against size for a shape: bytes of the book or, where that is longer, of its result; and what it takes.
 pub type Series = (&'static str, Vec<(usize, Pair)>);
 
 /// Prints all tables as they are found; the plot is what comes back.
@@ -98,7 +98,10 @@ fn one_by_one(rows: &[Row]) -> String {
 }
 
 fn against_size(elaborate: Elaborate) -> Vec<Series> {
-    let point = |book: Vec<u8>| (book.len(), pair(elaborate, &book));
+    let point = |book: Vec<u8>| {
+        let bytes = book.len().max(result(&book).unwrap_or(0));
+        (bytes, pair(elaborate, &book))
+    };
     let of_shape = |shape| {
         KILOBYTES
             .map(|size| point(largest(shape, 1024 * size)))
