@@ -245,13 +245,20 @@ fn the_premise_looks_at_calls_and_chains_of_bodies() {
     assert!(!yes("macro f!() = nothing format m = f!() >>= tail"));
 }
 
-// The gate's program `listings` lists copies of examples.
+// The gate's program `listings` lists copies of examples; those of the nested mode's folder have its name before theirs.
 #[test]
 fn listed_books_are_the_examples() {
     let data = examples().join("../crates/listings/data");
     for entry in fs::read_dir(data).expect("data of listings") {
         let path = entry.expect("entry").path();
-        let original = examples().join(path.file_name().expect("name"));
+        let name = path
+            .file_name()
+            .and_then(|name| name.to_str())
+            .expect("name");
+        let original = match name.strip_prefix("nested-") {
+            Some(rest) => examples().join("nested").join(rest),
+            None => examples().join(name),
+        };
         assert_eq!(
             fs::read(&path).expect("copy"),
             fs::read(original).expect("original"),
