@@ -27,7 +27,7 @@ use Rattle.contents.specs.Listed.{Listed}
 use Rattle.contents.specs.Params.{ParamsPast}
 use Rattle.contents.proofs.Listed.{listed-kind, listed-size, listed-body, listed-deep, listed-next, book-listed}
 use Rattle.bodies.specs.Tested.{FormatTested, DefinitionTested, BodiesLeft, BodiesTested}
-use Rattle.bodies.proofs.Bools.{and-true}
+use Rattle.pieces.proofs.Bools.{and-true}
 
 size-here : {s : List ℕ} {p : ℕ} (c : Combinator) (z : List ℕ) → Here s p (wCombinator c z) → p + size c ≤ length s
 unfolding size

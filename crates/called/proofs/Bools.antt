@@ -1,7 +1,7 @@
 -- Laws of `&&` and `||`.
 -- Assumes nothing.
-use mathlib.Core.Path.{_≡_, refl, sym}
-use mathlib.Core.Bool.{Bool, true, false, not, cond, _&&_, _||_}
+use mathlib.Core.Path.{_≡_, refl}
+use mathlib.Core.Bool.{Bool, true, false, cond, _&&_, _||_}
 
 pub or-false : (b : Bool) → b || false ≡ b
 or-false true = refl
@@ -28,11 +28,3 @@ and-both true false x y = refl
 and-both false true true y = refl
 and-both false true false y = refl
 and-both false false x y = refl
-
-pub not-true : (b : Bool) → not b ≡ true → b ≡ false
-not-true true e = sym e
-not-true false e = refl
-
-pub not-false : (b : Bool) → not b ≡ false → b ≡ true
-not-false true e = refl
-not-false false e = sym e

@@ -1,14 +1,12 @@
 -- The test of a call, and of every call that is marked.
 -- Assumes nothing.
-use mathlib.Core.Path.{_≡_, refl, sym, _∙_}
+use mathlib.Core.Path.{_≡_, sym, _∙_}
 use mathlib.Core.Logic.{⊎-elim}
-use mathlib.Core.List.{List, [], _∷_}
-use mathlib.Core.Bool.{Bool, true, false, _&&_}
-use Prim.Native.Nat.{ℕ, suc, _+_, _-_, _≤_, _<_}
+use mathlib.Core.List.{List, []}
+use mathlib.Core.Bool.{true}
+use Prim.Native.Nat.{ℕ, _≤_, _<_}
 use native.Mathlib.Omega.{arith}
 use lib.Dec.{ltb}
-use lib.ListN.{length, drop, getD, length-drop}
-use lib.Seq.{drop-cons}
 use borrow.Author.Tests.{eq-eqb, ne-eqb, lt-ltb, le-ltb}
 use Rattle.definition.specs.Tree.{Name, Inners, invocation, macro-invocation}
 use Rattle.definition.specs.Names.{elem}
@@ -21,7 +19,6 @@ use Rattle.lookup.proofs.Names.{stands}
 use Rattle.writer.proofs.Put.{within}
 use Rattle.fresh.specs.Taken.{both, Found}
 use Rattle.fresh.proofs.Rows.{found-not, found-is}
-use Rattle.pieces.specs.Splice.{everyPlace}
 use Rattle.called.specs.Known.{rowNames, knownAt}
 
 -- a call
@@ -50,26 +47,3 @@ module _ (s places : List ℕ) (n : ℕ) where
   pub macro-known : (a : ℕ) (m : Name) (xs : Inners) (z : List ℕ) → Here s a (wInner (macro-invocation m xs) z) → knownAt s places n a ≡ true
   unfolding knownAt wInner
   macro-known a m xs z h = rw (byte-here h)
-
--- two marks for each call
-module _ (test : ℕ → Bool) (marks : List ℕ) (i : ℕ) (e : everyPlace test marks ≡ everyPlace test (drop i marks)) where
-  every-on : i + 1 < length marks → everyPlace test marks ≡ test (getD marks i 0) && everyPlace test (drop (i + 2) marks)
-  unfolding everyPlace
-  every-on h =
-      let k : i + 2 ≡ suc (suc i) = omega arith in
-      e ∙ rw (drop-cons marks i 0 (omega arith), drop-cons marks (suc i) 0 (omega arith), k)
-
-  pub every-next : i + 1 < length marks → {b : Bool} → b ≡ test (getD marks i 0) → b ≡ true → everyPlace test marks ≡ everyPlace test (drop (i + 2) marks)
-  every-next h q t = every-on h ∙ rw (sym q ∙ t)
-
-  pub every-stop : i + 1 < length marks → {b : Bool} → b ≡ test (getD marks i 0) → b ≡ false → false ≡ everyPlace test marks
-  every-stop h q t = sym (every-on h ∙ rw (sym q ∙ t))
-
-  pub every-end : length marks ≤ i + 1 → true ≡ everyPlace test marks
-  unfolding everyPlace
-  every-end h = sym (e ∙ short (drop i marks) (rw length-drop (omega arith)))
-    where
-      short : (l : List ℕ) → length l ≤ 1 → everyPlace test l ≡ true
-      short [] k = refl
-      short (a ∷ []) k = refl
-      short (a ∷ b ∷ l) k = absurd (omega arith)

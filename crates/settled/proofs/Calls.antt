@@ -20,7 +20,7 @@ use Rattle.lookup.proofs.Names.{stands}
 use Rattle.pieces.specs.Pieces.{Piece, raw, call, macro-call, pieces, piecesI, piecesF, piecesC, places, written}
 use Rattle.pieces.specs.Splice.{everyPlace}
 use Rattle.pieces.proofs.Written.{written-is}
-use Rattle.bodies.proofs.Bools.{and-true, and-assoc}
+use Rattle.pieces.proofs.Bools.{and-true, and-assoc}
 use Rattle.known.specs.declared.Found.the-variants.{At, Unknown}
 use Rattle.known.specs.Table.{FindsMacro}
 use Rattle.settled.specs.Calls.{everyMacro, unknownAt}

@@ -1,8 +1,8 @@
 -- `known::all_known` meets its contract.
 -- Assumes nothing.
 use borrow.Author.Needs.{needs}
-use Rattle.called.proofs.Bools.{not-true, not-false}
-use Rattle.called.proofs.Every.{every-next, every-stop, every-end}
+use borrow.Author.Tests.{not-true, not-false}
+use Rattle.bodies.proofs.Places.{every-next, every-stop, every-end}
 use Rattle.called.specs.Known.{knownAt}
 use Rattle.pieces.specs.Splice.{everyPlace}
 use lib.ListN.{length, drop}

@@ -2,7 +2,7 @@
 -- Assumes nothing.
 use borrow.Author.Needs.{needs}
 use Rattle.premise.proofs.Bodies.{left-none, left-out, left-step, bodies-hold}
-use Rattle.called.proofs.Bools.{not-true, not-false}
+use borrow.Author.Tests.{not-true, not-false}
 use Rattle.premise.specs.Holds.{BodiesLeft}
 use lib.ListN.{length}
 use mathlib.Core.Bool.{Bool}

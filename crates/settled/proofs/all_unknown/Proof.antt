@@ -1,7 +1,7 @@
 -- `settled::all_unknown` meets its contract.
 -- Assumes nothing.
 use Rattle.settled.proofs.Settling.{Marked, marked-all, marked-stop, marked-next, marked-end}
-use Rattle.bodies.proofs.Bools.{not-true, not-false}
+use borrow.Author.Tests.{not-true, not-false}
 use lib.ListN.{length}
 use Prim.Native.Nat.{_-_, _≤_}
 use native.Mathlib.Omega.{arith}

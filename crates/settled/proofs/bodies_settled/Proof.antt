@@ -4,7 +4,7 @@ use lib.ListN.{length}
 use mathlib.Core.Bool.{Bool}
 use mathlib.Core.Path.{_≡_, refl, _∙_}
 use native.Mathlib.Omega.{arith}
-use Rattle.bodies.proofs.Bools.{not-true, not-false}
+use borrow.Author.Tests.{not-true, not-false}
 use Rattle.settled.proofs.Settling.{Leaving, leaving-none, leaving-out, leaving-step, bodies-settle}
 use borrow.Author.Needs.{needs}
 use Rattle.settled.proofs.bodies_settled.Statement.{statement}
