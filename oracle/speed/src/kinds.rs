@@ -111,9 +111,27 @@ pub fn hurting() -> Vec<Named> {
             lone(nested(62, roots(7000), vec)),
         ),
         ("500 small definitions", (0..500).map(small).collect()),
+        (
+            "2,600 uses of the last of 1,000 labels",
+            lone(labelled(1000, 2600)),
+        ),
     ]
     .map(|(name, definitions)| (name.to_string(), written(definitions).expect("a book")))
     .to_vec()
+}
+
+/// So many labels that are bound, and as many uses of the last one: each use is looked up among all of them.
+fn labelled(labels: usize, uses: usize) -> Inner {
+    let name = |number: usize| {
+        let letter = |n: usize| char::from(b'A' + (n % 58) as u8);
+        [letter(number / 58), letter(number)]
+            .iter()
+            .collect::<String>()
+    };
+    let last = name(labels - 1);
+    let mut fields: Vec<_> = (0..labels).map(|n| dependent(&name(n), int())).collect();
+    fields.push(field("z", bytes(&vec![last.as_str(); uses])));
+    structure(fields)
 }
 
 /// A node inside so many others.
