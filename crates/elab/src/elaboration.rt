@@ -2,13 +2,16 @@
 use closing::Elaborated;
 use closing::lift_book;
 use nesting::elaborate_nested;
+use opening::Begun;
 use opening::Opened;
-use opening::open_book;
+use opening::begin;
+use opening::expand_book;
 use writer::zero_range;
 ghost use mathlib.Core.Path.{_≡_};
 ghost use lib.ListN.{length};
 ghost use Rattle.definition.specs.Answer.{attempt, answer, output, zeroed};
 ghost use Rattle.nested.specs.Nested.{answerNested, outputNested};
+ghost use Rattle.opening.specs.Opens.{Sound};
 ghost use Rattle.closing.specs.Elaborates.{reported, Reports};
 
 // The same in numbers, for callers in other languages.
@@ -20,15 +23,28 @@ pub struct Report {
     pub lifted: u32,
 }
 
-// The elaboration, with the work area left as it is then.
-fn attempt(book: &[u8], out: &mut [u8], work: &mut [u8]) -> Elaborated
+// The elaboration of a book with macros, which is expanded into an array of its own, with the work area left as it is then.
+fn attempt_expanded(book: &[u8], out: &mut [u8], work: &mut [u8]) -> Elaborated
+    requires { ⌜ Sound (now book) (length (now work)) ⌝ }
     ensures { λ r. ⌜ Reports (attempt (now (book .entry)) (length (now (out .entry))) (length (now (work .entry)))) (now (out .entry)) (now (out .exit)) r ⌝ }
 {
     let mut expanded = [0u8; 16384];
-    let opened = open_book(book, work, &mut expanded);
+    let opened = expand_book(book, work, &mut expanded);
     match opened {
         Opened::Refused { code } => Elaborated::Refused { code },
         Opened::Book { len } => lift_book(&expanded[..len], out),
+    }
+}
+
+// The elaboration of any book.
+fn attempt(book: &[u8], out: &mut [u8], work: &mut [u8]) -> Elaborated
+    ensures { λ r. ⌜ Reports (attempt (now (book .entry)) (length (now (out .entry))) (length (now (work .entry)))) (now (out .entry)) (now (out .exit)) r ⌝ }
+{
+    let begun = begin(book, work.len());
+    match begun {
+        Begun::Refused { code } => Elaborated::Refused { code },
+        Begun::Plain => lift_book(book, out),
+        Begun::Macros => attempt_expanded(book, out, work),
     }
 }
 

@@ -1,4 +1,4 @@
 mod Format
 mod Leftover
-mod Plain
+pub mod Plain
 mod Passing

@@ -54,7 +54,7 @@ same-all (constant n x ∷ ds) h = rw (same-all ds (omega (arith, h)))
 same-all (byte-order x ∷ ds) h = rw (same-all ds (omega (arith, h)))
 same-all (macro n ps c ∷ ds) h = absurd (omega (arith, h, kept-few ds))
 
-pass-plain : (ms ds : List Definition) → keptOf ms ≡ length ms → keptOf ds ≡ length ds → IsBook ds → pass ms ds ≡ done ds
+pub pass-plain : (ms ds : List Definition) → keptOf ms ≡ length ms → keptOf ds ≡ length ds → IsBook ds → pass ms ds ≡ done ds
 unfolding pass
 pass-plain ms ds h k i =
     let a : leb (sizeBook ds) 16384 ≡ true = le-leb (sizeBook ds) 16384 (i .short) in

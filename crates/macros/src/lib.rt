@@ -16,7 +16,7 @@ pub enum Expanded {
 }
 
 // Whether no definition of a book is a macro.
-fn has_no_macros(book: &[u8]) -> bool
+pub fn has_no_macros(book: &[u8]) -> bool
     ensures { λ r. ⌜ Macroless (now (book .entry)) r ⌝ }
 {
     let all = number(book, 0) as usize;

@@ -8,8 +8,11 @@ use Rattle.definition.specs.Code.{Code, number, work-short}
 use Rattle.definition.specs.Out.{Out, refused, done, _>>=_, given}
 use Rattle.definition.specs.Tree.{Definition}
 use Rattle.definition.specs.Write.{wBook}
+use Rattle.definition.specs.Macros.{expandBook}
 use Rattle.definition.specs.Answer.{expanded}
 use Rattle.laws.specs.Book.{IsBook}
+use Rattle.opening.specs.declared.Begun.{Begun}
+use Rattle.opening.specs.declared.Begun.the-variants as begun
 use Rattle.opening.specs.declared.Opened.{Opened}
 use Rattle.opening.specs.declared.Opened.the-variants.{Book, Refused}
 
@@ -30,6 +33,20 @@ pub record Expands (book : List ℕ) (workLength : ℕ) (out : List ℕ) (len : 
   pub isBook : IsBook left
   pub holds : take len out ≡ wBook left
   pub fits : len ≤ 16384
+
+-- codes 1 to 5 are passed: the definitions that were read, with their expansion left
+pub record Sound (book : List ℕ) (workLength : ℕ) : Type 0 where
+  pub source : List Definition
+  pub is : opened book workLength ≡ expandBook source
+  pub isBook : IsBook source
+  pub written : book ≡ wBook source
+  pub wide : 65536 ≤ workLength
+
+-- a book without macros is its own expansion
+abbrev pub Begins : List ℕ → ℕ → Begun → Type 0
+Begins book workLength begun.Plain = Sound book workLength × Expands book workLength book (length book)
+Begins book workLength begun.Macros = Sound book workLength
+Begins book workLength (begun.Refused code) = Refuses book workLength code
 
 abbrev pub OpensBy : List ℕ → ℕ → List ℕ → Opened → Type 0
 OpensBy book workLength out (Book len) = Expands book workLength out len

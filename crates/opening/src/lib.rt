@@ -2,9 +2,17 @@
 use book::read;
 use macros::Expanded;
 use macros::expand_macros;
+use macros::has_no_macros;
 use reader::Verdict;
 ghost use lib.ListN.{length};
-ghost use Rattle.opening.specs.Opens.{Opens};
+ghost use Rattle.opening.specs.Opens.{Sound, Begins, Opens};
+
+// A book that passes codes 1 to 5, without macros or with some; or a code.
+pub enum Begun {
+    Plain,
+    Macros,
+    Refused { code: u8 },
+}
 
 // The expanded book, which fills the output's first bytes, or a code.
 pub enum Opened {
@@ -12,25 +20,48 @@ pub enum Opened {
     Refused { code: u8 },
 }
 
-// Codes 1 to 6. The output has 16,384 bytes; the work area's first 32,768 are the two areas of an expansion.
-pub fn open_book(book: &[u8], work: &mut [u8], out: &mut [u8]) -> Opened
-    ensures { λ r. ⌜ Opens (now (book .entry)) (length (now (work .entry))) (length (now (out .entry))) (now (out .exit)) r ⌝ }
+// Codes 1 to 5, with a work area of so many bytes.
+pub fn begin(book: &[u8], work: usize) -> Begun
+    ensures { λ r. ⌜ Begins (now (book .entry)) work r ⌝ }
 {
-    if work.len() < 65536 {
-        return Opened::Refused { code: 1 };
+    if work < 65536 {
+        return Begun::Refused { code: 1 };
     }
     if 16384 < book.len() {
-        return Opened::Refused { code: 2 };
+        return Begun::Refused { code: 2 };
     }
     let verdict = read(book);
     match verdict {
-        Verdict::Refused(f) => Opened::Refused { code: f.code },
+        Verdict::Refused(f) => Begun::Refused { code: f.code },
         Verdict::Sound => {
-            let got = expand_macros(book, book, &mut work[..32768], out);
-            match got {
-                Expanded::Grown => Opened::Refused { code: 6 },
-                Expanded::Book { len } => Opened::Book { len },
+            if has_no_macros(book) {
+                return Begun::Plain;
             }
+            Begun::Macros
         }
+    }
+}
+
+// Code 6. The output has 16,384 bytes; the work area's first 32,768 are the two areas of an expansion.
+pub fn expand_book(book: &[u8], work: &mut [u8], out: &mut [u8]) -> Opened
+    requires { ⌜ Sound (now book) (length (now work)) ⌝ }
+    ensures { λ r. ⌜ Opens (now (book .entry)) (length (now (work .entry))) (length (now (out .entry))) (now (out .exit)) r ⌝ }
+{
+    let got = expand_macros(book, book, &mut work[..32768], out);
+    match got {
+        Expanded::Grown => Opened::Refused { code: 6 },
+        Expanded::Book { len } => Opened::Book { len },
+    }
+}
+
+// Codes 1 to 6.
+pub fn open_book(book: &[u8], work: &mut [u8], out: &mut [u8]) -> Opened
+    ensures { λ r. ⌜ Opens (now (book .entry)) (length (now (work .entry))) (length (now (out .entry))) (now (out .exit)) r ⌝ }
+{
+    let begun = begin(book, work.len());
+    match begun {
+        Begun::Refused { code } => Opened::Refused { code },
+        Begun::Plain => expand_book(book, work, out),
+        Begun::Macros => expand_book(book, work, out),
     }
 }
