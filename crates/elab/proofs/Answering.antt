@@ -4,18 +4,19 @@ use mathlib.Core.Path.{_≡_, refl}
 use mathlib.Core.List.{List}
 use mathlib.Core.Bool.{Bool, true, false}
 use Prim.Native.Nat.{ℕ}
+use native.Mathlib.Omega.{arith}
 use lib.Dec.{leb}
 use lib.ListN.{length, take}
+use lib.Seq.{take-all}
 use Rattle.definition.specs.Code.{work-short, output-short}
 use Rattle.definition.specs.Out.{Out, refused, done, _>>=_, given}
 use Rattle.definition.specs.Tree.{Definition}
 use Rattle.definition.specs.Write.{wBook}
 use Rattle.definition.specs.Lift.{liftBook}
 use Rattle.definition.specs.Answer.{expanded, elaborated, Result, all, outcome, attempt, answer, output}
-use Rattle.opening.specs.declared.Opened.the-variants.{Book, Refused as Stopped}
 use Rattle.closing.specs.declared.Elaborated.{Elaborated}
 use Rattle.closing.specs.declared.Elaborated.the-variants.{Refused}
-use Rattle.opening.specs.Opens.{opened, Opens}
+use Rattle.opening.specs.Opens.{opened, Refuses, Expands}
 use Rattle.closing.specs.Elaborates.{reported, Reports, lifted, Expanded, Lifts}
 use Rattle.closing.proofs.Reporting.{reports-refused, reports-lifted}
 
@@ -38,17 +39,29 @@ attempt-is b o n = both (leb 65536 n)
     both true = rw (elaborated-says b) (after (expanded b) (λ ds. outcome (liftBook ds)) (λ r. fits r))
     both false = refl
 
-module _ {b : List ℕ} {n m : ℕ} {book : List ℕ} (long : m ≡ 16384) where
+module _ {b : List ℕ} {n : ℕ} where
   -- codes 1 to 6
-  pub reports-code : {out : List ℕ} {code : ℕ} → Opens b n m book (Stopped code) → Reports (attempt b (length out) n) out out (Refused code)
-  reports-code {out} o = rw (attempt-is b (length out) n) (reports-refused (o .by long .is) (o .by long .numbered))
+  pub reports-code : {out : List ℕ} {code : ℕ} → Refuses b n code → Reports (attempt b (length out) n) out out (Refused code)
+  reports-code {out} r = rw (attempt-is b (length out) n) (reports-refused (r .is) (r .numbered))
 
-  module _ {len : ℕ} (o : Opens b n m book (Book len)) where
+  -- the expanded book in the first bytes of another
+  module _ {book : List ℕ} {len : ℕ} (o : Expands b n book len) where
     pub opened-book : Expanded (take len book)
-    opened-book = record { of = o .by long .left; book = o .by long .holds; isBook = o .by long .isBook }
+    opened-book = record { of = o .left; book = o .holds; isBook = o .isBook }
 
     pub reports-lifts : {out out′ : List ℕ} {r : Elaborated} → Lifts (take len book) out out′ r → Reports (attempt b (length out) n) out out′ r
-    reports-lifts {out} l = rw (attempt-is b (length out) n) (reports-lifted (o .by long .is) (o .by long .holds) (o .by long .isBook) l)
+    reports-lifts {out} l = rw (attempt-is b (length out) n) (reports-lifted (o .is) (o .holds) (o .isBook) l)
+
+  -- the book itself, where it is its own expansion
+  module _ (o : Expands b n b (length b)) where
+    whole : take (length b) b ≡ b
+    whole = take-all (length b) b (omega arith)
+
+    pub plain-book : Expanded b
+    plain-book = rw whole at (opened-book o)
+
+    pub reports-plain : {out out′ : List ℕ} {r : Elaborated} → Lifts b out out′ r → Reports (attempt b (length out) n) out out′ r
+    reports-plain {out} {out′} {r} l = reports-lifts o (rw whole l)
 
 module _ (b : List ℕ) {out out′ : List ℕ} (n : ℕ) {r : Elaborated} (p : Reports (attempt b (length out) n) out out′ r) where
   pub answers-it : reported r ≡ answer b (length out) n

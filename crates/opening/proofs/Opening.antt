@@ -94,14 +94,16 @@ module _ (b : List ℕ) (n : ℕ) where
       pub begins-plain : {r : Bool} → Passes b n → Macroless b r → r ≡ true → Begins b n begun.Plain
       begins-plain p m t =
           let ds = p .source in
-          let k = m .says t ds (p .written) (p .isBook) in
-          (p, record {
-            left = ds;
-            is = p .is ∙ expand-says ds ∙ pass-plain ds ds k k (p .isBook);
-            isBook = p .isBook;
-            holds = take-all (length b) b (omega arith) ∙ p .written;
-            fits = l;
-          })
+          let k = m .says t ds (p .written) (p .isBook) in (
+            p,
+            record {
+              left = ds;
+              is = p .is ∙ expand-says ds ∙ pass-plain ds ds k k (p .isBook);
+              isBook = p .isBook;
+              holds = take-all (length b) b (omega arith) ∙ p .written;
+              fits = l;
+            },
+          )
 
 module _ (b : List ℕ) (n size : ℕ) (out : List ℕ) (p : Passes b n) (small : Bytes b) {areas area : List ℕ} (long : length areas ≡ 32768) (is : size ≡ length area) {x : Expanded} (q : Passed b b areas area out x) where
   passed : size ≡ 16384 → (x ≡ answerOf (pass (p .source) (p .source))) × leaves (pass (p .source) (p .source)) area out
