@@ -1,7 +1,7 @@
 // One lift of the naming pass: its parameters and their binders, its row, its name.
-use fresh::take_name;
 use lookup::name_at;
 use lookup::same_name;
+use taken::take_name;
 use uses::name_of_use;
 ghost use mathlib.Core.Path.{_≡_};
 ghost use Prim.Native.Nat.{_≤_, _<_, _+_, _*_, _/_, _%_, min};
