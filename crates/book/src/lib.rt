@@ -36,7 +36,7 @@ fn two(s: &[u8], at: usize) -> usize
 }
 
 // The entry at the cursor, whose body has to start at `want`.
-pub fn entry(s: &[u8], c: Cursor, want: usize, more: u8) -> EntryStep
+fn entry(s: &[u8], c: Cursor, want: usize, more: u8) -> EntryStep
     ensures { λ r. ⌜ Found (now (s .entry)) (c .at) want (6 + more) r (entryOf (6 + more) (length (now (s .entry))) want (drop (c .at) (now (s .entry)))) ⌝ }
 {
     let at = c.at;
@@ -115,7 +115,7 @@ fn row(s: &[u8], n: usize, more: u8) -> Walked
 }
 
 // The contents whole: how many entries, and where the first body starts.
-pub fn contents(s: &[u8], more: u8) -> NumberStep
+fn contents(s: &[u8], more: u8) -> NumberStep
     ensures { λ r. ⌜ Tabled (now (s .entry)) (6 + more) r ⌝ }
 {
     match count(s) {
@@ -155,7 +155,7 @@ fn bodies(s: &[u8], n: usize, more: u8) -> Verdict
 }
 
 // A book whose entries have `more` bytes behind their six.
-pub fn book(s: &[u8], more: u8) -> Verdict
+fn book(s: &[u8], more: u8) -> Verdict
     ensures { λ r. ⌜ r ≡ verdict (length (now (s .entry))) (bookOf (6 + more) (now (s .entry))) ⌝ }
 {
     match contents(s, more) {

@@ -17,8 +17,8 @@ use Rattle.seek.proofs.Here.{byte-here, next-here}
 use Rattle.lookup.specs.Name.{nameAt}
 use Rattle.lookup.proofs.Names.{stands}
 use Rattle.writer.proofs.Put.{within}
-use Rattle.fresh.specs.Taken.{both, Found}
-use Rattle.fresh.proofs.Rows.{found-not, found-is}
+use Rattle.taken.specs.Taken.{both, Found}
+use Rattle.taken.proofs.Rows.{found-not, found-is}
 use Rattle.called.specs.Known.{rowNames, knownAt}
 
 -- a call

@@ -13,7 +13,7 @@ use Rattle.laws.specs.Book.{IsBook}
 use Rattle.seek.specs.At.{byteAt, pastAt, pick}
 use Rattle.seek.specs.Here.{Here}
 use Rattle.lookup.specs.Name.{nameAt}
-use Rattle.fresh.specs.Taken.{both, taken, Table, Hints}
+use Rattle.taken.specs.Taken.{both, taken, Table, Hints}
 use Rattle.contents.specs.Listed.{Listed}
 
 -- the first n rows are right, whatever the generated names are: all of them stand in the book

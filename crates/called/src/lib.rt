@@ -1,10 +1,10 @@
 // The names that may be called, in a table, and the test of the calls that are marked, on validated bytes.
-use fresh::find_name;
-use fresh::take_source_name;
 use lookup::name_at;
 use seek::byte;
 use seek::number;
 use seek::past;
+use taken::find_name;
+use taken::take_source_name;
 ghost use mathlib.Core.Path.{_≡_};
 ghost use Rattle.pieces.specs.Splice.{everyPlace};
 ghost use Rattle.called.specs.Known.{Takes, Named, Rows, knownAt};

@@ -41,7 +41,7 @@ fn wide(b: u8) -> usize
 }
 
 impl Cursor {
-    pub fn byte(self, s: &[u8]) -> ByteStep
+    fn byte(self, s: &[u8]) -> ByteStep
         ensures { λ r. ⌜ Takes (now (s .entry)) (self .at) (ofByte r) byteOf ⌝ }
     {
         let at = self.at;

@@ -1,5 +1,3 @@
-pub mod Rows
 pub mod Order
 pub mod FreeNames
-pub mod Take
 pub mod Chosen

@@ -12,7 +12,7 @@ use Rattle.definition.specs.Tree.{Name}
 use Rattle.definition.specs.Names.{elem, numbered, firstFree, fresh}
 use Rattle.writer.proofs.Put.{within}
 use Rattle.names.specs.Name.{Held}
-use Rattle.fresh.specs.Taken.{Store, Table, Hints, Packed}
+use Rattle.taken.specs.Taken.{Store, Table, Hints, Packed}
 
 -- The first free name goes by which names are taken and by how many, in whatever order
 module _ (a b : List Name) (same : (x : Name) → elem x a ≡ elem x b) where

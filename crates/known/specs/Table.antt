@@ -13,7 +13,7 @@ use Rattle.definition.specs.Macros.{Macro, macros, instance, innerOf, expandMac
 use Rattle.laws.specs.Book.{IsBook}
 use Rattle.nested.specs.Nested.{isMacro}
 use Rattle.seek.specs.Here.{Here}
-use Rattle.fresh.specs.Taken.{hashOf}
+use Rattle.taken.specs.Taken.{hashOf}
 use Rattle.contents.specs.Listed.{Listed}
 use Rattle.substitution.specs.Call.{Defined}
 use Rattle.known.specs.declared.Found.{Found}

@@ -19,7 +19,7 @@ use Rattle.writer.specs.Buf.{put, nameBytes}
 use Rattle.writer.proofs.Put.{length-put, getD-put-at}
 use Rattle.uses.specs.Uses.{namesIn}
 use Rattle.tables.specs.Rows.{Row, rowAt, rowsOf, namesFrom, typesFrom}
-use Rattle.fresh.specs.Taken.{both, taken, Table, Hints, Packed, Grown, Took}
+use Rattle.taken.specs.Taken.{both, taken, Table, Hints, Packed, Grown, Took}
 use Rattle.lift.specs.declared.Counts.{Counts}
 use Rattle.lift.specs.declared.Lifted.{Lifted}
 use Rattle.lift.specs.declared.Lifted.the-variants.{Made, Refused}

@@ -5,7 +5,7 @@ use Prim.Native.Nat.{ℕ, _+_, _*_, _≤_, _<_}
 use lib.ListN.{getD, set}
 use Rattle.definition.specs.Tree.{Name}
 use Rattle.lift.specs.Bound.{Bound}
-use Rattle.fresh.specs.Taken.{Took}
+use Rattle.taken.specs.Taken.{Took}
 use Rattle.lift.specs.Sheet.{sheetOf, enters, Tables, withRow, Gives}
 use Rattle.lift.specs.declared.Counts.{Counts}
 use Rattle.lift.specs.declared.Lifted.{Lifted}

@@ -10,7 +10,7 @@ use Rattle.definition.specs.Code.{number, leftover-macro, name-long, no-binder,
 use Rattle.definition.specs.Res.{Maybe, absent, just, Res, bad, ok, _>>=_, require}
 use Rattle.definition.specs.Tree.{Name}
 use Rattle.definition.specs.Names.{fresh}
-use Rattle.fresh.specs.Taken.{both, taken, Table, Hints, Packed}
+use Rattle.taken.specs.Taken.{both, taken, Table, Hints, Packed}
 use Rattle.tables.specs.Rows.{Row, rowsOf}
 use Rattle.lift.specs.Bound.{Bound, typeOf, bindersOf, namesSize, typesSize}
 use Rattle.lift.specs.declared.Counts.{Counts}

@@ -1,7 +1,7 @@
 // One lift of the naming pass: its parameters and their binders, its row, its name.
-use fresh::take_name;
 use lookup::name_at;
 use lookup::same_name;
+use taken::take_name;
 use uses::name_of_use;
 ghost use mathlib.Core.Path.{_≡_};
 ghost use Prim.Native.Nat.{_≤_, _<_, _+_, _*_, _/_, _%_, min};
@@ -43,7 +43,7 @@ fn entry(t: &[u16], i: usize) -> u16
     0
 }
 
-pub fn fetch(t: &[u16], i: usize) -> usize
+fn fetch(t: &[u16], i: usize) -> usize
     ensures { λ r. ⌜ (r ≡ getD (now (t .entry)) i 0) × (r ≤ 65535) ⌝ }
 {
     let x = entry(t, i);
@@ -65,7 +65,7 @@ pub fn store(t: &mut [u16], i: usize, x: usize)
 }
 
 // The number of the first binder of a name among the first b, or b.
-pub fn find_binder(s: &[u8], name: &[u8], binders: &[u16], b: usize) -> usize
+fn find_binder(s: &[u8], name: &[u8], binders: &[u16], b: usize) -> usize
     requires { ⌜ b ≤ 65536 ⌝ }
     ensures { λ r. ⌜ First (now (s .entry)) (now (binders .entry)) (now (name .entry)) b r ⌝ }
 {
@@ -97,7 +97,7 @@ fn put_param(x: u32, binders: &[u16], j: usize, params: &mut [u16], i: usize)
 }
 
 // The parameters of a lift, one for each of the first k uses, from number `first` on.
-pub fn build_param_defns(
+fn build_param_defns(
     s: &[u8],
     uses: &[u32],
     k: usize,

@@ -14,7 +14,7 @@ ghost use Rattle.writer.specs.Buf.{Wrote};
 ghost use Rattle.names.specs.Name.{Held, Child};
 
 // The segment of a label.
-pub fn generated_segment(label: &[u8], dst: &mut [u8], at: usize) -> usize
+fn generated_segment(label: &[u8], dst: &mut [u8], at: usize) -> usize
     ensures { λ r. ⌜ Wrote (now (dst .entry)) at (segment (now (label .entry))) (now (dst .exit)) r ⌝ }
 {
     if dst.len() < at {

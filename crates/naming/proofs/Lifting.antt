@@ -27,7 +27,7 @@ use Rattle.params.specs.declared.Params.the-variants.{Sorted, Leftover}
 use Rattle.params.specs.Params.{paramsAt}
 use Rattle.params.proofs.Parameters.{params-leftover, params-count, params-names}
 use Rattle.names.specs.Name.{Held}
-use Rattle.fresh.specs.Taken.{both, taken, Hints}
+use Rattle.taken.specs.Taken.{both, taken, Hints}
 use Rattle.names.proofs.Held.{held-whole, held-length}
 use Rattle.lift.specs.declared.Counts.{Counts}
 use Rattle.lift.specs.declared.Lifted.{Lifted}

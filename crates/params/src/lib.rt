@@ -53,7 +53,7 @@ fn each_once(s: &[u8], uses: &mut [u32], n: usize) -> usize
 }
 
 // The first n uses in the byte order of their names, each name once; gives how many are left. 24 halvings are enough for 2 ^ 24 uses.
-pub fn sorted_params(s: &[u8], uses: &mut [u32], n: usize, spare: &mut [u32]) -> usize
+fn sorted_params(s: &[u8], uses: &mut [u32], n: usize, spare: &mut [u32]) -> usize
     ensures { λ r. ⌜ (r ≡ sortedBy (now (s .entry)) (now (uses .entry)) n (now (spare .entry)) .0) × (now (uses .exit) ≡ sortedBy (now (s .entry)) (now (uses .entry)) n (now (spare .entry)) .1) × (now (spare .exit) ≡ sortedBy (now (s .entry)) (now (uses .entry)) n (now (spare .entry)) .2) ⌝ }
 {
     let held = least(n, uses.len());

@@ -88,7 +88,7 @@ fn macro_body(s: &[u8], c: Cursor) -> Walked
 }
 
 // A definition of a kind, from the cursor on.
-pub fn definition(s: &[u8], c: Cursor, kind: u8) -> Walked
+fn definition(s: &[u8], c: Cursor, kind: u8) -> Walked
     ensures { λ r. ⌜ Walks (now (s .entry)) (c .at) r (ofKind kind) ⌝ }
 {
     let at = c.at;

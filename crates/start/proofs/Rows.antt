@@ -18,7 +18,7 @@ use Rattle.seek.specs.Here.{Here}
 use Rattle.seek.proofs.Here.{past-here, number-here}
 use Rattle.lookup.specs.Name.{nameAt}
 use Rattle.lookup.proofs.Names.{stands}
-use Rattle.fresh.specs.Taken.{taken, Listed as Row}
+use Rattle.taken.specs.Taken.{taken, Listed as Row}
 use Rattle.contents.specs.Listed.{Listed}
 use Rattle.contents.proofs.Listed.{past-is, listed-kind, listed-body, listed-next, book-listed}
 use Rattle.start.specs.Rows.{Book, Entry, Rows, Takes, AtStart}

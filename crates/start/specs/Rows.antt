@@ -7,7 +7,7 @@ use Rattle.definition.specs.Tree.{Name, Definition}
 use Rattle.definition.specs.Write.{wBook}
 use Rattle.definition.specs.Lift.{names}
 use Rattle.laws.specs.Book.{IsBook}
-use Rattle.fresh.specs.Taken.{both, taken, Table, Hints, Packed}
+use Rattle.taken.specs.Taken.{both, taken, Table, Hints, Packed}
 use Rattle.contents.specs.Listed.{Listed}
 
 pub record Book (s : List ℕ) : Type 0 where

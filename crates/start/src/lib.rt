@@ -1,8 +1,8 @@
 // The names that are taken at the start of the naming pass.
-use fresh::take_source_name;
 use seek::byte;
 use seek::number;
 use seek::past;
+use taken::take_source_name;
 ghost use Prim.Native.Nat.{_≤_, _<_};
 ghost use lib.ListN.{length};
 ghost use Rattle.start.specs.Rows.{Book, Entry, Takes, AtStart};

@@ -50,7 +50,7 @@ fn lead_of_three(b: u8) -> Awaits
 }
 
 // What the first byte of a character wants behind it; of a byte that starts no character, what no byte meets.
-pub fn lead(b: u8) -> Awaits
+fn lead(b: u8) -> Awaits
     ensures { λ r. ⌜ behind b ≡ ranges r ⌝ }
 {
     if b < 0x80 {
@@ -69,7 +69,7 @@ pub fn lead(b: u8) -> Awaits
 }
 
 // One byte further: the first of a character, or one that the character wants.
-pub fn next(a: Awaits, b: u8) -> Awaits
+fn next(a: Awaits, b: u8) -> Awaits
     ensures { λ r. ⌜ ((t : List ℕ) → characters (ranges a) (b ∷ t) ≡ characters (ranges r) t) ⌝ }
 {
     let left = a.left;
@@ -97,7 +97,7 @@ pub fn next(a: Awaits, b: u8) -> Awaits
     }
 }
 
-pub fn utf8(t: &[u8]) -> bool
+fn utf8(t: &[u8]) -> bool
     ensures { λ r. ⌜ r ≡ wellFormed (now (t .entry)) ⌝ }
 {
     let mut state = Awaits {
@@ -113,7 +113,7 @@ pub fn utf8(t: &[u8]) -> bool
     state.left == 0
 }
 
-pub fn no_dot(t: &[u8]) -> bool
+fn no_dot(t: &[u8]) -> bool
     ensures { λ r. ⌜ r ≡ noDot (now (t .entry)) ⌝ }
 {
     let mut i = 0;

@@ -6,7 +6,7 @@ use Rattle.called.proofs.take_defined.Statement.{statement}
 use Rattle.called.proofs.take_defined.Tie as tie
 use Rattle.called.proofs.take_defined.Reads as reads
 use Rattle.called.proofs.take_defined.Lts as lts
-use Rattle.fresh.proofs.take_source_name.Reads as take-source-name-reads
+use Rattle.taken.proofs.take_source_name.Reads as take-source-name-reads
 
 returns : tie.Need-returns
 returns c = takes-low (c .if1 .taken)

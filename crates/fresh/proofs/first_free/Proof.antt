@@ -1,6 +1,6 @@
--- `names::fresh::first_free` meets its contract.
+-- `fresh::first_free` meets its contract.
 -- Assumes nothing.
-use Rattle.fresh.specs.Taken.{both, taken}
+use Rattle.taken.specs.Taken.{both, taken}
 use Rattle.writer.proofs.Wrote as written
 use Prim.Native.Nat.{_-_}
 use Rattle.fresh.proofs.FreeNames.{Trying, trying-none, search-stops, search-goes-on, search-ends}

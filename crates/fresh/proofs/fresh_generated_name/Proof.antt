@@ -1,4 +1,4 @@
--- `names::fresh::fresh_generated_name` meets its contract.
+-- `fresh::fresh_generated_name` meets its contract.
 -- Assumes nothing.
 use lib.ListN.{length-take}
 use Rattle.fresh.proofs.Chosen.{chosen-base, chosen-long, chosen-number, hints-kept}

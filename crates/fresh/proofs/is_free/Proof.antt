@@ -1,4 +1,4 @@
--- `names::fresh::is_free` meets its contract.
+-- `fresh::is_free` meets its contract.
 -- Assumes nothing.
 use lib.ListN.{length-take}
 use Rattle.fresh.proofs.FreeNames.{tells-long, tells-found}

@@ -1,14 +1,14 @@
--- `names::fresh::row_is` meets its contract.
+-- `taken::row_is` meets its contract.
 -- Assumes nothing.
-use Rattle.fresh.specs.Taken.{row}
+use Rattle.taken.specs.Taken.{row}
 use Rattle.lookup.specs.Name.{nameOf}
 use Rattle.lookup.specs.declared.Place.{Place}
 use Rattle.definition.specs.Names.{eqName}
-use Rattle.fresh.proofs.Rows.{hash-ne}
+use Rattle.taken.proofs.Rows.{hash-ne}
 use mathlib.Core.Path.{sym, ap, _∙_}
 use borrow.Author.Needs.{needs}
-use Rattle.fresh.proofs.row_is.Statement.{statement}
-use Rattle.fresh.proofs.row_is.Tie as tie
+use Rattle.taken.proofs.row_is.Statement.{statement}
+use Rattle.taken.proofs.row_is.Tie as tie
 
 returns : tie.Need-returns
 returns c = let p = c .before .before .before .before .before .before .before .pre in sym (hash-ne _ _ _ _ (p .0) (p .3) (c .if1 .taken))

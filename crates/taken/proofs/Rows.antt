@@ -13,7 +13,7 @@ use lib.Seq.{drop-cons}
 use Rattle.definition.specs.Tree.{Name}
 use Rattle.definition.specs.Names.{eqName, elem}
 use Rattle.lookup.proofs.Names.{yes-no, clash, ne-length, ne-name, eqName-true}
-use Rattle.fresh.specs.Taken.{Store, row, taken, hashFrom, hashOf, Table, Hashed, Found}
+use Rattle.taken.specs.Taken.{Store, row, taken, hashFrom, hashOf, Table, Hashed, Found}
 
 -- ---- hashes
 hash-more : (name : Name) (i h : ℕ) → i < length name → hashFrom h (drop i name) ≡ hashFrom ((h * 31 + getD name i 0) % 65536) (drop (i + 1) name)

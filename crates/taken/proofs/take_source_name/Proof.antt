@@ -1,13 +1,13 @@
--- `names::fresh::take_source_name` meets its contract.
+-- `taken::take_source_name` meets its contract.
 -- Assumes nothing.
-use Rattle.fresh.specs.Taken.{hashOf}
+use Rattle.taken.specs.Taken.{hashOf}
 use lib.ListN.{set}
-use Rattle.fresh.proofs.Take.{listed}
+use Rattle.taken.proofs.Take.{listed}
 use mathlib.Core.Path.{ap, _∙_}
 use native.Mathlib.Omega.{arith}
 use borrow.Author.Needs.{needs}
-use Rattle.fresh.proofs.take_source_name.Statement.{statement}
-use Rattle.fresh.proofs.take_source_name.Tie as tie
+use Rattle.taken.proofs.take_source_name.Statement.{statement}
+use Rattle.taken.proofs.take_source_name.Tie as tie
 
 returns : tie.Need-returns
 returns c =

@@ -1,11 +1,11 @@
--- `names::fresh::take_name` meets its contract.
+-- `taken::take_name` meets its contract.
 -- Assumes nothing.
 use lib.ListN.{set}
-use Rattle.fresh.proofs.Take.{took}
+use Rattle.taken.proofs.Take.{took}
 use mathlib.Core.Path.{ap, _∙_}
 use borrow.Author.Needs.{needs}
-use Rattle.fresh.proofs.take_name.Statement.{statement}
-use Rattle.fresh.proofs.take_name.Tie as tie
+use Rattle.taken.proofs.take_name.Statement.{statement}
+use Rattle.taken.proofs.take_name.Tie as tie
 
 returns : tie.Need-returns
 returns c =
