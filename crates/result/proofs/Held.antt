@@ -26,7 +26,9 @@ use Rattle.lifting.proofs.Calls.{calls-end, calls-copy, calls-stretch}
 use Rattle.lifting.proofs.Refs.{AllRefs}
 use Rattle.lifting.proofs.Standing.{Stood}
 use Rattle.result.specs.Model as model
-use Rattle.result.specs.Model.{Tables, namesBytes, calledBytes, callBytes, goes, onFrom, spliced, innerEnd, passedBytes, paramsBytes}
+use Rattle.splice.specs.Model as by-numbers
+use Rattle.splice.specs.Model.{Tables, namesBytes, calledBytes, callBytes, goes, onFrom, spliced}
+use Rattle.result.specs.Model.{innerEnd, passedBytes, paramsBytes}
 use Rattle.result.specs.Held.{Numbers}
 use Rattle.result.proofs.Levels.{fewI}
 
@@ -79,8 +81,8 @@ room s p l e h = let a : length s - p ≡ length l = sym (length-drop p s) ∙ a
 
 module _ (t : Tables) (rs : List Record) (agree : (p : ℕ) → p < length (t .book) → Knows t (find rs p) (getD (t .number) p 0)) where
   placed-is : (at : ℕ) (m : Maybe Record) (k : ℕ) → at < length (t .book) → Knows t m k → (f g : ℕ → List ℕ) → ((l : ℕ) → f l ≡ g l)
-      → model.placed t k at f ≡ by-records.placed m at (getD (t .book) at 0) g
-  unfolding model.placed by-records.placed
+      → by-numbers.placed t k at f ≡ by-records.placed m at (getD (t .book) at 0) g
+  unfolding by-numbers.placed by-records.placed
   placed-is at absent k h a f g e = rw (a, one-byte (t .book) at h, e 0)
   placed-is at (just r) k h a f g e = rw (a .numbers .is, a .numbers .holds, e (r .end - suc at)) (call-is r (g (r .end - suc at)) (a .named) (a .needed))
 

@@ -10,7 +10,7 @@ use lib.ListN.{length, getD}
 use Rattle.definition.specs.Res.{Maybe, absent, just}
 use Rattle.lifting.specs.Records.{Record, orElse, find}
 use Rattle.tables.specs.Rows.{Row, rowOf, rowsOf, later, lastFrom}
-use Rattle.result.specs.Model.{Tables, row}
+use Rattle.splice.specs.Model.{Tables, row}
 use Rattle.result.specs.Held.{Agrees}
 
 module _ (t : Tables) where

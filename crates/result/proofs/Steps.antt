@@ -1,144 +1,20 @@
 -- The model in the code's own terms: a loop's end, and one step of it.
 -- Assumes nothing.
-use mathlib.Core.Path.{_≡_, refl, sym, ap, _∙_}
-use mathlib.Core.List.{List, [], _∷_, _++_, append-assoc, append-nil}
-use Prim.Native.Nat.{ℕ, zero, suc, _+_, _*_, _-_, _≤_, _<_, min, max}
-use native.Mathlib.Numerals.{add-one, sub-one}
+use mathlib.Core.Path.{_≡_, refl}
+use mathlib.Core.List.{List, [], _∷_, _++_}
+use Prim.Native.Nat.{ℕ, zero, suc, _+_, _*_, _-_, _≤_, _<_}
+use native.Mathlib.Numerals.{sub-one}
 use native.Mathlib.Omega.{arith}
-use lib.ListN.{length, take, drop, getD, drop-of-length-le}
-use mathlib.Core.Bool.{Bool, true, false}
-use lib.Dec.{leb}
-use lib.Seq.{take-nil}
-use Rattle.writer.specs.Buf.{after, part, Wrote, nameBytes}
-use borrow.Author.Tests.{leb-true, leb-false, eq-eqb, ne-eqb}
-use Rattle.writer.proofs.Put.{put-nil, part-back, part-split}
-use Rattle.writer.proofs.Wrote.{place-is, same-length, glue}
+use lib.ListN.{length, getD}
+use borrow.Author.Tests.{eq-eqb, ne-eqb}
+use Rattle.definition.specs.Write.{wU16}
+use Rattle.writer.specs.Buf.{part, nameBytes}
 use Rattle.lookup.specs.Name.{nameAt}
 use Rattle.seek.specs.At.{numberAt}
 use Rattle.tables.specs.Rows.{rowAt, namesFrom, typesFrom}
-use Rattle.definition.specs.Write.{wU16}
-use Rattle.result.specs.Model.{Tables, row, namesBytes, calledBytes, callBytes, placed, goes, onFrom, spliced, innerEnd, passedBytes, typeBytes, paramName, paramType, paramsBytes, liftedBytes, keptBytes}
-
--- nothing more is written, at a place that an earlier write left
-pub wrote-nothing : (d : List ℕ) (at : ℕ) → at ≤ suc (length d) → Wrote d at [] d at
-unfolding after
-wrote-nothing d at h = record { place = omega arith; holds = sym (put-nil d at) }
-
-pub place-within : {d : List ℕ} {at : ℕ} {p d′ : List ℕ} {r : ℕ} → Wrote d at p d′ r → r ≤ suc (length d′)
-place-within w = omega (arith, place-is w, same-length w)
-
--- the same bytes, named otherwise
-pub wrote-as : {d : List ℕ} {at : ℕ} {p q d′ : List ℕ} {r : ℕ} → p ≡ q → Wrote d at q d′ r → Wrote d at p d′ r
-wrote-as e w = rw e w
-
--- whoever writes q from here on has written p from the start
-pub record Rest (d : List ℕ) (at : ℕ) (p d′ : List ℕ) (o : ℕ) (q : List ℕ) : Type 0 where
-  pub then : (e : List ℕ) (r : ℕ) → Wrote d′ o q e r → Wrote d at p e r
-
-pub rest-all : (d : List ℕ) (at : ℕ) (p : List ℕ) → Rest d at p d at p
-rest-all d at p = record { then = λ e r w. w }
-
-module _ {d : List ℕ} {at : ℕ} {p d′ : List ℕ} {o : ℕ} where
-  pub rest-on : {q₀ : List ℕ} (q : List ℕ) {z d″ : List ℕ} {o′ : ℕ} → Rest d at p d′ o q₀ → q₀ ≡ q ++ z → Wrote d′ o q d″ o′ → Rest d at p d″ o′ z
-  rest-on q {z} g e w = record { then = λ x r v. g .then x r (rw e (glue w v)) }
-
-  pub rest-same : {q z : List ℕ} → Rest d at p d′ o q → q ≡ z → Rest d at p d′ o z
-  rest-same g e = rw e at g
-
-  pub rest-end : {q : List ℕ} → Rest d at p d′ o q → q ≡ [] → o ≤ suc (length d′) → Wrote d at p d′ o
-  rest-end g e h = g .then d′ o (rw e (wrote-nothing d′ o h))
-
-pub bytes-none : (s : List ℕ) (at n : ℕ) → length s ≤ at → [] ≡ take n (drop at s)
-bytes-none s at n h = rw (drop-of-length-le s {i = at} h, take-nil n)
-
--- names
-module _ (s params : List ℕ) where
-  pub length-names : (j n : ℕ) → length (namesFrom s params j n) ≡ n
-  unfolding namesFrom
-  length-names j zero = refl
-  length-names j (suc n) = ap suc (length-names (j + 1) n)
-
-  pub names-more : (j n : ℕ) {name : List ℕ} → 0 < n → name ≡ paramName s params j → namesBytes (namesFrom s params j n) ≡ nameBytes name ++ namesBytes (namesFrom s params (j + 1) (n - 1))
-  unfolding namesFrom namesBytes
-  names-more j zero h e = absurd (omega arith)
-  names-more j (suc n) h e = rw (e, sub-one)
-
-  pub names-done : (j n : ℕ) → n ≤ 0 → namesBytes (namesFrom s params j n) ≡ []
-  unfolding namesFrom namesBytes
-  names-done j zero h = refl
-  names-done j (suc n) h = absurd (omega arith)
-
--- a range with its calls
-module _ (t : Tables) where
-  over : (k n at : ℕ) → goes t (n + k) at k ≡ goes t n (at + k) 0
-  unfolding goes
-  over zero n at = let e : n + 0 ≡ n = omega arith in let f : at + 0 ≡ at = omega arith in rw (e, f)
-  over (suc k) n at =
-      let e : n + suc k ≡ suc (n + k) = omega arith in
-      let f : at + suc k ≡ suc at + k = omega arith in
-      rw (e, f) (over k n (suc at))
-
-  past : (n at k : ℕ) → n ≤ k → goes t n at k ≡ []
-  unfolding goes
-  past zero at k h = refl
-  past (suc n) at zero h = absurd (omega arith)
-  past (suc n) at (suc k) h = past n (suc at) k (omega arith)
-
-  -- leaving out a number of places, perhaps more than there are
-  skip : (n at k : ℕ) → goes t n at k ≡ goes t (n - k) (at + k) 0
-  skip n at k = by (leb k n) (λ e. leb-true k n e) (λ e. leb-false k n e)
-    where
-      by : (b : Bool) → (b ≡ true → k ≤ n) → (b ≡ false → n < k) → goes t n at k ≡ goes t (n - k) (at + k) 0
-      by true f g = let h = f refl in let e : n ≡ (n - k) + k = omega arith in ap (λ (m : ℕ). goes t m at k) e ∙ over k (n - k) at
-      by false f g = let h = g refl in let e : n - k ≡ 0 = omega arith in past n at k (omega arith) ∙ sym (rw e (past 0 (at + k) 0 (omega arith)))
-
-  pub on-end : (from to : ℕ) → to ≤ from → onFrom t from to ≡ []
-  unfolding onFrom
-  on-end from to h = let e : to - from ≡ 0 = omega arith in rw e (past 0 from 0 (omega arith))
-
-  pub on-copy : (from to : ℕ) → from < to → getD (t .number) from 0 ≡ 0 → onFrom t from to ≡ part from (suc from) (t .book) ++ onFrom t (suc from) to
-  unfolding onFrom goes placed
-  on-copy from to h e = let n : to - from ≡ suc (to - suc from) = omega arith in rw (n, e)
-
-  pub on-call : (from to k : ℕ) → from < to → getD (t .number) from 0 ≡ k → (k ≡ 0 → ⊥) → onFrom t from to ≡ callBytes (row t (k - 1)) ++ onFrom t (max (row t (k - 1) .end) (suc from)) to
-  unfolding onFrom goes placed
-  on-call from to zero h e f = absurd (f refl)
-  on-call from to (suc i) h e f =
-      let n : to - from ≡ suc (to - suc from) = omega arith in
-      let end : ℕ = row t i .end in
-      let a : (to - suc from) - (end - suc from) ≡ to - max end (suc from) = omega arith in
-      let b : suc from + (end - suc from) ≡ max end (suc from) = omega arith in
-      rw (sub-one, n, e) (ap (λ (l : List ℕ). callBytes (row t i) ++ l) (skip (to - suc from) (suc from) (end - suc from) ∙ rw (a, b)))
-
-  -- the gap grows by a place at which no lift begins
-  pub gap-more : (gap p to : ℕ) → gap ≤ p → p < to → getD (t .number) p 0 ≡ 0 → part gap (min p to) (t .book) ++ onFrom t p to ≡ part gap (min (p + 1) to) (t .book) ++ onFrom t (p + 1) to
-  gap-more gap p to g h e =
-      let a : min p to ≡ p = omega arith in
-      let b : min (suc p) to ≡ suc p = omega arith in
-      rw (add-one, a, b, on-copy p to h e, part-split gap p (suc p) (t .book) g (omega arith)) (sym (append-assoc (part gap p (t .book)) (part p (suc p) (t .book)) (onFrom t (suc p) to)))
-
-  -- it is written, the call behind it, and the next gap begins where the lift ends
-  pub gap-call : (gap p to k : ℕ) → p < to → getD (t .number) p 0 ≡ k → (k ≡ 0 → ⊥) → (end e : ℕ) → end ≡ getD (t .rows) (5 * (k - 1) + 1) 0 → e ≡ max end (p + 1)
-      → part gap (min p to) (t .book) ++ onFrom t p to ≡ part gap p (t .book) ++ (callBytes (row t (k - 1)) ++ (part e (min e to) (t .book) ++ onFrom t e to))
-  unfolding rowAt
-  gap-call gap p to k h e f end stop v q =
-      let a : min p to ≡ p = omega arith in
-      let b : stop ≡ max (row t (k - 1) .end) (suc p) = q ∙ rw (v, add-one p) in
-      rw (a, on-call p to k h e f, part-back stop (min stop to) (t .book) (omega arith), b)
-
-  pub gap-end : (gap p to : ℕ) → to ≤ p → part gap (min p to) (t .book) ++ onFrom t p to ≡ part gap to (t .book)
-  gap-end gap p to h = let a : min p to ≡ to = omega arith in rw (a, on-end p to h) (append-nil (part gap to (t .book)))
-
-  pub spliced-is : (from to : ℕ) → spliced t from to ≡ part from (min (from + 1) to) (t .book) ++ onFrom t (from + 1) to
-  unfolding spliced
-  spliced-is from to = rw add-one
-
--- a row, by its numbers
-module _ (s names rows params : List ℕ) where
-  pub called-is : (i place first count : ℕ) (name : List ℕ) → place ≡ getD rows (5 * i + 2) 0 → first ≡ getD rows (5 * i + 3) 0 → count ≡ getD rows (5 * i + 4) 0 → name ≡ nameAt names place
-      → calledBytes (rowAt s names rows params i) ≡ (15 ∷ []) ++ (nameBytes name ++ (wU16 count [] ++ namesBytes (namesFrom s params first count)))
-  unfolding calledBytes rowAt
-  called-is i place first count name a b c d = rw (d, a, b, c, length-names s params (getD rows (5 * i + 3) 0) (getD rows (5 * i + 4) 0))
+use Rattle.splice.specs.Model.{Tables, row, calledBytes, spliced, paramName}
+use Rattle.splice.proofs.Steps.{length-names}
+use Rattle.result.specs.Model.{innerEnd, passedBytes, typeBytes, paramType, paramsBytes, liftedBytes, keptBytes}
 
 module _ (t : Tables) where
   pub lifted-is : (i from to place first count : ℕ) (name : List ℕ) → from ≡ getD (t .rows) (5 * i) 0 → to ≡ getD (t .rows) (5 * i + 1) 0

@@ -15,7 +15,7 @@ use Rattle.laws.specs.Book.{IsBook}
 use Rattle.lifting.specs.Records.{Record, find}
 use Rattle.lifting.specs.Trace.{Trace, treeHead, traceBook}
 use Rattle.tables.specs.Rows.{Row, rowOf}
-use Rattle.result.specs.Model.{Tables, row}
+use Rattle.splice.specs.Model.{Tables, row}
 use Rattle.result.specs.Adds.{Filled}
 
 -- k is one more than the number of a row that is this record's

@@ -11,55 +11,13 @@ use Rattle.writer.specs.Buf.{part, nameBytes}
 use Rattle.seek.specs.At.{byteAt, numberAt}
 use Rattle.marks.specs.Steps.{walk}
 use Rattle.calls.specs.Walk.{skipAt}
-use Rattle.tables.specs.Rows.{TypeAt, Row, rowAt}
+use Rattle.tables.specs.Rows.{TypeAt, Row}
+use Rattle.splice.specs.Model.{row, calledBytes, spliced}
+pub use Rattle.splice.specs.Model.{Tables, tables}
 
 abbrev pub pick : {A : Type 0} → Bool → A → A → A
 pick true a b = a
 pick false a b = b
-
--- the expanded book and the tables
-pub record Tables : Type 0 where
-  pub book : List ℕ
-  pub names : List ℕ
-  pub rows : List ℕ
-  pub params : List ℕ
-  pub number : List ℕ
-
-abbrev pub tables : List ℕ → List ℕ → List ℕ → List ℕ → List ℕ → Tables
-tables s names rows params number = record { book = s; names = names; rows = rows; params = params; number = number }
-
-abbrev pub row : Tables → ℕ → Row
-row t i = rowAt (t .book) (t .names) (t .rows) (t .params) i
-
-unfoldable pub namesBytes : List Name → List ℕ
-namesBytes [] = []
-namesBytes (n ∷ ns) = nameBytes n ++ namesBytes ns
-
--- "15 Invocation: name, u16 count, arguments"
-unfoldable pub calledBytes : Row → List ℕ
-calledBytes r = (15 ∷ []) ++ (nameBytes (r .name) ++ (wU16 (length (r .params)) [] ++ namesBytes (r .params)))
-
--- "replaced by a call without a chain"
-unfoldable pub callBytes : Row → List ℕ
-callBytes r = calledBytes r ++ (0 ∷ [])
-
--- the byte at a place, or the call of the lift that begins there; `on` goes on after leaving out so many places
-unfoldable pub placed : Tables → ℕ → ℕ → (ℕ → List ℕ) → List ℕ
-placed t zero at on = part at (suc at) (t .book) ++ on 0
-placed t (suc i) at on = callBytes (row t i) ++ on (row t i .end - suc at)
-
--- n places from `at` on, the first of them left out
-unfoldable pub goes : Tables → ℕ → ℕ → ℕ → List ℕ
-goes t zero at left = []
-goes t (suc n) at (suc left) = goes t n (suc at) left
-goes t (suc n) at zero = placed t (getD (t .number) at 0) at (λ left. goes t n (suc at) left)
-
-unfoldable pub onFrom : Tables → ℕ → ℕ → List ℕ
-onFrom t from to = goes t (to - from) from 0
-
--- a range with the range of each lift that begins in it replaced by its call. The first place is not looked up: a lifted body begins at its own
-unfoldable pub spliced : Tables → ℕ → ℕ → List ℕ
-spliced t from to = part from (min (suc from) to) (t .book) ++ onFrom t (suc from) to
 
 -- where an inner ends. It has fewer levels than bytes
 unfoldable pub innerEnd : List ℕ → ℕ → ℕ
@@ -72,10 +30,7 @@ passedBytes t at k = pick (eqb k 0) (spliced t at (innerEnd (t .book) at)) (call
 unfoldable pub typeBytes : Tables → TypeAt → List ℕ
 typeBytes t x = pick (x .own) (part (x .at) (innerEnd (t .book) (x .at)) (t .book)) (passedBytes t (x .at) (getD (t .number) (x .at) 0))
 
--- the name of parameter j, and where its type stands
-abbrev pub paramName : List ℕ → List ℕ → ℕ → Name
-paramName s params j = take (getD params (4 * j + 1) 0) (drop (getD params (4 * j) 0) s)
-
+-- where the type of parameter j stands
 abbrev pub paramType : List ℕ → ℕ → TypeAt
 paramType params j = record { own = eqb (getD params (4 * j + 3) 0) 1; at = getD params (4 * j + 2) 0 }
 

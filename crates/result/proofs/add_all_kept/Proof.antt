@@ -4,7 +4,8 @@ use mathlib.Core.Path.{_≡_, refl, _∙_}
 use Prim.Native.Nat.{_-_, _≤_}
 use native.Mathlib.Omega.{arith}
 use lib.ListN.{length}
-use Rattle.result.specs.Model.{tables, keptFrom}
+use Rattle.splice.specs.Model.{tables}
+use Rattle.result.specs.Model.{keptFrom}
 use Rattle.result.proofs.Adds.{Left, left-all, left-on, left-end, kept-start, kept-more, kept-done, kept-one}
 use borrow.Author.Needs.{needs}
 use Rattle.result.proofs.add_all_kept.Statement.{statement}

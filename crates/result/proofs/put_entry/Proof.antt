@@ -3,7 +3,7 @@
 use mathlib.Core.Path.{sym, ap}
 use Rattle.writer.proofs.Wrote.{glue}
 use Rattle.result.specs.Model.{entryBytes}
-use Rattle.result.proofs.Steps.{wrote-as}
+use Rattle.splice.proofs.Steps.{wrote-as}
 use borrow.Author.Needs.{needs}
 use Rattle.result.proofs.put_entry.Statement.{statement}
 use Rattle.result.proofs.put_entry.Tie as tie

@@ -1,6 +1,7 @@
 -- `result::put_kept` meets its contract.
 -- Assumes nothing.
-use Rattle.result.proofs.Steps.{wrote-as, kept-is}
+use Rattle.splice.proofs.Steps.{wrote-as}
+use Rattle.result.proofs.Steps.{kept-is}
 use borrow.Author.Needs.{needs}
 use Rattle.result.proofs.put_kept.Statement.{statement}
 use Rattle.result.proofs.put_kept.Tie as tie

@@ -1,7 +1,8 @@
 -- `result::put_lifted` meets its contract.
 -- Assumes nothing.
 use Rattle.writer.proofs.Wrote.{glue}
-use Rattle.result.proofs.Steps.{wrote-as, lifted-is}
+use Rattle.splice.proofs.Steps.{wrote-as}
+use Rattle.result.proofs.Steps.{lifted-is}
 use borrow.Author.Needs.{needs}
 use Rattle.result.proofs.put_lifted.Statement.{statement}
 use Rattle.result.proofs.put_lifted.Tie as tie

@@ -1,6 +1,7 @@
 -- `result::put_type` meets its contract.
 -- Assumes nothing.
-use Rattle.result.proofs.Steps.{wrote-as, type-own, type-passed, type-called}
+use Rattle.splice.proofs.Steps.{wrote-as}
+use Rattle.result.proofs.Steps.{type-own, type-passed, type-called}
 use borrow.Author.Needs.{needs}
 use Rattle.result.proofs.put_type.Statement.{statement}
 use Rattle.result.proofs.put_type.Tie as tie

@@ -1,10 +1,10 @@
--- `result::put_called` meets its contract.
+-- `splice::put_called` meets its contract.
 -- Assumes nothing.
 use Rattle.writer.proofs.Wrote.{glue}
-use Rattle.result.proofs.Steps.{wrote-as, called-is}
+use Rattle.splice.proofs.Steps.{wrote-as, called-is}
 use borrow.Author.Needs.{needs}
-use Rattle.result.proofs.put_called.Statement.{statement}
-use Rattle.result.proofs.put_called.Tie as tie
+use Rattle.splice.proofs.put_called.Statement.{statement}
+use Rattle.splice.proofs.put_called.Tie as tie
 
 mul-base : tie.Need-mul-base
 mul-base c = search needs

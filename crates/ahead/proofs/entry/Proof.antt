@@ -1,11 +1,11 @@
--- `result::entry` meets its contract.
+-- `ahead::entry` meets its contract.
 -- Assumes nothing.
 use mathlib.Core.Path.{sym}
 use native.Mathlib.Omega.{arith}
 use lib.ListN.{List·getD-eq-default}
 use borrow.Author.Needs.{needs}
-use Rattle.result.proofs.entry.Statement.{statement}
-use Rattle.result.proofs.entry.Tie as tie
+use Rattle.ahead.proofs.entry.Statement.{statement}
+use Rattle.ahead.proofs.entry.Tie as tie
 
 mul-result : tie.Need-mul-result
 mul-result c = search needs

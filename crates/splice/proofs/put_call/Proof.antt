@@ -1,10 +1,10 @@
--- `result::put_call` meets its contract.
+-- `splice::put_call` meets its contract.
 -- Assumes nothing.
 use Rattle.writer.proofs.Wrote.{glue}
-use Rattle.result.specs.Model.{callBytes}
+use Rattle.splice.specs.Model.{callBytes}
 use borrow.Author.Needs.{needs}
-use Rattle.result.proofs.put_call.Statement.{statement}
-use Rattle.result.proofs.put_call.Tie as tie
+use Rattle.splice.proofs.put_call.Statement.{statement}
+use Rattle.splice.proofs.put_call.Tie as tie
 
 put-called-requires : tie.Need-put-called-requires
 put-called-requires c κs = search needs
