@@ -1,7 +1,7 @@
 // The naming pass over one body: one frame for each level, in one local.
+use ends::inner_end;
 use lift::Counts;
 use naming::combinator_past;
-use naming::inner_end;
 use naming::open_node;
 use naming::pass;
 use steps::Child;

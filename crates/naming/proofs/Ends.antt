@@ -17,13 +17,11 @@ use Rattle.laws.proofs.Splits.{s-comb, s-selector}
 use Rattle.seek.specs.At.{byteAt, pastAt, numberAt, pick}
 use Rattle.seek.specs.Here.{Here}
 use Rattle.seek.proofs.Here.{here-length, place, byte-here, next-here, number-here, number-past, name-here}
-use Rattle.marks.specs.Steps.{walk}
-use Rattle.calls.specs.Walk.{skipAt}
 use Rattle.seek.specs.At.{selectorPast}
-use Rattle.calls.specs.Walked.{Skipped}
-use Rattle.calls.proofs.Link.{skipped}
+use Rattle.ends.specs.Ends.{innerEnd}
+use Rattle.ends.proofs.Ends.{inner-rest}
 use Rattle.naming.specs.Nodes.{Rest, fields, cases, one, tail, restOf, skip}
-use Rattle.naming.specs.Frames.{innerEnd, combinatorEnd, combinatorPast, start, casesBegin, beginAt, RestIs, Begins}
+use Rattle.naming.specs.Frames.{combinatorEnd, combinatorPast, start, casesBegin, beginAt, RestIs, Begins}
 
 -- ---- the loop over chains
 module _ (s : List ℕ) (at : ℕ) where
@@ -47,15 +45,6 @@ unfolding combinatorPast combinatorEnd
 end-past s at e h = rw e at h
 
 -- ---- where a tree stands
-module _ {s : List ℕ} (small : length s ≤ 65535) {p : ℕ} where
-  pub inner-rest : (i : Inner) (z : List ℕ) → levelsI i ≤ 64 → Here s p (wInner i z) → Here s (innerEnd s p) z
-  unfolding innerEnd
-  inner-rest i z d h = skipped s small i 64 d (walk p 0 64 true) (0 ∷ []) z h .rest
-
-  pub inner-end : (i : Inner) (z : List ℕ) → levelsI i ≤ 64 → Here s p (wInner i z) → innerEnd s p ≡ p + sizeI i
-  unfolding innerEnd sizeI
-  inner-end i z d h = skipped s small i 64 d (walk p 0 64 true) (0 ∷ []) z h .place
-
 module _ {s : List ℕ} (small : length s ≤ 65535) where
   pub combinator-rest : {p : ℕ} (c : Combinator) (k : ℕ) (z : List ℕ) → levels c ≤ k → k ≤ 64 → Here s p (wCombinator c z) → Here s (combinatorEnd k s p) z
   unfolding wCombinator levels

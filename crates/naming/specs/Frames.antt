@@ -13,8 +13,7 @@ use Rattle.definition.specs.Size.{size, levels, levelsI, levelsF, levelsC}
 use Rattle.laws.proofs.Sizes.{sizeI, sizeF, sizeC}
 use Rattle.seek.specs.At.{byteAt, pastAt, numberAt, pick}
 use Rattle.seek.specs.Here.{Here}
-use Rattle.marks.specs.Steps.{walk}
-use Rattle.calls.specs.Walk.{skipAt}
+use Rattle.ends.specs.Ends.{innerEnd}
 use Rattle.seek.specs.At.{selectorPast}
 use Rattle.names.specs.Name.{Held}
 use Rattle.lift.specs.Bound.{boundFrom, withParam}
@@ -25,10 +24,6 @@ use Rattle.naming.specs.declared.Frame.{Frame}
 use Rattle.naming.specs.declared.Begin.{Begin}
 use Rattle.naming.specs.declared.Next.{Next}
 use Rattle.naming.specs.declared.Next.the-variants.{Done, Pass, Chain, Label, Case, Anon, Item}
-
--- where the inner at a place ends, by the walker over calls
-unfoldable pub innerEnd : List ℕ → ℕ → ℕ
-innerEnd s at = skipAt 64 s (walk at 0 64 true) (0 ∷ []) .0 .at
 
 -- where the combinator at a place ends; k bounds the chains
 unfoldable pub combinatorEnd : ℕ → List ℕ → ℕ → ℕ

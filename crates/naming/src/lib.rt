@@ -1,7 +1,7 @@
 // The naming pass of lifting: the walk over the expanded book in walk order, one frame for each level.
+use ends::inner_end;
 use lift::Counts;
 use lift::store;
-use marks::Walk;
 use seek::byte;
 use seek::length_past;
 use seek::name_past;
@@ -9,12 +9,12 @@ use seek::number;
 use seek::past;
 use seek::selector_past;
 use seek::text_past;
-use skip::skip_inner;
 ghost use mathlib.Core.Path.{_≡_};
 ghost use Prim.Native.Nat.{_-_, _≤_, min};
+ghost use Rattle.ends.specs.Ends.{innerEnd};
 ghost use Rattle.lift.specs.Bound.{withParam};
 ghost use Rattle.naming.specs.Walk.{plus};
-ghost use Rattle.naming.specs.Frames.{innerEnd, combinatorEnd, combinatorPast, casesBegin, beginAt, frameAt, bindBy, boundAfter, delivered, passed};
+ghost use Rattle.naming.specs.Frames.{combinatorEnd, combinatorPast, casesBegin, beginAt, frameAt, bindBy, boundAfter, delivered, passed};
 ghost use Rattle.naming.specs.Next.{nextField, nextOne, nextOf};
 
 pub mod lifts;
@@ -44,21 +44,6 @@ pub struct Begin {
     pub here: usize,
     pub kind: u8,
     pub left: usize,
-}
-
-// Where the inner at a place ends.
-pub fn inner_end(s: &[u8], at: usize) -> usize
-    ensures { λ r. ⌜ r ≡ innerEnd (now (s .entry)) at ⌝ }
-{
-    let mut none = [0u16; 1];
-    let w = Walk {
-        at,
-        n: 0,
-        left: 64,
-        plain: true,
-    };
-    let u = skip_inner(s, w, 64, &mut none);
-    u.at
 }
 
 // Where the combinator at a place ends, with so many levels left: behind its last chain.

@@ -1,5 +1,6 @@
 // The steps of the pass over a body: what a node does next, its child, its end.
 use anonymous::contains_anonymous_format;
+use ends::inner_end;
 use lift::Counts;
 use lift::store;
 use lookup::name_at;
@@ -13,7 +14,6 @@ use naming::Next;
 use naming::bind_child;
 use naming::combinator_past;
 use naming::deliver;
-use naming::inner_end;
 use naming::lifts::lift_anonymous_combinator;
 use naming::minus;
 use naming::next_of;
