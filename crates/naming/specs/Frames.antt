@@ -95,6 +95,17 @@ pub record Stands (s : List ℕ) (p : ℕ) (c : Combinator) : Type 0 where
   pub after : List ℕ
   pub is : Here s p (wCombinator c after)
 
+-- one of at most 64 levels
+pub record Standing (s : List ℕ) (at : ℕ) : Type 0 where
+  pub what : Combinator
+  pub stands : Stands s at what
+  pub deep : levels what ≤ 64
+
+-- behind an inner that ends at a place: where its flag says that a chain follows, one stands there
+pub record Follows (s : List ℕ) (end : ℕ) : Type 0 where
+  pub short : length s ≤ 65535
+  pub chain : byteAt s end ≡ 1 → Standing s (pastAt s end 1)
+
 -- the chain of an inner that ends at a place
 unfoldable pub LinkIs : List ℕ → ℕ → Bool → ℕ → Link → Type 0
 LinkIs s end chained link (ahead c p) = (chained ≡ true) × (p ≡ end + 1) × Stands s p c

@@ -1,5 +1,5 @@
 // The naming pass of lifting: the walk over the expanded book in walk order, one frame for each level.
-use ends::inner_end;
+use ends::end_of;
 use lift::Counts;
 use lift::store;
 use seek::byte;
@@ -11,10 +11,11 @@ use seek::selector_past;
 use seek::text_past;
 ghost use mathlib.Core.Path.{_≡_};
 ghost use Prim.Native.Nat.{_-_, _≤_, min};
-ghost use Rattle.ends.specs.Ends.{innerEnd};
+ghost use lib.ListN.{length};
+ghost use Rattle.ends.specs.Ends.{innerEnd, Right};
 ghost use Rattle.lift.specs.Bound.{withParam};
 ghost use Rattle.naming.specs.Walk.{plus};
-ghost use Rattle.naming.specs.Frames.{combinatorEnd, combinatorPast, casesBegin, beginAt, frameAt, bindBy, boundAfter, delivered, passed};
+ghost use Rattle.naming.specs.Frames.{combinatorEnd, combinatorPast, casesBegin, beginAt, Standing, Follows, frameAt, bindBy, boundAfter, delivered, passed};
 ghost use Rattle.naming.specs.Next.{nextField, nextOne, nextOf};
 
 pub mod lifts;
@@ -47,13 +48,14 @@ pub struct Begin {
 }
 
 // Where the combinator at a place ends, with so many levels left: behind its last chain.
-fn combinator_end(s: &[u8], at: usize, levels: usize) -> usize
+fn combinator_end(s: &[u8], ends: &[u16], at: usize, levels: usize) -> usize
+    requires { ⌜ Right (now s) (now ends) × Standing (now s) at × (length (now s) ≤ 65535) ⌝ }
     ensures { λ r. ⌜ r ≡ combinatorEnd levels (now (s .entry)) at ⌝ }
 {
     let mut left = levels;
     let mut here = at;
     while 0 < left {
-        let e = inner_end(s, here);
+        let e = end_of(s, ends, here);
         let more = byte(s, e);
         here = past(s, e, 1);
         if more != 1 {
@@ -65,13 +67,14 @@ fn combinator_end(s: &[u8], at: usize, levels: usize) -> usize
 }
 
 // The same, from where its inner ends.
-pub fn combinator_past(s: &[u8], end: usize) -> usize
+pub fn combinator_past(s: &[u8], ends: &[u16], end: usize) -> usize
+    requires { ⌜ Right (now s) (now ends) × Follows (now s) end ⌝ }
     ensures { λ r. ⌜ r ≡ combinatorPast (now (s .entry)) end ⌝ }
 {
     let more = byte(s, end);
     let a = past(s, end, 1);
     if more == 1 {
-        return combinator_end(s, a, 63);
+        return combinator_end(s, ends, a, 63);
     }
     a
 }
