@@ -11,6 +11,7 @@ use Rattle.definition.specs.Tree.{Name, Combinator}
 use Rattle.definition.specs.Size.{levels}
 use Rattle.writer.proofs.Put.{within}
 use Rattle.names.specs.Name.{Held}
+use Rattle.ends.specs.Ends.{Right}
 use Rattle.lift.specs.declared.Counts.{Counts}
 use Rattle.lift.specs.Bound.{boundFrom, Sized}
 use Rattle.lift.specs.Sheet.{sheetOf, Tables}
@@ -18,13 +19,13 @@ use Rattle.lift.proofs.Entered.{cut-length}
 use Rattle.naming.specs.declared.Frame.{Frame}
 use Rattle.naming.specs.Walk.{walk}
 use Rattle.naming.specs.Nodes.{walked, nodeOf, Wait}
-use Rattle.naming.specs.Frames.{Stands, OwnIs, frameAt, Closing, passed, Passing, bindBy, boundAfter, delivered}
+use Rattle.naming.specs.Frames.{Stands, Standing, OwnIs, frameAt, Closing, passed, Passing, bindBy, boundAfter, delivered}
 use Rattle.naming.specs.Lifts.{Scratch}
 use Rattle.naming.proofs.Machine.{run-root}
 use Rattle.naming.proofs.Opened.{frame-opens}
 use Rattle.steps.specs.Good.{Good}
 use Rattle.body.specs.Walks.{Ready, Ends, Walks}
-use Rattle.steps.specs.Steps.{Reached, StepIs, weight, Standing, Opened, ChildIs, Comes, closedOf, orderOf}
+use Rattle.steps.specs.Steps.{Reached, StepIs, weight, Opened, ChildIs, Comes, closedOf, orderOf}
 use Rattle.body.specs.declared.Body.the-variants.{Named, Refused}
 use Rattle.steps.specs.declared.Step.{Step}
 use Rattle.steps.specs.declared.Step.the-variants as step
@@ -178,8 +179,8 @@ module _ {s : List ℕ} {at : ℕ} {path₀ : List ℕ} {len : ℕ} {binders₀ 
       unfolding StepIs
       step-kept = (rw q at st) .kept
 
-      pub open-safe : Tables s made places hashes hints rows params w × Standing s place × Scratch s bound uses spare × (length path′ ≡ 255) × (f .bound ≤ 65536) × Sized binders (f .bound)
-      open-safe =
+      pub open-safe : {ends : List ℕ} → Right s ends → Tables s made places hashes hints rows params w × Standing s place × Scratch s bound uses spare × (length path′ ≡ 255) × (f .bound ≤ 65536) × Sized binders (f .bound) × Right s ends
+      open-safe right =
           let g = R .goes (R .root) in
           let o = reached (R .root) .opening in (
             g .good .tables,
@@ -188,6 +189,7 @@ module _ {s : List ℕ} {at : ℕ} {path₀ : List ℕ} {len : ℕ} {binders₀ 
             long ∙ g .path-long,
             omega (arith, g .top .few, o .behind, o .stands .is .reach, source),
             g .sized,
+            right,
           )
 
       module _ {path₂ made′ places′ hashes′ hints′ rows′ params′ number′ : List ℕ} {t : Child} (come : Comes s place path′ l binders (f .bound) made places hashes hints rows params number w path₂ made′ places′ hashes′ hints′ rows′ params′ number′ t) where

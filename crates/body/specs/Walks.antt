@@ -12,10 +12,9 @@ use Rattle.lift.specs.declared.Counts.{Counts}
 use Rattle.lift.specs.Bound.{boundFrom, Sized}
 use Rattle.lift.specs.Sheet.{Sheet, sheetOf}
 use Rattle.naming.specs.Walk.{Extent, walk}
-use Rattle.naming.specs.Frames.{Stands}
+use Rattle.naming.specs.Frames.{Stands, Standing}
 use Rattle.naming.specs.Lifts.{Scratch}
 use Rattle.steps.specs.Good.{Good}
-use Rattle.steps.specs.Steps.{Standing}
 use Rattle.body.specs.declared.Body.{Body}
 use Rattle.body.specs.declared.Body.the-variants.{Named, Refused}
 

@@ -1,7 +1,7 @@
 // The naming pass over one body: one frame for each level, in one local.
+use ends::end_of;
 use lift::Counts;
 use naming::combinator_past;
-use naming::inner_end;
 use naming::open_node;
 use naming::pass;
 use steps::Child;
@@ -11,6 +11,7 @@ use steps::next_step;
 use steps::open_child;
 use steps::resume_node;
 ghost use Prim.Native.Nat.{_≤_};
+ghost use Rattle.ends.specs.Ends.{Right};
 ghost use Rattle.steps.specs.Good.{Good};
 ghost use Rattle.body.specs.Walks.{Ready, Walks};
 
@@ -23,6 +24,7 @@ pub enum Body {
 // The body at a place: path holds its name in the first `len` bytes, and b binders are in force.
 pub fn expand_combinator(
     s: &[u8],
+    ends: &[u16],
     at: usize,
     path: &mut [u8],
     len: usize,
@@ -42,11 +44,11 @@ pub fn expand_combinator(
     w: Counts,
     n: usize,
 ) -> Body
-    requires { ⌜ Good (now s) (now made) (now places) (now hashes) (now hints) (now rows) (now params) (now number) (now order) w n × Ready (now s) at (now path) (now binders) b (now bound) (now uses) (now spare) × (len ≤ 256) ⌝ }
+    requires { ⌜ Good (now s) (now made) (now places) (now hashes) (now hints) (now rows) (now params) (now number) (now order) w n × Ready (now s) at (now path) (now binders) b (now bound) (now uses) (now spare) × (len ≤ 256) × Right (now s) (now ends) ⌝ }
     ensures { λ r. ⌜ Walks (now (s .entry)) at (now (path .entry)) len (now (binders .entry)) b (now (made .entry)) (now (places .entry)) (now (rows .entry)) (now (params .entry)) (now (order .entry)) w n (now (made .exit)) (now (places .exit)) (now (hashes .exit)) (now (hints .exit)) (now (rows .exit)) (now (params .exit)) (now (number .exit)) (now (order .exit)) r ⌝ }
 {
-    let end = inner_end(s, at);
-    let last = combinator_past(s, end);
+    let end = end_of(s, ends, at);
+    let last = combinator_past(s, ends, end);
     let root = open_node(s, at, end, last, len, b, 0, 0);
     let mut frames = [root; 64];
     let mut f = root;
@@ -75,6 +77,7 @@ pub fn expand_combinator(
                 let known = f.bound;
                 let child = open_child(
                     s,
+                    ends,
                     place,
                     path,
                     l,

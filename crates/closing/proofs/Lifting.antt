@@ -37,6 +37,7 @@ use Rattle.steps.specs.Good.{Good}
 use Rattle.body.specs.Walks.{Ends}
 use Rattle.start.proofs.Rows.{book-short}
 use Rattle.formats.specs.Expands.{Starts, Expands}
+use Rattle.formats.proofs.Start.{zero-at}
 use Rattle.result.specs.Model.{tables}
 use Rattle.result.specs.Adds.{Filled}
 use Rattle.result.specs.Held.{Held, Writes}
@@ -46,11 +47,6 @@ use Rattle.closing.specs.declared.Elaborated.the-variants.{Done, Refused
 use Rattle.closing.specs.Elaborates.{reported, Reports, lifted, Expanded, Unnumbered, Lifts}
 
 -- a table of zeros has no numbers yet
-zero-at : (n p : ℕ) → getD {A = ℕ} (replicate n 0) p 0 ≡ 0
-zero-at zero p = refl
-zero-at (suc n) zero = refl
-zero-at (suc n) (suc p) = zero-at n p
-
 pub unnumbered : {s : List ℕ} (n : ℕ) → length s ≤ n → Unnumbered s (replicate n 0)
 unnumbered n h = record { long = omega (arith, length-replicate {0} {A = ℕ} n 0); blank = zero-at n }
 

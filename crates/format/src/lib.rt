@@ -8,12 +8,14 @@ use seek::name_past;
 use seek::number;
 use writer::put_bytes;
 ghost use mathlib.Core.Path.{_≡_};
+ghost use Rattle.ends.specs.Ends.{Right};
 ghost use Rattle.steps.specs.Good.{Good};
 ghost use Rattle.format.specs.Formats.{Space, Format, Formatted, Defined};
 
 // The format at a place: its name, its own parameters, its body.
 fn expand_format(
     s: &[u8],
+    ends: &[u16],
     at: usize,
     path: &mut [u8],
     binders: &mut [u16],
@@ -31,7 +33,7 @@ fn expand_format(
     w: Counts,
     n: usize,
 ) -> Body
-    requires { ⌜ Good (now s) (now made) (now places) (now hashes) (now hints) (now rows) (now params) (now numbers) (now order) w n × Space (now s) (now path) (now binders) (now bound) (now uses) (now spare) × Format (now s) at ⌝ }
+    requires { ⌜ Good (now s) (now made) (now places) (now hashes) (now hints) (now rows) (now params) (now numbers) (now order) w n × Space (now s) (now path) (now binders) (now bound) (now uses) (now spare) × Format (now s) at × Right (now s) (now ends) ⌝ }
     ensures { λ r. ⌜ Formatted (now (s .entry)) at (now (made .entry)) (now (places .entry)) (now (rows .entry)) (now (params .entry)) (now (order .entry)) w n (now (made .exit)) (now (places .exit)) (now (hashes .exit)) (now (hints .exit)) (now (rows .exit)) (now (params .exit)) (now (numbers .exit)) (now (order .exit)) r ⌝ }
 {
     let len = put_bytes(name_at(s, at), path, 0);
@@ -40,6 +42,7 @@ fn expand_format(
     let body = own_params(s, list, binders);
     expand_combinator(
         s,
+        ends,
         body,
         path,
         len,
@@ -64,6 +67,7 @@ fn expand_format(
 // The definition at a place: only a format has a body to walk.
 pub fn expand_definition(
     s: &[u8],
+    ends: &[u16],
     kind: u8,
     at: usize,
     path: &mut [u8],
@@ -82,12 +86,13 @@ pub fn expand_definition(
     w: Counts,
     n: usize,
 ) -> Body
-    requires { ⌜ Good (now s) (now made) (now places) (now hashes) (now hints) (now rows) (now params) (now numbers) (now order) w n × Space (now s) (now path) (now binders) (now bound) (now uses) (now spare) × (kind ≡ 1 → Format (now s) at) ⌝ }
+    requires { ⌜ Good (now s) (now made) (now places) (now hashes) (now hints) (now rows) (now params) (now numbers) (now order) w n × Space (now s) (now path) (now binders) (now bound) (now uses) (now spare) × (kind ≡ 1 → Format (now s) at) × Right (now s) (now ends) ⌝ }
     ensures { λ r. ⌜ Defined (now (s .entry)) kind at (now (made .entry)) (now (places .entry)) (now (rows .entry)) (now (params .entry)) (now (order .entry)) w n (now (made .exit)) (now (places .exit)) (now (hashes .exit)) (now (hints .exit)) (now (rows .exit)) (now (params .exit)) (now (numbers .exit)) (now (order .exit)) r ⌝ }
 {
     if kind == 1 {
         return expand_format(
             s,
+            ends,
             at,
             path,
             binders,

@@ -1,8 +1,8 @@
 -- The tables before the first definition.
 -- Assumes nothing.
-use mathlib.Core.Path.{_≡_, ap, _∙_}
+use mathlib.Core.Path.{_≡_, refl, ap, _∙_}
 use mathlib.Core.List.{List}
-use Prim.Native.Nat.{ℕ, _*_, _≤_, _<_}
+use Prim.Native.Nat.{ℕ, zero, suc, _*_, _≤_, _<_}
 use native.Mathlib.Omega.{arith}
 use lib.ListN.{length, take, getD, replicate, length-replicate}
 use Rattle.definition.specs.Tree.{Definition}
@@ -11,6 +11,8 @@ use Rattle.definition.specs.Size.{sizeBook}
 use Rattle.laws.specs.Book.{IsBook}
 use Rattle.seek.specs.At.{byteAt, numberAt}
 use Rattle.contents.proofs.Listed.{book-listed}
+use Rattle.ends.specs.Ends.{Right}
+use Rattle.ends.proofs.Ends.{none-right}
 use Rattle.tables.specs.Rows.{rowsOf, lastFrom}
 use Rattle.lift.specs.declared.Counts.{Counts}
 use Rattle.lift.specs.Sheet.{sheetOf}
@@ -25,6 +27,15 @@ use Rattle.start.proofs.Rows.{book-short}
 
 abbrev pub counts : ℕ → ℕ → ℕ → Counts
 counts taken bytes defns = record { taken = taken; end = 0; lifts = 0; params = 0; bytes = bytes; defns = defns }
+
+pub zero-at : (n p : ℕ) → getD {A = ℕ} (replicate n 0) p 0 ≡ 0
+zero-at zero p = refl
+zero-at (suc n) zero = refl
+zero-at (suc n) (suc p) = zero-at n p
+
+-- no end is known yet
+pub no-ends : {s : List ℕ} (n : ℕ) → Right s (replicate n 0)
+no-ends n = none-right (zero-at n)
 
 -- tables for books of at most n bytes
 pub scratch : {s : List ℕ} (n m : ℕ) → n ≡ 4 * m → length s ≤ n → ((i : ℕ) → getD s i 0 < 256) → Scratch s (replicate m 0) (replicate n 0) (replicate n 0)

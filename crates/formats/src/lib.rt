@@ -5,12 +5,14 @@ use lift::Counts;
 use start::take_at_start;
 ghost use Prim.Native.Nat.{_≤_};
 ghost use lib.ListN.{length};
+ghost use Rattle.ends.specs.Ends.{Right};
 ghost use Rattle.naming.specs.Lifts.{Scratch};
 ghost use Rattle.formats.specs.Expands.{Starts, Expands};
 
 // The naming pass with scratch tables that are lent.
 fn expand_with(
     s: &[u8],
+    ends: &[u16],
     binders: &mut [u16],
     bound: &mut [u32],
     uses: &mut [u32],
@@ -21,7 +23,7 @@ fn expand_with(
     number: &mut [u16],
     order: &mut [u16],
 ) -> Body
-    requires { ⌜ Starts (now s) (now made) (now rows) (now params) (now number) (now order) × Scratch (now s) (now bound) (now uses) (now spare) × (length (now s) ≤ length (now binders)) ⌝ }
+    requires { ⌜ Starts (now s) (now made) (now rows) (now params) (now number) (now order) × Scratch (now s) (now bound) (now uses) (now spare) × (length (now s) ≤ length (now binders)) × Right (now s) (now ends) ⌝ }
     ensures { λ r. ⌜ Expands (now (s .entry)) (now (made .exit)) (now (rows .exit)) (now (params .exit)) (now (number .exit)) (now (order .exit)) r ⌝ }
 {
     let mut path = [0u8; 255];
@@ -40,6 +42,7 @@ fn expand_with(
     };
     expand_in_order(
         s,
+        ends,
         &mut path,
         binders,
         bound,
@@ -69,12 +72,14 @@ fn expand_short(
     requires { ⌜ Starts (now s) (now made) (now rows) (now params) (now number) (now order) × (length (now s) ≤ 2048) ⌝ }
     ensures { λ r. ⌜ Expands (now (s .entry)) (now (made .exit)) (now (rows .exit)) (now (params .exit)) (now (number .exit)) (now (order .exit)) r ⌝ }
 {
+    let ends = [0u16; 2048];
     let mut binders = [0u16; 2048];
     let mut bound = [0u32; 512];
     let mut uses = [0u32; 2048];
     let mut spare = [0u32; 2048];
     expand_with(
         s,
+        &ends,
         &mut binders,
         &mut bound,
         &mut uses,
@@ -99,12 +104,14 @@ fn expand_long(
     requires { ⌜ Starts (now s) (now made) (now rows) (now params) (now number) (now order) ⌝ }
     ensures { λ r. ⌜ Expands (now (s .entry)) (now (made .exit)) (now (rows .exit)) (now (params .exit)) (now (number .exit)) (now (order .exit)) r ⌝ }
 {
+    let ends = [0u16; 16384];
     let mut binders = [0u16; 16384];
     let mut bound = [0u32; 4096];
     let mut uses = [0u32; 16384];
     let mut spare = [0u32; 16384];
     expand_with(
         s,
+        &ends,
         &mut binders,
         &mut bound,
         &mut uses,

@@ -5,6 +5,7 @@ use lift::Counts;
 use seek::byte;
 use seek::number;
 use seek::past;
+ghost use Rattle.ends.specs.Ends.{Right};
 ghost use Rattle.start.specs.Rows.{Book};
 ghost use Rattle.steps.specs.Good.{Good};
 ghost use Rattle.format.specs.Formats.{Space};
@@ -13,6 +14,7 @@ ghost use Rattle.inorder.specs.InOrder.{InOrder};
 // "Definitions in order", as the contents list them.
 pub fn expand_in_order(
     s: &[u8],
+    ends: &[u16],
     path: &mut [u8],
     binders: &mut [u16],
     bound: &mut [u32],
@@ -28,7 +30,7 @@ pub fn expand_in_order(
     order: &mut [u16],
     start: Counts,
 ) -> Body
-    requires { ⌜ Good (now s) (now made) (now places) (now hashes) (now hints) (now rows) (now params) (now numbers) (now order) start 0 × Space (now s) (now path) (now binders) (now bound) (now uses) (now spare) × Book (now s) ⌝ }
+    requires { ⌜ Good (now s) (now made) (now places) (now hashes) (now hints) (now rows) (now params) (now numbers) (now order) start 0 × Space (now s) (now path) (now binders) (now bound) (now uses) (now spare) × Book (now s) × Right (now s) (now ends) ⌝ }
     ensures { λ r. ⌜ InOrder (now (s .entry)) (now (made .entry)) (now (places .entry)) (now (rows .entry)) (now (params .entry)) (now (order .entry)) start (now (made .exit)) (now (places .exit)) (now (hashes .exit)) (now (hints .exit)) (now (rows .exit)) (now (params .exit)) (now (numbers .exit)) (now (order .exit)) r ⌝ }
 {
     let mut left = number(s, 0) as usize;
@@ -46,6 +48,7 @@ pub fn expand_in_order(
         left -= 1;
         match expand_definition(
             s,
+            ends,
             kind,
             here,
             path,

@@ -17,13 +17,11 @@ use Rattle.laws.proofs.Splits.{s-comb, s-selector}
 use Rattle.seek.specs.At.{byteAt, pastAt, numberAt, pick}
 use Rattle.seek.specs.Here.{Here}
 use Rattle.seek.proofs.Here.{here-length, place, byte-here, next-here, number-here, number-past, name-here}
-use Rattle.marks.specs.Steps.{walk}
-use Rattle.calls.specs.Walk.{skipAt}
 use Rattle.seek.specs.At.{selectorPast}
-use Rattle.calls.specs.Walked.{Skipped}
-use Rattle.calls.proofs.Link.{skipped}
+use Rattle.ends.specs.Ends.{innerEnd, Stood}
+use Rattle.ends.proofs.Ends.{inner-rest}
 use Rattle.naming.specs.Nodes.{Rest, fields, cases, one, tail, restOf, skip}
-use Rattle.naming.specs.Frames.{innerEnd, combinatorEnd, combinatorPast, start, casesBegin, beginAt, RestIs, Begins}
+use Rattle.naming.specs.Frames.{combinatorEnd, combinatorPast, start, casesBegin, beginAt, RestIs, Begins, Standing, Follows}
 
 -- ---- the loop over chains
 module _ (s : List ℕ) (at : ℕ) where
@@ -47,15 +45,6 @@ unfolding combinatorPast combinatorEnd
 end-past s at e h = rw e at h
 
 -- ---- where a tree stands
-module _ {s : List ℕ} (small : length s ≤ 65535) {p : ℕ} where
-  pub inner-rest : (i : Inner) (z : List ℕ) → levelsI i ≤ 64 → Here s p (wInner i z) → Here s (innerEnd s p) z
-  unfolding innerEnd
-  inner-rest i z d h = skipped s small i 64 d (walk p 0 64 true) (0 ∷ []) z h .rest
-
-  pub inner-end : (i : Inner) (z : List ℕ) → levelsI i ≤ 64 → Here s p (wInner i z) → innerEnd s p ≡ p + sizeI i
-  unfolding innerEnd sizeI
-  inner-end i z d h = skipped s small i 64 d (walk p 0 64 true) (0 ∷ []) z h .place
-
 module _ {s : List ℕ} (small : length s ≤ 65535) where
   pub combinator-rest : {p : ℕ} (c : Combinator) (k : ℕ) (z : List ℕ) → levels c ≤ k → k ≤ 64 → Here s p (wCombinator c z) → Here s (combinatorEnd k s p) z
   unfolding wCombinator levels
@@ -69,6 +58,24 @@ module _ {s : List ℕ} (small : length s ≤ 65535) where
   pub combinator-end : {p : ℕ} (c : Combinator) (k : ℕ) (z : List ℕ) → levels c ≤ k → k ≤ 64 → Here s p (wCombinator c z) → combinatorEnd k s p ≡ p + size c
   unfolding size
   combinator-end c k z d m h = omega (arith, here-length h, here-length (combinator-rest c k z d m h), adds (wCombinator c) (s-comb c) z)
+
+-- a combinator's inner stands at its place, and its chain behind that
+module _ {s : List ℕ} (small : length s ≤ 65535) {at : ℕ} where
+  stood-by : (c : Combinator) (z : List ℕ) → levels c ≤ 64 → Here s at (wCombinator c z) → Stood s at
+  unfolding wCombinator levels
+  stood-by (plain i) z d h = record { what = i; after = 0 ∷ z; here = h; deep = omega arith; short = small }
+  stood-by (chained i c) z d h = record { what = i; after = 1 ∷ wCombinator c z; here = h; deep = omega arith; short = small }
+
+  pub stood : Standing s at → Stood s at
+  stood x = stood-by (x .what) (x .stands .after) (x .deep) (x .stands .is)
+
+  chain-by : (c : Combinator) (z : List ℕ) → levels c ≤ 64 → Here s at (wCombinator c z) → byteAt s (innerEnd s at) ≡ 1 → Standing s (pastAt s (innerEnd s at) 1)
+  unfolding wCombinator levels
+  chain-by (plain i) z d h e = absurd (omega (arith, e, byte-here (inner-rest small i (0 ∷ z) (omega arith) h)))
+  chain-by (chained i c) z d h e = record { what = c; stands = record { after = z; is = next-here (inner-rest small i (1 ∷ wCombinator c z) (omega arith) h) }; deep = omega arith }
+
+  pub follows : {end : ℕ} → Standing s at → end ≡ innerEnd s at → Follows s end
+  follows x e = rw e (record { short = small; chain = chain-by (x .what) (x .stands .after) (x .deep) (x .stands .is) })
 
 -- ---- where children begin
 begin-leaf : (k : Leaf) (x z : List ℕ) {s : List ℕ} {p : ℕ} → Here s p (leafTag k ∷ wText x z) → beginAt s p ≡ start p 0 0

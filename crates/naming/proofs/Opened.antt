@@ -28,9 +28,11 @@ use Rattle.naming.specs.declared.Next.{Next}
 use Rattle.naming.specs.declared.Next.the-variants.{Done, Pass, Chain, Label, Case, Anon, Item}
 use Rattle.naming.specs.Walk.{plus}
 use Rattle.naming.specs.Nodes.{Rest, fields, cases, one, tail, Own, walked, lifted, Link, ahead, behind, Node, restOf, skip, nodeOf, close, goOn, advanced, Wait, run, Opens}
-use Rattle.naming.specs.Frames.{innerEnd, beginAt, RestIs, sizeRest, levelsRest, levelsLink, Begins, Stands, LinkIs, OwnIs, frameAt, FrameIs, Closing, passed, Passing, Opening, NextIs}
+use Rattle.ends.specs.Ends.{innerEnd}
+use Rattle.ends.proofs.Ends.{inner-rest, inner-end}
+use Rattle.naming.specs.Frames.{beginAt, RestIs, sizeRest, levelsRest, levelsLink, Begins, Stands, LinkIs, OwnIs, frameAt, FrameIs, Closing, passed, Passing, Opening, NextIs}
 use Rattle.naming.specs.Next.{nextField, nextOne, nextOf}
-use Rattle.naming.proofs.Ends.{inner-rest, inner-end, begins}
+use Rattle.naming.proofs.Ends.{begins}
 use Rattle.naming.proofs.Back.{back-chain, back-field, back-case, back-one}
 use Rattle.naming.proofs.Machine.{opens-chain, opens-field, opens-case, opens-one, passes-const, ends-fields, ends-cases, ends-tail}
 

@@ -13,8 +13,7 @@ use Rattle.definition.specs.Size.{size, levels, levelsI, levelsF, levelsC}
 use Rattle.laws.proofs.Sizes.{sizeI, sizeF, sizeC}
 use Rattle.seek.specs.At.{byteAt, pastAt, numberAt, pick}
 use Rattle.seek.specs.Here.{Here}
-use Rattle.marks.specs.Steps.{walk}
-use Rattle.calls.specs.Walk.{skipAt}
+use Rattle.ends.specs.Ends.{innerEnd}
 use Rattle.seek.specs.At.{selectorPast}
 use Rattle.names.specs.Name.{Held}
 use Rattle.lift.specs.Bound.{boundFrom, withParam}
@@ -25,10 +24,6 @@ use Rattle.naming.specs.declared.Frame.{Frame}
 use Rattle.naming.specs.declared.Begin.{Begin}
 use Rattle.naming.specs.declared.Next.{Next}
 use Rattle.naming.specs.declared.Next.the-variants.{Done, Pass, Chain, Label, Case, Anon, Item}
-
--- where the inner at a place ends, by the walker over calls
-unfoldable pub innerEnd : List ℕ → ℕ → ℕ
-innerEnd s at = skipAt 64 s (walk at 0 64 true) (0 ∷ []) .0 .at
 
 -- where the combinator at a place ends; k bounds the chains
 unfoldable pub combinatorEnd : ℕ → List ℕ → ℕ → ℕ
@@ -99,6 +94,17 @@ pub record Begins (s z : List ℕ) (at : ℕ) (i : Inner) (r : Begin) : Type 0 w
 pub record Stands (s : List ℕ) (p : ℕ) (c : Combinator) : Type 0 where
   pub after : List ℕ
   pub is : Here s p (wCombinator c after)
+
+-- one of at most 64 levels
+pub record Standing (s : List ℕ) (at : ℕ) : Type 0 where
+  pub what : Combinator
+  pub stands : Stands s at what
+  pub deep : levels what ≤ 64
+
+-- behind an inner that ends at a place: where its flag says that a chain follows, one stands there
+pub record Follows (s : List ℕ) (end : ℕ) : Type 0 where
+  pub short : length s ≤ 65535
+  pub chain : byteAt s end ≡ 1 → Standing s (pastAt s end 1)
 
 -- the chain of an inner that ends at a place
 unfoldable pub LinkIs : List ℕ → ℕ → Bool → ℕ → Link → Type 0

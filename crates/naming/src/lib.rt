@@ -1,7 +1,7 @@
 // The naming pass of lifting: the walk over the expanded book in walk order, one frame for each level.
+use ends::end_of;
 use lift::Counts;
 use lift::store;
-use marks::Walk;
 use seek::byte;
 use seek::length_past;
 use seek::name_past;
@@ -9,12 +9,13 @@ use seek::number;
 use seek::past;
 use seek::selector_past;
 use seek::text_past;
-use skip::skip_inner;
 ghost use mathlib.Core.Path.{_≡_};
 ghost use Prim.Native.Nat.{_-_, _≤_, min};
+ghost use lib.ListN.{length};
+ghost use Rattle.ends.specs.Ends.{innerEnd, Right};
 ghost use Rattle.lift.specs.Bound.{withParam};
 ghost use Rattle.naming.specs.Walk.{plus};
-ghost use Rattle.naming.specs.Frames.{innerEnd, combinatorEnd, combinatorPast, casesBegin, beginAt, frameAt, bindBy, boundAfter, delivered, passed};
+ghost use Rattle.naming.specs.Frames.{combinatorEnd, combinatorPast, casesBegin, beginAt, Standing, Follows, frameAt, bindBy, boundAfter, delivered, passed};
 ghost use Rattle.naming.specs.Next.{nextField, nextOne, nextOf};
 
 pub mod lifts;
@@ -46,29 +47,15 @@ pub struct Begin {
     pub left: usize,
 }
 
-// Where the inner at a place ends.
-pub fn inner_end(s: &[u8], at: usize) -> usize
-    ensures { λ r. ⌜ r ≡ innerEnd (now (s .entry)) at ⌝ }
-{
-    let mut none = [0u16; 1];
-    let w = Walk {
-        at,
-        n: 0,
-        left: 64,
-        plain: true,
-    };
-    let u = skip_inner(s, w, 64, &mut none);
-    u.at
-}
-
 // Where the combinator at a place ends, with so many levels left: behind its last chain.
-fn combinator_end(s: &[u8], at: usize, levels: usize) -> usize
+fn combinator_end(s: &[u8], ends: &[u16], at: usize, levels: usize) -> usize
+    requires { ⌜ Right (now s) (now ends) × Standing (now s) at × (length (now s) ≤ 65535) ⌝ }
     ensures { λ r. ⌜ r ≡ combinatorEnd levels (now (s .entry)) at ⌝ }
 {
     let mut left = levels;
     let mut here = at;
     while 0 < left {
-        let e = inner_end(s, here);
+        let e = end_of(s, ends, here);
         let more = byte(s, e);
         here = past(s, e, 1);
         if more != 1 {
@@ -80,13 +67,14 @@ fn combinator_end(s: &[u8], at: usize, levels: usize) -> usize
 }
 
 // The same, from where its inner ends.
-pub fn combinator_past(s: &[u8], end: usize) -> usize
+pub fn combinator_past(s: &[u8], ends: &[u16], end: usize) -> usize
+    requires { ⌜ Right (now s) (now ends) × Follows (now s) end ⌝ }
     ensures { λ r. ⌜ r ≡ combinatorPast (now (s .entry)) end ⌝ }
 {
     let more = byte(s, end);
     let a = past(s, end, 1);
     if more == 1 {
-        return combinator_end(s, a, 63);
+        return combinator_end(s, ends, a, 63);
     }
     a
 }

@@ -21,8 +21,8 @@ use Rattle.writer.proofs.Put.{within}
 use Rattle.lookup.proofs.Names.{stands}
 use Rattle.lift.specs.Bound.{boundFrom, withParam, Sized}
 use Rattle.lift.proofs.Params.{param-before, param-own}
-use Rattle.naming.specs.Frames.{innerEnd}
-use Rattle.naming.proofs.Ends.{inner-rest, inner-end}
+use Rattle.ends.specs.Ends.{innerEnd}
+use Rattle.ends.proofs.Ends.{inner-rest, inner-end}
 use Rattle.naming.proofs.Bound.{bound-more}
 use Rattle.walked.specs.Book.{ownBound}
 use Rattle.steps.proofs.Children.{inner-least}

@@ -1,5 +1,5 @@
 // A definition's own parameters as binders.
-use naming::inner_end;
+use ends::inner_end;
 use naming::put_binder;
 use seek::name_past;
 use seek::number;

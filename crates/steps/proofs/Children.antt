@@ -23,6 +23,7 @@ use Rattle.tables.specs.Rows.{rowsOf}
 use Rattle.lift.specs.declared.Counts.{Counts}
 use Rattle.lift.specs.Bound.{boundFrom}
 use Rattle.lift.specs.Sheet.{Sheet, sheetOf}
+use Rattle.ends.proofs.Ends.{inner-rest, inner-end}
 use Rattle.naming.specs.declared.Frame.{Frame}
 use Rattle.naming.specs.declared.Named.{Named}
 use Rattle.naming.specs.declared.Named.the-variants.{Lift, Refused}
@@ -30,7 +31,7 @@ use Rattle.naming.specs.Walk.{Start}
 use Rattle.naming.specs.Nodes.{walked, lifted, nodeOf, run}
 use Rattle.naming.specs.Frames.{combinatorEnd, Stands, OwnIs, frameAt}
 use Rattle.naming.specs.Lifts.{Whole, Answers, Lifts}
-use Rattle.naming.proofs.Ends.{inner-rest, inner-end, begins, combinator-end}
+use Rattle.naming.proofs.Ends.{begins, combinator-end}
 use Rattle.naming.proofs.Opened.{frame-opens}
 use Rattle.naming.proofs.Machine.{steps-walked, steps-lifted, steps-refused}
 use Rattle.steps.specs.Steps.{Sound, weight, Opened, ChildIs, Comes}

@@ -56,11 +56,6 @@ unfoldable pub weight : List ℕ → Frame → ℕ
 weight s f = let a = pastAt s (f .end) 1 in 3 * (f .end - f .here) + pick (f .chained) (3 * (combinatorEnd 64 s a - a)) 0 + 1
 
 -- ---- a child
-pub record Standing (s : List ℕ) (at : ℕ) : Type 0 where
-  pub what : Combinator
-  pub stands : Stands s at what
-  pub deep : levels what ≤ 64
-
 pub record Refuses (m : Res Sheet Extent) (c : ℕ) : Type 0 where
   pub code : Code
   pub sheet : Sheet

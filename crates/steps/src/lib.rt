@@ -1,5 +1,6 @@
 // The steps of the pass over a body: what a node does next, its child, its end.
 use anonymous::contains_anonymous_format;
+use ends::end_of;
 use lift::Counts;
 use lift::store;
 use lookup::name_at;
@@ -13,7 +14,6 @@ use naming::Next;
 use naming::bind_child;
 use naming::combinator_past;
 use naming::deliver;
-use naming::inner_end;
 use naming::lifts::lift_anonymous_combinator;
 use naming::minus;
 use naming::next_of;
@@ -22,11 +22,12 @@ use naming::plus;
 ghost use mathlib.Core.Path.{_≡_};
 ghost use Prim.Native.Nat.{_≤_};
 ghost use lib.ListN.{length};
+ghost use Rattle.ends.specs.Ends.{Right};
 ghost use Rattle.lift.specs.Bound.{Sized};
 ghost use Rattle.lift.specs.Sheet.{Tables};
 ghost use Rattle.naming.specs.Lifts.{Scratch};
-ghost use Rattle.naming.specs.Frames.{bindBy, boundAfter, delivered};
-ghost use Rattle.steps.specs.Steps.{StepIs, closedOf, orderOf, Standing, Comes};
+ghost use Rattle.naming.specs.Frames.{Standing, bindBy, boundAfter, delivered};
+ghost use Rattle.steps.specs.Steps.{StepIs, closedOf, orderOf, Comes};
 
 // What a node does next: it is at its end, it passes a Const field, or it walks the child at a place, whose base has so many bytes in the path.
 pub enum Step {
@@ -81,6 +82,7 @@ pub fn next_step(s: &[u8], f: Frame, path: &mut [u8]) -> Step
 // The child at a place, whose base path holds in its first `len` bytes: it is lifted where it is anonymous, else walked.
 pub fn open_child(
     s: &[u8],
+    ends: &[u16],
     at: usize,
     path: &mut [u8],
     len: usize,
@@ -98,11 +100,11 @@ pub fn open_child(
     number: &mut [u16],
     w: Counts,
 ) -> Child
-    requires { ⌜ Tables (now s) (now made) (now places) (now hashes) (now hints) (now rows) (now params) w × Standing (now s) at × Scratch (now s) (now bound) (now uses) (now spare) × (length (now path) ≡ 255) × (b ≤ 65536) × Sized (now binders) b ⌝ }
+    requires { ⌜ Tables (now s) (now made) (now places) (now hashes) (now hints) (now rows) (now params) w × Standing (now s) at × Scratch (now s) (now bound) (now uses) (now spare) × (length (now path) ≡ 255) × (b ≤ 65536) × Sized (now binders) b × Right (now s) (now ends) ⌝ }
     ensures { λ r. ⌜ Comes (now (s .entry)) at (now (path .entry)) len (now (binders .entry)) b (now (made .entry)) (now (places .entry)) (now (hashes .entry)) (now (hints .entry)) (now (rows .entry)) (now (params .entry)) (now (number .entry)) w (now (path .exit)) (now (made .exit)) (now (places .exit)) (now (hashes .exit)) (now (hints .exit)) (now (rows .exit)) (now (params .exit)) (now (number .exit)) r ⌝ }
 {
-    let end = inner_end(s, at);
-    let last = combinator_past(s, end);
+    let end = end_of(s, ends, at);
+    let last = combinator_past(s, ends, end);
     let anonymous = contains_anonymous_format(s, at, 64);
     if anonymous {
         let own = w.lifts + 1;

@@ -3,21 +3,28 @@
 use mathlib.Core.Path.{refl, _∙_}
 use native.Mathlib.Omega.{arith}
 use borrow.Author.Needs.{needs}
+use Rattle.naming.proofs.Ends.{stood, follows}
 use Rattle.body.proofs.Rounds.{Round, left, round-start, round-deep, pass-safe, close-safe, resume-safe, round-pass, round-less-pass, walks-last, round-back, round-less-back, open-safe, walks-refused, round-open, round-less-open, some, Lengths, lengths-on}
 use Rattle.body.proofs.expand_combinator.Statement.{statement}
 use Rattle.body.proofs.expand_combinator.Tie as tie
 
 abbrev Inv-loop : tie.InvT-loop
-Inv-loop s at path₀ len binders₀ b bound₀ uses₀ spare₀ made₀ places₀ hashes₀ hints₀ rows₀ params₀ number₀ order₀ n end last frames₀ f₀ d₀ counts₀ finished₀ path binders bound uses spare made places hashes hints rows params number order frames f d counts finished =
+Inv-loop s ends at path₀ len binders₀ b bound₀ uses₀ spare₀ made₀ places₀ hashes₀ hints₀ rows₀ params₀ number₀ order₀ n end last frames₀ f₀ d₀ counts₀ finished₀ path binders bound uses spare made places hashes hints rows params number order frames f d counts finished =
     Round s at path₀ len binders₀ b made₀ places₀ rows₀ params₀ order₀ counts₀ n path binders bound uses spare made places hashes hints rows params number order frames f d counts finished
     × Lengths path₀ binders₀ bound₀ uses₀ spare₀ made₀ places₀ hashes₀ hints₀ rows₀ params₀ number₀ order₀ path binders bound uses spare made places hashes hints rows params number order
 
 abbrev μ-loop : tie.MeasureT-loop
-μ-loop s at path₀ len binders₀ b bound₀ uses₀ spare₀ made₀ places₀ hashes₀ hints₀ rows₀ params₀ number₀ order₀ n end last frames₀ f₀ d₀ counts₀ finished₀ path binders bound uses spare made places hashes hints rows params number order frames f d counts finished =
+μ-loop s ends at path₀ len binders₀ b bound₀ uses₀ spare₀ made₀ places₀ hashes₀ hints₀ rows₀ params₀ number₀ order₀ n end last frames₀ f₀ d₀ counts₀ finished₀ path binders bound uses spare made places hashes hints rows params number order frames f d counts finished =
     left s frames f d
 
+end-of-requires : tie.Need-end-of-requires Inv-loop μ-loop
+end-of-requires c κs = let p = c .before .before .before .before .before .before .before .before .before .before .before .before .before .before .before .pre in (p .3, stood (omega (arith, p .0 .tables .source)) (p .1 .stands))
+
+past-requires : tie.Need-combinator-past-requires Inv-loop μ-loop
+past-requires c κs = let p = c .before .before .before .before .before .before .before .before .before .before .before .before .before .before .before .before .pre in (p .3, follows (omega (arith, p .0 .tables .source)) (p .1 .stands) (c .end-of .ensures))
+
 loop-holds : tie.Need-loop-holds Inv-loop μ-loop
-loop-holds c = (round-start _ (c .before .before .before .before .before .before .before .before .before .before .before .before .before .before .before .before .before .pre .2) (c .before .before .before .before .before .before .before .before .before .before .before .before .before .before .before .before .before .pre .0) (c .before .before .before .before .before .before .before .before .before .before .before .before .before .before .before .before .before .pre .1) (c .open-node .ensures) refl, record { path = refl; binders = refl; bound = refl; uses = refl; spare = refl; made = refl; places = refl; hashes = refl; hints = refl; rows = refl; params = refl; number = refl; order = refl })
+loop-holds c = (round-start _ (c .before .before .before .before .before .before .before .before .before .before .before .before .before .before .before .before .before .before .pre .2) (c .before .before .before .before .before .before .before .before .before .before .before .before .before .before .before .before .before .before .pre .0) (c .before .before .before .before .before .before .before .before .before .before .before .before .before .before .before .before .before .before .pre .1) (c .open-node .ensures) refl, record { path = refl; binders = refl; bound = refl; uses = refl; spare = refl; made = refl; places = refl; hashes = refl; hints = refl; rows = refl; params = refl; number = refl; order = refl })
 
 pass-requires : tie.Need-pass-requires Inv-loop μ-loop
 pass-requires c κs = pass-safe (c .before .before .before .before .before .before .before .loop .inv .0)
@@ -56,7 +63,7 @@ loop-again-2 c = (
 )
 
 open-child-requires : tie.Need-open-child-requires Inv-loop μ-loop
-open-child-requires c κs = open-safe (c .before .before .before .before .before .before .before .before .before .before .before .before .before .before .before .before .before .before .before .loop .inv .0) _ (c .before .before .before .before .before .before .before .before .before .before .before .before .before .before .before .before .before .next-step .ensures) (c .before .before .before .before .before .before .before .before .before .before .before .before .before .step2 .given .1) (c .before .before .before .before .before .before .before .before .before .before .before .before .before .before .before .before .path .given)
+open-child-requires c κs = open-safe (c .before .before .before .before .before .before .before .before .before .before .before .before .before .before .before .before .before .before .before .loop .inv .0) _ (c .before .before .before .before .before .before .before .before .before .before .before .before .before .before .before .before .before .next-step .ensures) (c .before .before .before .before .before .before .before .before .before .before .before .before .before .step2 .given .1) (c .before .before .before .before .before .before .before .before .before .before .before .before .before .before .before .before .path .given) (c .before .before .before .before .before .before .before .before .before .before .before .before .before .before .before .before .before .before .before .before .before .before .before .before .before .before .before .before .before .before .before .before .before .before .before .before .before .before .pre .3)
 
 returns-2 : tie.Need-returns-2 Inv-loop μ-loop
 returns-2 c = walks-refused (c .before .before .before .before .before .before .before .before .before .before .before .before .before .before .before .before .before .before .before .before .before .before .before .before .before .before .before .before .before .before .before .before .before .before .before .before .before .before .before .before .before .before .before .before .before .loop .inv .0) _ (c .before .before .before .before .before .before .before .before .before .before .before .before .before .before .before .before .before .before .before .before .before .before .before .before .before .before .before .before .before .before .before .before .before .before .before .before .before .before .before .before .before .before .before .next-step .ensures) (c .before .before .before .before .before .before .before .before .before .before .before .before .before .before .before .before .before .before .before .before .before .before .before .before .before .before .before .before .before .before .before .before .before .before .before .before .before .before .before .step2 .given .1) (c .before .before .before .before .before .before .before .before .before .before .before .before .before .before .before .before .before .before .before .before .before .before .before .before .before .before .before .before .before .before .before .before .before .before .before .before .before .before .before .before .before .before .path .given) (c .before .before .before .before .before .before .before .before .before .before .before .before .before .before .before .before .before .before .before .before .before .before .before .before .before .open-child .ensures) (c .before .child .given .1)
@@ -163,9 +170,9 @@ expand-combinator-spec =
     (tie.spec
     Inv-loop
     μ-loop
-    (λ c κs. search needs)
-    (λ c κs. search needs)
-    (λ c κs. c .before .inner-end .ensures)
+    end-of-requires
+    past-requires
+    (λ c κs. c .before .end-of .ensures)
     loop-holds
     (λ c κs. search needs)
     (λ c. search needs)

@@ -5,7 +5,7 @@ use Rattle.format.proofs.expand_definition.Statement.{statement}
 use Rattle.format.proofs.expand_definition.Tie as tie
 
 expand-format-requires : tie.Need-expand-format-requires
-expand-format-requires c κs = let p = c .before .before .before .before .before .before .before .before .before .before .before .before .before .before .before .before .before .before .before .before .before .before .before .before .before .before .before .before .pre in (p .0, p .1, p .2 (c .before .before .before .before .before .before .before .before .before .before .before .before .before .if1 .taken))
+expand-format-requires c κs = let p = c .before .before .before .before .before .before .before .before .before .before .before .before .before .before .before .before .before .before .before .before .before .before .before .before .before .before .before .before .before .pre in (p .0, p .1, p .2 (c .before .before .before .before .before .before .before .before .before .before .before .before .before .if1 .taken), p .3)
 
 same-path : tie.Need-same-length
 same-path c = c .before .before .before .before .before .before .before .before .before .before .before .before .before .before .before .before .before .before .before .before .before .before .before .before .before .path .given
@@ -50,7 +50,7 @@ returns : tie.Need-returns
 returns c = defined-format (c .before .before .before .before .before .before .before .before .before .before .before .before .before .before .before .before .before .before .before .before .before .before .before .before .before .before .before .before .before .before .before .before .before .before .before .before .before .before .before .before .if1 .taken) (c .before .before .before .before .before .before .before .before .before .before .before .before .before .before .before .before .before .before .before .before .before .before .before .before .before .before .expand-format .ensures)
 
 returns-2 : tie.Need-returns-2
-returns-2 c = defined-none (c .if1 .left) (c .before .before .before .before .before .before .before .before .before .before .before .before .before .before .before .pre .0)
+returns-2 c = defined-none (c .if1 .left) (c .before .before .before .before .before .before .before .before .before .before .before .before .before .before .before .before .pre .0)
 
 pub expand-definition-spec : {M : Type 1} → statement M
 expand-definition-spec =

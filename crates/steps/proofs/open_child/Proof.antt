@@ -3,16 +3,22 @@
 use mathlib.Core.Path.{refl, sym, _∙_}
 use native.Mathlib.Omega.{arith}
 use borrow.Author.Needs.{needs}
-use Rattle.naming.proofs.Ends.{end-past}
+use Rattle.naming.proofs.Ends.{end-past, stood, follows}
 use Rattle.steps.proofs.Children.{whole-of, child-walked, child-refused, child-lifted}
 use Rattle.steps.proofs.open_child.Statement.{statement}
 use Rattle.steps.proofs.open_child.Tie as tie
 
+end-of-requires : tie.Need-end-of-requires
+end-of-requires c κs = let p = c .before .before .before .before .before .before .before .before .before .before .before .before .before .before .pre in (p .6, stood (omega (arith, p .0 .source)) (p .1))
+
+past-requires : tie.Need-combinator-past-requires
+past-requires c κs = let p = c .before .before .before .before .before .before .before .before .before .before .before .before .before .before .before .pre in (p .6, follows (omega (arith, p .0 .source)) (p .1) (c .end-of .ensures))
+
 lift-requires : tie.Need-lift-anonymous-combinator-requires
 lift-requires c κs =
-    let p = c .before .before .before .before .before .before .before .before .before .before .before .before .before .before .before .before .before .before .before .before .before .before .before .before .before .before .before .before .before .pre in
+    let p = c .before .before .before .before .before .before .before .before .before .before .before .before .before .before .before .before .before .before .before .before .before .before .before .before .before .before .before .before .before .before .pre in
     let w = p .1 in
-    (p .0, record { what = w .what; whole = whole-of (w .what) (p .0 .source) (w .stands) (w .deep) (end-past _ _ (c .before .before .before .before .before .before .before .before .before .before .before .before .before .before .before .inner-end .ensures) (c .before .before .before .before .before .before .before .before .before .before .before .before .before .before .combinator-past .ensures)) }, p .2, p .3, p .4, p .5)
+    (p .0, record { what = w .what; whole = whole-of (w .what) (p .0 .source) (w .stands) (w .deep) (end-past _ _ (c .before .before .before .before .before .before .before .before .before .before .before .before .before .before .before .end-of .ensures) (c .before .before .before .before .before .before .before .before .before .before .before .before .before .before .combinator-past .ensures)) }, p .2, p .3, p .4, p .5)
 
 same-1 : tie.Need-same-length
 same-1 c = c .before .before .before .before .before .before .before .before .before .before .before .before .before .before .before .before .before .before .before .before .before .before .before .before .path .given
@@ -48,10 +54,10 @@ same-11 : tie.Need-same-length-11
 same-11 c = c .before .before .before .before .number .given
 
 returns : tie.Need-returns
-returns c = child-refused (c .before .before .before .before .before .before .before .before .before .before .before .before .before .before .before .before .before .before .before .before .before .before .before .before .before .before .before .before .before .before .before .before .before .before .before .before .before .before .before .before .before .before .before .before .before .before .before .before .before .before .before .before .before .before .before .pre .0 .source) (end-past _ _ (c .before .before .before .before .before .before .before .before .before .before .before .before .before .before .before .before .before .before .before .before .before .before .before .before .before .before .before .before .before .before .before .before .before .before .before .before .before .before .before .before .before .inner-end .ensures) (c .before .before .before .before .before .before .before .before .before .before .before .before .before .before .before .before .before .before .before .before .before .before .before .before .before .before .before .before .before .before .before .before .before .before .before .before .before .before .before .before .combinator-past .ensures)) (sym (c .before .before .before .before .before .before .before .before .before .before .before .before .before .before .before .before .before .before .before .before .before .before .before .before .before .before .before .before .before .before .before .before .before .before .before .before .before .before .before .contains-anonymous-format .ensures) ∙ c .before .before .before .before .before .before .before .before .before .before .before .before .before .before .before .before .before .before .before .before .before .before .before .before .before .before .before .before .before .before .before .before .before .before .before .before .before .before .if1 .taken) (c .before .before .before .before .before .before .before .before .before .before .before .before .before .before .before .before .before .before .before .before .before .before .before .before .before .lift-anonymous-combinator .ensures) _ (c .before .named .given .1)
+returns c = child-refused (c .before .before .before .before .before .before .before .before .before .before .before .before .before .before .before .before .before .before .before .before .before .before .before .before .before .before .before .before .before .before .before .before .before .before .before .before .before .before .before .before .before .before .before .before .before .before .before .before .before .before .before .before .before .before .before .before .pre .0 .source) (end-past _ _ (c .before .before .before .before .before .before .before .before .before .before .before .before .before .before .before .before .before .before .before .before .before .before .before .before .before .before .before .before .before .before .before .before .before .before .before .before .before .before .before .before .before .end-of .ensures) (c .before .before .before .before .before .before .before .before .before .before .before .before .before .before .before .before .before .before .before .before .before .before .before .before .before .before .before .before .before .before .before .before .before .before .before .before .before .before .before .before .combinator-past .ensures)) (sym (c .before .before .before .before .before .before .before .before .before .before .before .before .before .before .before .before .before .before .before .before .before .before .before .before .before .before .before .before .before .before .before .before .before .before .before .before .before .before .before .contains-anonymous-format .ensures) ∙ c .before .before .before .before .before .before .before .before .before .before .before .before .before .before .before .before .before .before .before .before .before .before .before .before .before .before .before .before .before .before .before .before .before .before .before .before .before .before .if1 .taken) (c .before .before .before .before .before .before .before .before .before .before .before .before .before .before .before .before .before .before .before .before .before .before .before .before .before .lift-anonymous-combinator .ensures) _ (c .before .named .given .1)
 
 open-node-requires : tie.Need-open-node-requires
-open-node-requires c κs = c .before .before .before .before .before .before .before .before .before .before .before .before .before .before .before .before .before .before .before .before .before .before .before .before .before .before .before .before .before .before .before .before .before .before .before .before .before .before .before .before .before .inner-end .ensures
+open-node-requires c κs = c .before .before .before .before .before .before .before .before .before .before .before .before .before .before .before .before .before .before .before .before .before .before .before .before .before .before .before .before .before .before .before .before .before .before .before .before .before .before .before .before .before .end-of .ensures
 
 same-12 : tie.Need-same-length-12
 same-12 c = c .before .before .before .before .before .before .before .before .before .before .before .before .before .before .before .before .before .before .before .before .before .before .before .before .before .path .given
@@ -87,17 +93,17 @@ same-22 : tie.Need-same-length-22
 same-22 c = c .before .before .before .before .before .number .given
 
 returns-2 : tie.Need-returns-2
-returns-2 c = child-lifted (c .before .before .before .before .before .before .before .before .before .before .before .before .before .before .before .before .before .before .before .before .before .before .before .before .before .before .before .before .before .before .before .before .before .before .before .before .before .before .before .before .before .before .before .before .before .before .before .before .before .before .before .before .before .before .before .before .pre .0 .source) (end-past _ _ (c .before .before .before .before .before .before .before .before .before .before .before .before .before .before .before .before .before .before .before .before .before .before .before .before .before .before .before .before .before .before .before .before .before .before .before .before .before .before .before .before .before .before .inner-end .ensures) (c .before .before .before .before .before .before .before .before .before .before .before .before .before .before .before .before .before .before .before .before .before .before .before .before .before .before .before .before .before .before .before .before .before .before .before .before .before .before .before .before .before .combinator-past .ensures)) (sym (c .before .before .before .before .before .before .before .before .before .before .before .before .before .before .before .before .before .before .before .before .before .before .before .before .before .before .before .before .before .before .before .before .before .before .before .before .before .before .before .before .contains-anonymous-format .ensures) ∙ c .before .before .before .before .before .before .before .before .before .before .before .before .before .before .before .before .before .before .before .before .before .before .before .before .before .before .before .before .before .before .before .before .before .before .before .before .before .before .before .if1 .taken) (c .before .before .before .before .before .before .before .before .before .before .before .before .before .before .before .before .before .before .before .before .before .before .before .before .before .before .lift-anonymous-combinator .ensures) (c .before .before .named2 .given .1) refl (c .open-node .ensures) (c .before .before .before .before .before .before .before .before .before .before .before .before .before .before .before .before .before .before .before .before .before .before .before .before .before .path .given)
+returns-2 c = child-lifted (c .before .before .before .before .before .before .before .before .before .before .before .before .before .before .before .before .before .before .before .before .before .before .before .before .before .before .before .before .before .before .before .before .before .before .before .before .before .before .before .before .before .before .before .before .before .before .before .before .before .before .before .before .before .before .before .before .before .pre .0 .source) (end-past _ _ (c .before .before .before .before .before .before .before .before .before .before .before .before .before .before .before .before .before .before .before .before .before .before .before .before .before .before .before .before .before .before .before .before .before .before .before .before .before .before .before .before .before .before .end-of .ensures) (c .before .before .before .before .before .before .before .before .before .before .before .before .before .before .before .before .before .before .before .before .before .before .before .before .before .before .before .before .before .before .before .before .before .before .before .before .before .before .before .before .before .combinator-past .ensures)) (sym (c .before .before .before .before .before .before .before .before .before .before .before .before .before .before .before .before .before .before .before .before .before .before .before .before .before .before .before .before .before .before .before .before .before .before .before .before .before .before .before .before .contains-anonymous-format .ensures) ∙ c .before .before .before .before .before .before .before .before .before .before .before .before .before .before .before .before .before .before .before .before .before .before .before .before .before .before .before .before .before .before .before .before .before .before .before .before .before .before .before .if1 .taken) (c .before .before .before .before .before .before .before .before .before .before .before .before .before .before .before .before .before .before .before .before .before .before .before .before .before .before .lift-anonymous-combinator .ensures) (c .before .before .named2 .given .1) refl (c .open-node .ensures) (c .before .before .before .before .before .before .before .before .before .before .before .before .before .before .before .before .before .before .before .before .before .before .before .before .before .path .given)
 
 returns-3 : tie.Need-returns-3
-returns-3 c = child-walked (c .before .before .before .before .before .before .before .before .before .before .before .before .before .before .before .before .before .before .pre .0 .source) (end-past _ _ (c .before .before .before .before .inner-end .ensures) (c .before .before .before .combinator-past .ensures)) (sym (c .before .before .contains-anonymous-format .ensures) ∙ c .before .if1 .left) (c .open-node2 .ensures)
+returns-3 c = child-walked (c .before .before .before .before .before .before .before .before .before .before .before .before .before .before .before .before .before .before .before .pre .0 .source) (end-past _ _ (c .before .before .before .before .end-of .ensures) (c .before .before .before .combinator-past .ensures)) (sym (c .before .before .contains-anonymous-format .ensures) ∙ c .before .if1 .left) (c .open-node2 .ensures)
 
 pub open-child-spec : {M : Type 1} → statement M
 open-child-spec =
     tie.close
     (tie.spec
-    (λ c κs. search needs)
-    (λ c κs. search needs)
+    end-of-requires
+    past-requires
     (λ c κs. search needs)
     (λ c. search needs)
     lift-requires
@@ -128,5 +134,5 @@ open-child-spec =
     same-21
     same-22
     returns-2
-    (λ c κs. c .before .before .before .inner-end .ensures)
+    (λ c κs. c .before .before .before .end-of .ensures)
     returns-3)

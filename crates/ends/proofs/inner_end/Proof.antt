@@ -1,11 +1,11 @@
--- `naming::inner_end` meets its contract.
+-- `ends::inner_end` meets its contract.
 -- Assumes nothing.
 use mathlib.Core.Path.{ap}
 use Rattle.marks.specs.declared.Walk.{Walk}
-use Rattle.naming.specs.Frames.{innerEnd}
+use Rattle.ends.specs.Ends.{innerEnd}
 use borrow.Author.Needs.{needs}
-use Rattle.naming.proofs.inner_end.Statement.{statement}
-use Rattle.naming.proofs.inner_end.Tie as tie
+use Rattle.ends.proofs.inner_end.Statement.{statement}
+use Rattle.ends.proofs.inner_end.Tie as tie
 
 returns : tie.Need-returns
 unfolding innerEnd
