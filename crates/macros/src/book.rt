@@ -8,24 +8,16 @@ use seek::name_past;
 use seek::number;
 use seek::past;
 use substitution::walk_over;
+use writer::minus;
 use writer::put_byte;
 use writer::put_part;
 use writer::put_u16;
 ghost use mathlib.Core.Path.{_≡_};
 ghost use mathlib.Core.List.{[], _∷_};
-ghost use Prim.Native.Nat.{_-_, _%_};
+ghost use Prim.Native.Nat.{_%_};
 ghost use Rattle.definition.specs.Write.{wU16};
 ghost use Rattle.writer.specs.Buf.{Wrote};
 ghost use Rattle.macros.specs.Left.{KeptOf, Formatted, Kept, Booked};
-
-fn minus(x: usize, y: usize) -> usize
-    ensures { λ r. ⌜ r ≡ x - y ⌝ }
-{
-    if x < y {
-        return 0;
-    }
-    x - y
-}
 
 // A format: its name and its parameters are copied, and its body is expanded. Over 64 levels it is refused.
 fn expand_format(

@@ -9,8 +9,9 @@ use seek::number;
 use seek::past;
 use seek::selector_past;
 use seek::text_past;
+use writer::minus;
 ghost use mathlib.Core.Path.{_≡_};
-ghost use Prim.Native.Nat.{_-_, _≤_, min};
+ghost use Prim.Native.Nat.{_≤_, min};
 ghost use lib.ListN.{length};
 ghost use Rattle.ends.specs.Ends.{innerEnd, Right};
 ghost use Rattle.lift.specs.Bound.{withParam};
@@ -152,15 +153,6 @@ pub fn children_of(s: &[u8], at: usize) -> Begin
             left: 0,
         },
     }
-}
-
-pub fn minus(a: usize, b: usize) -> usize
-    ensures { λ r. ⌜ r ≡ a - b ⌝ }
-{
-    if a < b {
-        return 0;
-    }
-    a - b
 }
 
 // The frame of the node whose combinator stands from `at` up to `last`, its inner up to `end`.

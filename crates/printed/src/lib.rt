@@ -6,21 +6,12 @@ use seek::number;
 use seek::past;
 use shown::put_count;
 use shown::put_shown;
+use writer::minus;
 use writer::put_byte;
 use writer::put_bytes;
 ghost use mathlib.Core.Path.{_≡_};
-ghost use Prim.Native.Nat.{_-_};
 ghost use Rattle.writer.specs.Buf.{Wrote};
 ghost use Rattle.printed.specs.Lines.{wordOf, Line, AllLines, Lists, refusal};
-
-fn minus(n: usize, m: usize) -> usize
-    ensures { λ r. ⌜ r ≡ n - m ⌝ }
-{
-    if n < m {
-        return 0;
-    }
-    n - m
-}
 
 // `format` for a definition that was there, `lifted` for one that was not.
 fn put_word(kept: usize, out: &mut [u8], at: usize) -> usize

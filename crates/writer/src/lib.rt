@@ -63,6 +63,16 @@ pub fn least(x: usize, y: usize) -> usize
     y
 }
 
+// How much x is over y.
+pub fn minus(x: usize, y: usize) -> usize
+    ensures { λ r. ⌜ r ≡ x - y ⌝ }
+{
+    if x < y {
+        return 0;
+    }
+    x - y
+}
+
 // The bytes of src from place a up to place e, as far as src reaches.
 pub fn put_part(src: &[u8], a: usize, e: usize, dst: &mut [u8], at: usize) -> usize
     ensures { λ r. ⌜ Wrote (now (dst .entry)) at (part a e (now (src .entry))) (now (dst .exit)) r ⌝ }

@@ -9,7 +9,7 @@ use Rattle.macros.proofs.book.expand_all.Tie as tie
 use Rattle.macros.proofs.book.expand_all.Reads as reads
 use Rattle.macros.proofs.book.expand_all.Lts as lts
 use Rattle.macros.proofs.book.expand_definition.Reads as expand-definition-reads
-use Rattle.macros.proofs.book.minus.Reads as minus-reads
+use Rattle.writer.proofs.minus.Reads as minus-reads
 use Rattle.macros.proofs.book.put_entry.Reads as put-entry-reads
 use Rattle.seek.proofs.byte.Reads as byte-reads
 use Rattle.seek.proofs.number.Reads as number-reads
