@@ -63,14 +63,14 @@ pub fn least(x: usize, y: usize) -> usize
     y
 }
 
-// How much x is over y.
-pub fn minus(x: usize, y: usize) -> usize
-    ensures { λ r. ⌜ r ≡ x - y ⌝ }
+// How much the first is over the second.
+pub fn minus(first: usize, second: usize) -> usize
+    ensures { λ r. ⌜ r ≡ first - second ⌝ }
 {
-    if x < y {
+    if first < second {
         return 0;
     }
-    x - y
+    first - second
 }
 
 // The bytes of src from place a up to place e, as far as src reaches.
