@@ -1,7 +1,12 @@
 -- `skip::skip_inner` meets its contract.
 -- Assumes nothing.
-use mathlib.Core.Path.{refl}
-use Rattle.calls.specs.Walk.{skipAt}
+use mathlib.Core.Path.{_≡_, refl}
+use mathlib.Core.List.{List}
+use Prim.Native.Nat.{ℕ, _+_}
+use lib.ListN.{length}
+use Rattle.marks.specs.declared.Walk.{Walk}
+use Rattle.marks.specs.Steps.{silent, back}
+use Rattle.calls.specs.Walk.{innerAt, skipAt}
 use borrow.Author.Needs.{needs}
 use Rattle.skip.proofs.skip_inner.Statement.{statement}
 use Rattle.skip.proofs.skip_inner.Tie as tie
@@ -26,9 +31,15 @@ back-requires c κs = search needs
 same-length : tie.Need-same-length
 same-length c = search needs
 
-returns : tie.Need-returns
+skipped : (k : ℕ) (s : List ℕ) (w : Walk) (m : List ℕ) {v r x : Walk} {m′ : List ℕ} → v ≡ silent w (w .at) (length m + 1) → r ≡ innerAt k s v m .0 → m′ ≡ innerAt k s v m .1 → x ≡ back w r
+    → (x ≡ skipAt k s w m .0) × (m′ ≡ skipAt k s w m .1)
 unfolding skipAt
-returns c = rw (← (c .before .before .before .before .before .silent .ensures), ← (c .before .before .before .inner .ensures .0), ← (c .before .before .before .inner .ensures .1)) (c .back .ensures, refl)
+skipped k s w m e f g h = rw (h, f, g, e) (refl, refl)
+
+returns : tie.Need-returns
+returns c =
+    let r = c .before .before .before .inner .ensures in
+    skipped _ _ _ _ (c .before .before .before .before .before .silent .ensures) (r .0) (r .1) (c .back .ensures)
 
 pub skip-inner-spec : {M : Type 1} → statement M
 skip-inner-spec =
