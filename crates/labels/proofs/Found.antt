@@ -65,6 +65,9 @@ module _ (s : List ℕ) {t u : List ℕ} {b : ℕ} (q : Same t u b) where
         ∙ ap (elem n) (sym labels-same);
   }
 
+pub same-then : {t u v : List ℕ} {b : ℕ} → Same t u b → Same u v b → Same t v b
+same-then p q = record { at = λ j h. p .at j h ∙ q .at j h }
+
 -- with no label in force no name is found
 pub finds-none : (s t : List ℕ) → Finds s t 0
 unfolding isLabel linked labelsIn elem
@@ -85,11 +88,19 @@ never s n t (suc i) e link = ⊎-elim
     (yes-no (eqName n (labelAt s t i)))
 
 -- a label that is bound, with room for it
-module _ (s : List ℕ) (at : ℕ) (t : List ℕ) (b : ℕ) (near : at < 16777216) (few : b + 1 < 16777216) (room : 514 + 2 * b ≤ length t) where
-  abbrev pub bound : List ℕ
-  bound = set (set (set t (512 + 2 * b) at) (513 + 2 * b) (getD t (headOf (nameAt s at)) 0)) (headOf (nameAt s at)) (suc b)
+abbrev pub labelled : List ℕ → ℕ → List ℕ → ℕ → List ℕ
+labelled s at t b =
+    let h = headOf (nameAt s at) in
+    set (set (set t (512 + 2 * b) at) (513 + 2 * b) (getD t h 0)) h (suc b)
 
-  pub bind-is : bindAt s at t b ≡ (suc b, bound)
+module _ (s : List ℕ) (at : ℕ) (t : List ℕ) (b : ℕ) (near : at < 16777216) (few : b + 1 < 16777216) (room : 514 + 2 * b ≤ length t) where
+  abbrev T : List ℕ
+  T = labelled s at t b
+
+  abbrev h : ℕ
+  h = headOf (nameAt s at)
+
+  pub bind-is : bindAt s at t b ≡ (suc b, labelled s at t b)
   unfolding bindAt
   bind-is =
       let place : at % 16777216 ≡ at = omega arith in
@@ -97,54 +108,54 @@ module _ (s : List ℕ) (at : ℕ) (t : List ℕ) (b : ℕ) (near : at < 1677721
       let next : 512 + 2 * b + 1 ≡ 513 + 2 * b = omega arith in
       rw (lt-leb (length t) (512 + 2 * b + 1) (omega arith), place, count, next, add-one b)
 
-  abbrev h : ℕ
-  h = headOf (nameAt s at)
+  pub labelled-long : length (labelled s at t b) ≡ length t
+  labelled-long = simp length-set
 
   small : h < 512
   small = head-small (nameAt s at)
 
-  at-head : getD bound h 0 ≡ suc b
+  at-head : getD T h 0 ≡ suc b
   at-head = getD-set-same (set (set t (512 + 2 * b) at) (513 + 2 * b) (getD t h 0)) h (suc b) 0 (simp length-set (let k = small in omega arith))
 
-  not-head : (j : ℕ) → (j ≡ h → ⊥) → getD bound j 0 ≡ getD (set (set t (512 + 2 * b) at) (513 + 2 * b) (getD t h 0)) j 0
+  not-head : (j : ℕ) → (j ≡ h → ⊥) → getD T j 0 ≡ getD (set (set t (512 + 2 * b) at) (513 + 2 * b) (getD t h 0)) j 0
   not-head j e = getD-set-other (set (set t (512 + 2 * b) at) (513 + 2 * b) (getD t h 0)) h j (suc b) 0 e
 
-  at-link : linkAt bound b ≡ getD t h 0
+  at-link : linkAt T b ≡ getD t h 0
   unfolding linkAt
   at-link =
       not-head (513 + 2 * b) (λ e. let k = small in omega arith)
       ∙ getD-set-same (set t (512 + 2 * b) at) (513 + 2 * b) (getD t h 0) 0 (simp length-set (omega arith))
 
-  at-label : labelAt s bound b ≡ nameAt s at
+  at-label : labelAt s T b ≡ nameAt s at
   unfolding labelAt
   at-label = ap (nameAt s)
       (not-head (512 + 2 * b) (λ e. let k = small in omega arith)
       ∙ getD-set-other (set t (512 + 2 * b) at) (513 + 2 * b) (512 + 2 * b) (getD t h 0) 0 (λ e. omega arith)
       ∙ getD-set-same t (512 + 2 * b) at 0 (omega arith))
 
-  before : (j : ℕ) → j < 512 + 2 * b → (j ≡ h → ⊥) → getD bound j 0 ≡ getD t j 0
+  before : (j : ℕ) → j < 512 + 2 * b → (j ≡ h → ⊥) → getD T j 0 ≡ getD t j 0
   before j k e =
       not-head j e
       ∙ getD-set-other (set t (512 + 2 * b) at) (513 + 2 * b) j (getD t h 0) 0 (λ q. omega arith)
       ∙ getD-set-other t (512 + 2 * b) j at 0 (λ q. omega arith)
 
-  behind : (j : ℕ) → 512 ≤ j → j < 512 + 2 * b → getD bound j 0 ≡ getD t j 0
+  behind : (j : ℕ) → 512 ≤ j → j < 512 + 2 * b → getD T j 0 ≡ getD t j 0
   behind j g k = before j k (λ e. let q = small in omega arith)
 
-  pub labels-bind : labelsIn s bound (suc b) ≡ nameAt s at ∷ labelsIn s t b
+  pub labels-bind : labelsIn s (labelled s at t b) (suc b) ≡ nameAt s at ∷ labelsIn s t b
   unfolding labelsIn
-  labels-bind = rw (at-label, same-labels s bound t {b = b} behind b (omega arith))
+  labels-bind = rw (at-label, same-labels s T t {b = b} behind b (omega arith))
 
   module _ (f : Finds s t b) (n : Name) where
-    on : (link : ℕ) → linked s n bound b link ≡ linked s n t b link
-    on link = same-linked s bound t {b = b} behind n b (omega arith) link
+    on : (link : ℕ) → linked s n T b link ≡ linked s n t b link
+    on link = same-linked s T t {b = b} behind n b (omega arith) link
 
     found : linked s n t b (getD t (headOf n) 0) ≡ elem n (labelsIn s t b)
     unfolding isLabel
     found = f .is n
 
     -- a name with the label's hash, and one with another
-    with-hash : headOf n ≡ h → linked s n bound (suc b) (getD bound (headOf n) 0) ≡ elem n (nameAt s at ∷ labelsIn s t b)
+    with-hash : headOf n ≡ h → linked s n T (suc b) (getD T (headOf n) 0) ≡ elem n (nameAt s at ∷ labelsIn s t b)
     unfolding linked elem
     with-hash e =
         let q : linked s n t b (getD t h 0) ≡ elem n (labelsIn s t b) = rw (← e) found in
@@ -154,21 +165,21 @@ module _ (s : List ℕ) (at : ℕ) (t : List ℕ) (b : ℕ) (near : at < 1677721
         same true y = refl
         same false y = refl
 
-    without-hash : (headOf n ≡ h → ⊥) → linked s n bound (suc b) (getD bound (headOf n) 0) ≡ elem n (nameAt s at ∷ labelsIn s t b)
+    without-hash : (headOf n ≡ h → ⊥) → linked s n T (suc b) (getD T (headOf n) 0) ≡ elem n (nameAt s at ∷ labelsIn s t b)
     unfolding linked elem
     without-hash e =
         let other : eqName n (nameAt s at) ≡ false = ne-name n (nameAt s at) (λ q. e (ap headOf q)) in
         let g : ℕ = getD t (headOf n) 0 in
-        let head : getD bound (headOf n) 0 ≡ g = before (headOf n) (let q = head-small n in omega arith) e in
+        let head : getD T (headOf n) 0 ≡ g = before (headOf n) (let q = head-small n in omega arith) e in
         rw (head, at-label, other)
         (⊎-elim
         (λ (p : eqb g (suc b) ≡ true).
         let none : elem n (labelsIn s t b) ≡ false = sym found ∙ linked-far s n t b g (let q = eqb-true g (suc b) p in omega arith) in
-        rw (p, none) (on (linkAt bound b) ∙ never s n t b none (linkAt bound b)))
+        rw (p, none) (on (linkAt T b) ∙ never s n t b none (linkAt T b)))
         (λ (p : eqb g (suc b) ≡ false). rw p (on g ∙ found))
         (yes-no (eqb g (suc b))))
 
-  pub finds-bind : Finds s t b → Finds s bound (suc b)
+  pub finds-bind : Finds s t b → Finds s (labelled s at t b) (suc b)
   unfolding isLabel
   finds-bind f = record {
     is = λ n. ⊎-elim
@@ -178,11 +189,11 @@ module _ (s : List ℕ) (at : ℕ) (t : List ℕ) (b : ℕ) (near : at < 1677721
   }
 
   -- and taken back again, after whatever left it as it was
-  pub release-back : (u : List ℕ) → length u ≡ length t → Same u bound (suc b) → Same (releaseAt s u b) t b
+  pub release-back : (u : List ℕ) → length u ≡ length t → Same u (labelled s at t b) (suc b) → Same (releaseAt s u b) t b
   unfolding releaseAt
   release-back u long q =
-      let label : labelAt s u b ≡ nameAt s at = same-label s u bound {b = suc b} (λ j g k. q .at j k) b (omega arith) ∙ at-label in
-      let link : linkAt u b ≡ getD t h 0 = same-link s u bound {b = suc b} (λ j g k. q .at j k) b (omega arith) ∙ at-link in
+      let label : labelAt s u b ≡ nameAt s at = same-label s u T {b = suc b} (λ j g k. q .at j k) b (omega arith) ∙ at-label in
+      let link : linkAt u b ≡ getD t h 0 = same-link s u T {b = suc b} (λ j g k. q .at j k) b (omega arith) ∙ at-link in
       record {
         at = λ j k. rw (label, link) (⊎-elim
             (λ (e : eqb j h ≡ true). rw (eqb-true j h e) (getD-set-same u h (getD t h 0) 0 (let q = small in omega arith)))
