@@ -23,7 +23,7 @@ use Rattle.uses.specs.declared.Walk.{Walk}
 use Rattle.lookup.specs.Name.{nameAt}
 use Rattle.lookup.proofs.Names.{stands as label-stands}
 use Rattle.labels.specs.Labels.{labelsIn}
-use Rattle.labels.proofs.Found.{Same, Finds, labelled, labelled-long, bind-is, finds-bind}
+use Rattle.labels.proofs.Found.{Same, labelled, labelled-long, bind-is, finds-bind}
 use Rattle.uses.specs.Uses.{nameIn, namesIn, useAt, isBound}
 use Rattle.uses.specs.Steps.{walk, moved, counted, timesUse, nameBy, namesBy, lengthBy, callBy, selectorBy, bindBy}
 use Rattle.collect.specs.Walk.{State, Step, times, many, fieldBy, fieldsBy, wrapBy, caseBy, choiceBy, arrayBy, macroBy, innerBy, chainBy, tailBy, combinatorBy, argumentBy, combinatorAt, argumentAt}

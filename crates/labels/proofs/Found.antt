@@ -2,15 +2,15 @@
 -- Assumes nothing.
 use mathlib.Core.Path.{_≡_, refl, sym, ap, _∙_}
 use mathlib.Core.Logic.{⊎-elim}
-use mathlib.Core.List.{List, [], _∷_}
+use mathlib.Core.List.{List, _∷_}
 use mathlib.Core.Bool.{Bool, true, false, cond}
-use Prim.Native.Nat.{ℕ, zero, suc, _+_, _-_, _*_, _%_, _≤_, _<_}
+use Prim.Native.Nat.{ℕ, zero, suc, _+_, _*_, _%_, _≤_, _<_}
 use native.Mathlib.Omega.{arith}
 use native.Mathlib.Numerals.{add-one}
 use lib.Dec.{eqb}
 use lib.ListN.{length, getD, set, length-set}
 use lib.Seq.{getD-set-same, getD-set-other}
-use borrow.Author.Tests.{eqb-true, eqb-false, eq-eqb, ne-eqb, le-leb, lt-leb}
+use borrow.Author.Tests.{eqb-true, eqb-false, eq-eqb, le-leb, lt-leb}
 use Rattle.definition.specs.Tree.{Name}
 use Rattle.definition.specs.Names.{eqName, elem}
 use Rattle.lookup.specs.Name.{nameAt}
@@ -18,7 +18,7 @@ use Rattle.lookup.proofs.Names.{yes-no, clash, ne-name}
 use Rattle.writer.proofs.Put.{within}
 use Rattle.seek.specs.At.{pick}
 use Rattle.labels.specs.Labels.{headOf, labelAt, linkAt, labelsIn, linked, isLabel, bindAt, releaseAt, unbindAt}
-use Rattle.labels.proofs.Steps.{linked-far, unbind-on, unbind-done}
+use Rattle.labels.proofs.Steps.{linked-far, unbind-done}
 
 -- two tables with the same heads and the same first b labels
 pub record Same (t u : List ℕ) (b : ℕ) : Type 0 where

@@ -1,22 +1,19 @@
+-- `labels::held` meets its contract.
+-- Assumes nothing.
 use mathlib.Core.Path.{sym}
 use lib.ListN.{List·getD-eq-default}
 use borrow.Author.Needs.{needs}
 use Rattle.labels.proofs.held.Statement.{statement}
 use Rattle.labels.proofs.held.Tie as tie
-use Rattle.labels.proofs.held.Reads as reads
-use Rattle.labels.proofs.held.Lts as lts
 
 returns : tie.Need-returns
 returns c = sym (List·getD-eq-default (c .before .args .table .now) 0 (c .if1 .taken))
 
-mul-result : tie.Need-mul-result
-mul-result c = search needs
-
-shared-slice-read-result : tie.Need-shared-slice-read-result
-shared-slice-read-result c = search needs
-
-returns-2 : tie.Need-returns-2
-returns-2 c = search needs
-
 pub held-spec : {M : Type 1} → statement M
-held-spec = tie.close (tie.spec returns mul-result shared-slice-read-result returns-2)
+held-spec =
+    tie.close
+    (tie.spec
+    returns
+    (λ c. search needs)
+    (λ c. search needs)
+    (λ c. search needs))

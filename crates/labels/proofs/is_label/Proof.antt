@@ -1,3 +1,5 @@
+-- `labels::is_label` meets its contract.
+-- Assumes nothing.
 use mathlib.Core.Path.{_≡_, sym, _∙_}
 use native.Mathlib.Omega.{arith}
 use Rattle.labels.specs.Labels.{isLabel, linked}
@@ -5,13 +7,6 @@ use Rattle.labels.proofs.Steps.{linked-none, linked-far, linked-on, is-
 use borrow.Author.Needs.{needs}
 use Rattle.labels.proofs.is_label.Statement.{statement}
 use Rattle.labels.proofs.is_label.Tie as tie
-use Rattle.labels.proofs.is_label.Reads as reads
-use Rattle.labels.proofs.is_label.Lts as lts
-use Rattle.labels.proofs.head_of.Reads as head-of-reads
-use Rattle.labels.proofs.held.Reads as held-reads
-use Rattle.labels.proofs.label_at.Reads as label-at-reads
-use Rattle.labels.proofs.link_at.Reads as link-at-reads
-use Rattle.lookup.proofs.same_name.Reads as same-name-reads
 
 abbrev Inv-loop : tie.InvT-loop
 Inv-loop s name table b h before₀ link₀ before link = isLabel s name table b ≡ linked s name table before link
@@ -21,15 +16,6 @@ abbrev μ-loop : tie.MeasureT-loop
 
 returns : tie.Need-returns Inv-loop μ-loop
 returns c = sym (is-none _ _ _ _ (c .if1 .taken))
-
-head-of-requires : tie.Need-head-of-requires Inv-loop μ-loop
-head-of-requires c κs = search needs
-
-held-requires : tie.Need-held-requires Inv-loop μ-loop
-held-requires c κs = search needs
-
-cast-link : tie.Need-cast-link Inv-loop μ-loop
-cast-link c = search needs
 
 loop-holds : tie.Need-loop-holds Inv-loop μ-loop
 unfolding isLabel
@@ -41,20 +27,8 @@ returns-2 c = sym (c .before .before .loop .inv ∙ linked-far _ _ _ _ _ (c .if2
 sub-before : tie.Need-sub-before Inv-loop μ-loop
 sub-before c = omega arith
 
-label-at-requires : tie.Need-label-at-requires Inv-loop μ-loop
-label-at-requires c κs = search needs
-
-same-name-requires : tie.Need-same-name-requires Inv-loop μ-loop
-same-name-requires c κs = search needs
-
 returns-3 : tie.Need-returns-3 Inv-loop μ-loop
 returns-3 c = sym (c .before .before .before .before .before .loop .inv ∙ linked-on _ _ _ _ _ (c .before .before .before .before .loop-test .taken) (c .before .before .before .if2 .left) ∙ rw (← (c .before .before .label-at .ensures), ← (c .before .same-name .ensures), c .if3 .taken))
-
-link-at-requires : tie.Need-link-at-requires Inv-loop μ-loop
-link-at-requires c κs = search needs
-
-cast-link-2 : tie.Need-cast-link-2 Inv-loop μ-loop
-cast-link-2 c = search needs
 
 loop-less : tie.Need-loop-less Inv-loop μ-loop
 loop-less c = omega arith
@@ -72,17 +46,17 @@ is-label-spec =
     Inv-loop
     μ-loop
     returns
-    head-of-requires
-    held-requires
-    cast-link
+    (λ c κs. search needs)
+    (λ c κs. search needs)
+    (λ c. search needs)
     loop-holds
     returns-2
     sub-before
-    label-at-requires
-    same-name-requires
+    (λ c κs. search needs)
+    (λ c κs. search needs)
     returns-3
-    link-at-requires
-    cast-link-2
+    (λ c κs. search needs)
+    (λ c. search needs)
     loop-less
     loop-again
     returns-4)

@@ -1,3 +1,5 @@
+-- `labels::link_at` meets its contract.
+-- Assumes nothing.
 use mathlib.Core.Path.{sym}
 use Rattle.labels.specs.Labels.{linkAt}
 use native.Mathlib.Omega.{arith}
@@ -5,26 +7,21 @@ use lib.ListN.{List·getD-eq-default}
 use borrow.Author.Needs.{needs}
 use Rattle.labels.proofs.link_at.Statement.{statement}
 use Rattle.labels.proofs.link_at.Tie as tie
-use Rattle.labels.proofs.link_at.Reads as reads
-use Rattle.labels.proofs.link_at.Lts as lts
-use Rattle.labels.proofs.held.Reads as held-reads
 
 returns : tie.Need-returns
 unfolding linkAt
 returns c = sym (List·getD-eq-default (c .before .before .args .table .now) 0 (omega arith))
-
-mul-held : tie.Need-mul-held
-mul-held c = search needs
-
-add-held : tie.Need-add-held
-add-held c = search needs
-
-held-requires : tie.Need-held-requires
-held-requires c κs = search needs
 
 returns-2 : tie.Need-returns-2
 unfolding linkAt
 returns-2 c = c .held .ensures
 
 pub link-at-spec : {M : Type 1} → statement M
-link-at-spec = tie.close (tie.spec returns mul-held add-held held-requires returns-2)
+link-at-spec =
+    tie.close
+    (tie.spec
+    returns
+    (λ c. search needs)
+    (λ c. search needs)
+    (λ c κs. search needs)
+    returns-2)

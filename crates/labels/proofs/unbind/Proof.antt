@@ -1,3 +1,5 @@
+-- `labels::unbind` meets its contract.
+-- Assumes nothing.
 use mathlib.Core.Path.{_≡_, refl, sym, _∙_}
 use lib.ListN.{length}
 use native.Mathlib.Omega.{arith}
@@ -6,9 +8,6 @@ use Rattle.labels.proofs.Steps.{unbind-on, unbind-done}
 use borrow.Author.Needs.{needs}
 use Rattle.labels.proofs.unbind.Statement.{statement}
 use Rattle.labels.proofs.unbind.Tie as tie
-use Rattle.labels.proofs.unbind.Reads as reads
-use Rattle.labels.proofs.unbind.Lts as lts
-use Rattle.labels.proofs.release.Reads as release-reads
 
 abbrev Inv-loop : tie.InvT-loop
 Inv-loop s table₀ b end i₀ table i = (length table ≡ length table₀) × (unbindAt s b end table₀ ≡ unbindAt s b i table)
@@ -22,17 +21,11 @@ loop-holds c = (refl, refl)
 sub-i : tie.Need-sub-i Inv-loop μ-loop
 sub-i c = omega arith
 
-release-requires : tie.Need-release-requires Inv-loop μ-loop
-release-requires c κs = search needs
-
 loop-less : tie.Need-loop-less Inv-loop μ-loop
 loop-less c = omega arith
 
 loop-again : tie.Need-loop-again Inv-loop μ-loop
 loop-again c = (omega arith, c .before .before .before .before .before .loop .inv .1 ∙ unbind-on _ _ _ _ (c .before .before .before .before .loop-test .taken) ∙ rw (← (c .before .before .release .ensures)))
-
-same-length : tie.Need-same-length Inv-loop μ-loop
-same-length c = search needs
 
 returns : tie.Need-returns Inv-loop μ-loop
 returns c = sym (c .before .loop .inv .1 ∙ unbind-done _ _ _ _ (c .loop-test .left))
@@ -45,8 +38,8 @@ unbind-spec =
     μ-loop
     loop-holds
     sub-i
-    release-requires
+    (λ c κs. search needs)
     loop-less
     loop-again
-    same-length
+    (λ c. search needs)
     returns)
