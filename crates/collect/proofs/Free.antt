@@ -17,6 +17,8 @@ use Rattle.seek.specs.At.{byteAt}
 use Rattle.seek.specs.Here.{Here}
 use Rattle.seek.proofs.Here.{here-length}
 use Rattle.collect.specs.declared.Collected.the-variants.{Uses, Leftover}
+use Rattle.labels.specs.Labels.{labelsIn}
+use Rattle.labels.proofs.Found.{finds-none}
 use Rattle.uses.specs.Uses.{namesIn}
 use Rattle.uses.specs.Steps.{walk}
 use Rattle.collect.specs.Walk.{collectAt, answerOf}
@@ -31,10 +33,10 @@ length-names s [] = refl
 length-names s (x ∷ l) = let h = length-names s l in omega arith
 
 module _ (s : List ℕ) (p : ℕ) (c : Combinator) (z : List ℕ) (small : (i : ℕ) → byteAt s i < 256) (short : length s < 16777216) (deep : levels c ≤ 64) (h : Here s p (wCombinator c z)) where
-  module _ (bound uses : List ℕ) (labels : length s ≤ 4 * length bound) where
+  module _ (bound uses : List ℕ) (labels : length s + 1024 ≤ 2 * length bound) where
     gathered : Gathered s z (free c) (leftover c) 0 0 false bound uses (collectAt s p bound uses)
     unfolding collectAt
-    gathered = gather s small short c 64 deep (walk p 0 0 false) bound uses z record { here = h; room = omega (arith, here-length h); fits = omega arith }
+    gathered = gather s small short c 64 deep (walk p 0 0 false) bound uses z record { here = h; few = omega (arith, here-length h); room = labels; finds = finds-none s bound; fits = omega arith }
 
     pub uses-long : length (collectAt s p bound uses .2) ≡ length uses
     uses-long = same-length (gathered .wrote)
@@ -43,7 +45,7 @@ module _ (s : List ℕ) (p : ℕ) (c : Combinator) (z : List ℕ) (small : (i : 
     collect-leftover e = rw (gathered .left, e)
 
     named : namesIn s (gathered .used) ≡ free c
-    unfolding namesIn
+    unfolding labelsIn
     named = gathered .named ∙ without-none (free c)
 
     many : length (gathered .used) ≡ length (free c)

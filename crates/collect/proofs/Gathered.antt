@@ -1,21 +1,23 @@
--- What a step of the walk leaves behind: its place, the uses written, and the labels as they were. Steps one after the other are one.
+-- What a step of the walk leaves behind: its place, the uses written, and the table of labels as it was. Steps one after the other are one.
 -- Assumes nothing.
 use mathlib.Core.Path.{_≡_, refl, sym, ap, _∙_}
-use mathlib.Core.List.{List, [], _∷_, _++_}
+use mathlib.Core.List.{List, [], _++_}
 use mathlib.Core.Bool.{Bool, true, false, _||_}
 use Prim.Native.Nat.{ℕ, suc, _+_, _*_, _≤_, _<_}
 use native.Mathlib.Omega.{arith}
-use lib.ListN.{length, take}
-use lib.Seq.{take-take}
+use lib.ListN.{length}
 use Rattle.definition.specs.Tree.{Name}
 use Rattle.definition.specs.Names.{remove}
 use Rattle.laws.proofs.Splits.{Splits}
 use Rattle.laws.proofs.Sizes.{adds}
 use Rattle.writer.specs.Buf.{after, Wrote}
-use Rattle.writer.proofs.Put.{put-nil, put-past, take-put, take-written}
+use Rattle.writer.proofs.Put.{put-nil, put-past}
 use Rattle.writer.proofs.Wrote.{glue, place-is, same-length}
 use Rattle.seek.specs.Here.{Here}
-use Rattle.uses.specs.Uses.{nameIn, namesIn}
+use Rattle.lookup.specs.Name.{nameAt}
+use Rattle.labels.specs.Labels.{labelsIn, unbindAt}
+use Rattle.labels.proofs.Found.{Same, Finds, same-then, labels-same, finds-same, labelled, labelled-long, labels-bind, release-back, unbind-once, unbind-none, unbind-long}
+use Rattle.uses.specs.Uses.{namesIn}
 use Rattle.uses.specs.Steps.{walk, moved}
 use Rattle.collect.specs.Walk.{State}
 use Rattle.uses.proofs.Without.{without, without-append, without-bind, names-append}
@@ -27,15 +29,17 @@ pub record Gathered (s z : List ℕ) (ns : List Name) (l : Bool) (n b : ℕ) (f 
   pub left : g .0 .leftover ≡ f || l
   pub used : List ℕ
   pub wrote : Wrote uses n used (g .2) (g .0 .n)
-  pub named : namesIn s used ≡ without (namesIn s (take b bound)) ns
+  pub named : namesIn s used ≡ without (labelsIn s bound b) ns
   pub same : g .0 .b ≡ b
-  pub kept : take b (g .1) ≡ take b bound
+  pub kept : Same (g .1) bound b
   pub long : length (g .1) ≡ length bound
 
--- a step can be made: what stands at its place, and room for a label for every four bytes to come
+-- a step can be made: what stands at its place, room for a label for every four bytes of s, of which those in force have taken theirs, and these are found
 pub record Ready (s : List ℕ) (p : ℕ) (l : List ℕ) (n b : ℕ) (bound uses : List ℕ) : Type 0 where
   pub here : Here s p l
-  pub room : 4 * b + length l ≤ 4 * length bound
+  pub few : 4 * b + length l ≤ length s
+  pub room : length s + 1024 ≤ 2 * length bound
+  pub finds : Finds s bound b
   pub fits : n ≤ suc (length uses)
 
 or-assoc : (a b c : Bool) → (a || b) || c ≡ a || (b || c)
@@ -52,13 +56,15 @@ or-true false = refl
 
 -- behind what was written
 pub ready-past : (w : List ℕ → List ℕ) → Splits w → {s : List ℕ} {p q n b : ℕ} {bound uses : List ℕ} (z : List ℕ) → Ready s p (w z) n b bound uses → Here s q z → Ready s q z n b bound uses
-ready-past w split z r h = record { here = h; room = omega (arith, adds w split z, r .room); fits = r .fits }
+ready-past w split z r h = record { here = h; few = omega (arith, adds w split z, r .few); room = r .room; finds = r .finds; fits = r .fits }
 
 module _ {s z : List ℕ} {ns : List Name} {l : Bool} {n b : ℕ} {f : Bool} {bound uses : List ℕ} {g : State} (p : Gathered s z ns l n b f bound uses g) where
   pub ready-on : (w : List ℕ → List ℕ) → Splits w → {q : ℕ} → Ready s q (w z) n b bound uses → Ready s (g .0 .at) z (g .0 .n) (g .0 .b) (g .1) (g .2)
   ready-on w split r = record {
     here = p .here;
-    room = omega (arith, adds w split z, r .room, p .same, p .long);
+    few = omega (arith, adds w split z, r .few, p .same);
+    room = omega (arith, r .room, p .long);
+    finds = rw (p .same) (finds-same s (p .kept) (r .finds));
     fits = omega (arith, place-is (p .wrote), same-length (p .wrote));
   }
 
@@ -66,13 +72,9 @@ module _ {s z : List ℕ} {ns : List Name} {l : Bool} {n b : ℕ} {f : Bool} {bo
   pub moves : {y : List ℕ} {q : ℕ} → Here s q y → Gathered s y ns l n b f bound uses (moved (g .0) q, g .1, g .2)
   moves h = record { here = h; left = p .left; used = p .used; wrote = p .wrote; named = p .named; same = p .same; kept = p .kept; long = p .long }
 
-  -- with the count of labels that it started from
-  pub rebound : Gathered s z ns l n b f bound uses (walk (g .0 .at) (g .0 .n) b (g .0 .leftover), g .1, g .2)
-  rebound = record { here = p .here; left = p .left; used = p .used; wrote = p .wrote; named = p .named; same = refl; kept = p .kept; long = p .long }
-
   pub then : {y : List ℕ} {ms : List Name} {k : Bool} {h : State} → Gathered s y ms k (g .0 .n) (g .0 .b) (g .0 .leftover) (g .1) (g .2) h → Gathered s y (ns ++ ms) (l || k) n b f bound uses h
   then {ms = ms} {k = k} {h = h} q =
-      let labels : take (g .0 .b) (g .1) ≡ take b bound = ap (λ (m : ℕ). take m (g .1)) (p .same) ∙ p .kept in
+      let labels : labelsIn s (g .1) (g .0 .b) ≡ labelsIn s bound b = rw (p .same) (labels-same s (p .kept)) in
       record {
         here = q .here;
         left = q .left ∙ ap (λ (e : Bool). e || k) (p .left) ∙ or-assoc f l k;
@@ -81,10 +83,10 @@ module _ {s z : List ℕ} {ns : List Name} {l : Bool} {n b : ℕ} {f : Bool} {bo
         named =
             names-append s (p .used) (q .used)
             ∙ ap (λ (x : List Name). x ++ namesIn s (q .used)) (p .named)
-            ∙ ap (λ (x : List Name). without (namesIn s (take b bound)) ns ++ x) (q .named ∙ ap (λ (x : List ℕ). without (namesIn s x) ms) labels)
-            ∙ sym (without-append (namesIn s (take b bound)) ns ms);
+            ∙ ap (λ (x : List Name). without (labelsIn s bound b) ns ++ x) (q .named ∙ ap (λ (x : List Name). without x ms) labels)
+            ∙ sym (without-append (labelsIn s bound b) ns ms);
         same = q .same ∙ p .same;
-        kept = ap (λ (m : ℕ). take m (h .1)) (sym (p .same)) ∙ q .kept ∙ labels;
+        kept = same-then (rw (p .same) at (q .kept)) (p .kept);
         long = q .long ∙ p .long;
       }
 
@@ -102,7 +104,7 @@ nothing-used f r h = record {
   wrote = wrote-nothing r;
   named = refl;
   same = refl;
-  kept = refl;
+  kept = record { at = λ j h. refl };
   long = refl;
 }
 
@@ -121,30 +123,50 @@ hushed {uses = uses} met r p k = record {
   long = p .long;
 }
 
--- a label bound for what follows
-module _ {s z : List ℕ} {ns : List Name} {l : Bool} {n b x m : ℕ} {f : Bool} {bound bound′ uses : List ℕ} {g : State} where
-  pub binds : (name : Name) → nameIn s x ≡ name → b < length bound → Wrote bound b (x ∷ []) bound′ m → Gathered s z ns l n m f bound′ uses g
-      → Gathered s z (remove name ns) l n b f bound uses (walk (g .0 .at) (g .0 .n) b (g .0 .leftover), g .1, g .2)
-  unfolding namesIn
-  binds name e h w p =
-      let place : m ≡ b + 1 = omega (arith, place-is w) in
-      let labels : take m bound′ ≡ take b bound ++ (x ∷ []) = rw (place, w .holds) (take-written bound b (x ∷ []) (omega arith)) in
+-- the labels from number b on are taken back
+abbrev pub unboundAt : List ℕ → ℕ → State → State
+unboundAt s b g = (walk (g .0 .at) (g .0 .n) b (g .0 .leftover), unbindAt s b (g .0 .b) (g .1), g .2)
+
+-- the steps over the fields of a struct, as they are behind it
+pub record Closed (s z : List ℕ) (ns : List Name) (l : Bool) (n b : ℕ) (f : Bool) (bound uses : List ℕ) (g : State) : Type 0 where
+  pub more : b ≤ g .0 .b
+  pub gathered : Gathered s z ns l n b f bound uses (unboundAt s b g)
+
+module _ {s z : List ℕ} {ns : List Name} {l : Bool} {n b : ℕ} {f : Bool} {bound uses : List ℕ} {g : State} (p : Gathered s z ns l n b f bound uses g) where
+  -- no field, and a field whose label is not bound
+  pub closed-none : Closed s z ns l n b f bound uses g
+  closed-none = record {
+    more = omega (arith, p .same);
+    gathered = rw (p .same, unbind-none s b (g .1)) (rw (p .same) at (moves p (p .here)));
+  }
+
+  pub closed-then : {y : List ℕ} {ms : List Name} {k : Bool} {h : State} → Closed s y ms k (g .0 .n) (g .0 .b) (g .0 .leftover) (g .1) (g .2) h → Closed s y (ns ++ ms) (l || k) n b f bound uses h
+  closed-then {h = h} q = record {
+    more = omega (arith, p .same, q .more);
+    gathered = rw (p .same) at (then p (q .gathered));
+  }
+
+-- a label bound for the fields that follow
+module _ {s z : List ℕ} {ns : List Name} {l : Bool} {n b : ℕ} {f : Bool} {uses : List ℕ} {g : State} (at : ℕ) (t : List ℕ) (near : at < 16777216) (few : b + 1 < 16777216) (room : 514 + 2 * b ≤ length t) where
+  pub binds : (name : Name) → nameAt s at ≡ name → Closed s z ns l n (suc b) f (labelled s at t b) uses g → Closed s z (remove name ns) l n b f t uses g
+  binds name e p =
+      let q = p .gathered in
+      let c : ℕ = g .0 .b in
+      let long : length (unbindAt s (suc b) c (g .1)) ≡ length t = q .long ∙ labelled-long s at t b near few room in
       record {
-        here = p .here;
-        left = p .left;
-        used = p .used;
-        wrote = p .wrote;
-        named =
-            p .named
-            ∙ ap (λ (y : List ℕ). without (namesIn s y) ns) labels
-            ∙ ap (λ (y : List Name). without y ns) (names-append s (take b bound) (x ∷ []) ∙ ap (λ (y : Name). namesIn s (take b bound) ++ (y ∷ [])) e)
-            ∙ without-bind (namesIn s (take b bound)) name ns;
-        same = refl;
-        kept =
-            sym (take-take b m (g .1) (omega arith))
-            ∙ ap (take b) (p .kept)
-            ∙ take-take b m bound′ (omega arith)
-            ∙ ap (take b) (w .holds)
-            ∙ take-put bound b (x ∷ []) b (omega arith);
-        long = p .long ∙ same-length w;
+        more = omega (arith, p .more);
+        gathered = record {
+          here = q .here;
+          left = q .left;
+          used = q .used;
+          wrote = q .wrote;
+          named =
+              q .named
+              ∙ ap (λ (y : List Name). without y ns) (labels-bind s at t b near few room)
+              ∙ without-bind (nameAt s at) (labelsIn s t b) ns
+              ∙ ap (λ (y : Name). without (labelsIn s t b) (remove y ns)) e;
+          same = refl;
+          kept = rw (unbind-once s b c (g .1) (p .more)) (release-back s at t b near few room (unbindAt s (suc b) c (g .1)) long (q .kept));
+          long = unbind-long s b c (g .1) ∙ sym (unbind-long s (suc b) c (g .1)) ∙ long;
+        };
       }

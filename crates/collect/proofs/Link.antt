@@ -9,25 +9,27 @@ use native.Mathlib.Nat.{not-suc-le-zero}
 use native.Mathlib.Omega.{arith}
 use lib.ListN.{length}
 use Rattle.definition.specs.Tree.{Name, Leaf, constraint-int, constraint-enum, bits, enum, tail, nothing, never, Len, wrap, vec, option, array, Selector, none, by, CaseKind, ordinary, dependent, Combinator, plain, chained, Inner, leaf, struct, choice, shell, bytes, invocation, macro-invocation, Fields, no-field, field, const, Cases, no-case, case, Inners, no-inner, inner}
-use Rattle.definition.specs.Names.{root, remove}
+use Rattle.definition.specs.Names.{elem, root, remove}
 use Rattle.definition.specs.Write.{wU16, wName, wText, wAll, wList, wLen, wSelector, caseByte, wLabel, leafTag, fieldByte, wOpen, wShut, countF, countC, countA, wCombinator, wInner, wFields, wCases, wInners}
 use Rattle.definition.specs.Size.{levels, levelsI, levelsF, levelsC, levelsA}
 use Rattle.definition.specs.Collect.{bytesOrTail, selectorUses, shellUses, free, freeI, freeF, freeC, leftover, leftoverI, leftoverF, leftoverC, unbound}
 use Rattle.laws.proofs.Tests.{yes-no}
 use Rattle.laws.proofs.Splits.{s-u16, s-name, s-text, s-len, s-selector, s-label, s-comb, s-inner}
-use Rattle.writer.specs.Buf.{put, after, Wrote}
-use Rattle.writer.proofs.Wrote.{place-is, same-length}
 use Rattle.seek.specs.At.{byteAt, pastAt, namePast, textPast, labelPast}
 use Rattle.seek.specs.Here.{Here}
-use Rattle.seek.proofs.Here.{byte-here, next-here, number-here, number-past, name-here, text-here, label-here}
+use Rattle.seek.proofs.Here.{here-length, byte-here, next-here, number-here, number-past, name-here, text-here, label-here}
 use Rattle.seek.proofs.Stands.{stands}
 use Rattle.uses.specs.declared.Walk.{Walk}
+use Rattle.lookup.specs.Name.{nameAt}
+use Rattle.lookup.proofs.Names.{stands as label-stands}
+use Rattle.labels.specs.Labels.{labelsIn}
+use Rattle.labels.proofs.Found.{Same, labelled, labelled-long, bind-is, finds-bind}
 use Rattle.uses.specs.Uses.{nameIn, namesIn, useAt, isBound}
 use Rattle.uses.specs.Steps.{walk, moved, counted, timesUse, nameBy, namesBy, lengthBy, callBy, selectorBy, bindBy}
 use Rattle.collect.specs.Walk.{State, Step, times, many, fieldBy, fieldsBy, wrapBy, caseBy, choiceBy, arrayBy, macroBy, innerBy, chainBy, tailBy, combinatorBy, argumentBy, combinatorAt, argumentAt}
 use Rattle.uses.proofs.Without.{cutBy, use-here, without-here, without-new}
 use Rattle.collect.proofs.Room.{name-long, combinator-long}
-use Rattle.collect.proofs.Gathered.{Gathered, Ready, or-false, or-true, ready-past, ready-on, moves, rebound, then, wrote-nothing, nothing-used, hushed, binds}
+use Rattle.collect.proofs.Gathered.{Gathered, Ready, or-false, or-true, ready-past, ready-on, moves, then, wrote-nothing, nothing-used, hushed, Closed, closed-none, closed-then, binds}
 
 same-names : (ns : List Name) → map (cutBy false) ns ≡ ns
 same-names [] = refl
@@ -50,11 +52,13 @@ module _ (s : List ℕ) (small : (i : ℕ) → byteAt s i < 256) (short : length
     one-name cut m z w uses r =
         let x : ℕ = useAt s (w .at) cut in
         let named : nameIn s x ≡ cutBy cut m = use-here small short cut m z (r .here) in
+        let found : isBound s x bound (w .b) ≡ elem (cutBy cut m) (labelsIn s bound (w .b)) = r .finds .is (nameIn s x) ∙ ap (λ (n : Name). elem n (labelsIn s bound (w .b))) named in
+        let same : Same bound bound (w .b) = record { at = λ j h. refl } in
         ⊎-elim
         (λ (e : isBound s x bound (w .b) ≡ true).
-        rw e record { here = name-here m (r .here); left = or-false (w .leftover); used = []; wrote = wrote-nothing r; named = sym (without-here _ _ (rw named at e)); same = refl; kept = refl; long = refl })
+        rw e record { here = name-here m (r .here); left = or-false (w .leftover); used = []; wrote = wrote-nothing r; named = sym (without-here _ _ (sym found ∙ e)); same = refl; kept = same; long = refl })
         (λ (e : isBound s x bound (w .b) ≡ false).
-        rw e record { here = name-here m (r .here); left = or-false (w .leftover); used = x ∷ []; wrote = record { place = refl; holds = refl }; named = ap (λ (n : Name). n ∷ []) named ∙ sym (without-new _ _ (rw named at e)); same = refl; kept = refl; long = refl })
+        rw e record { here = name-here m (r .here); left = or-false (w .leftover); used = x ∷ []; wrote = record { place = refl; holds = refl }; named = ap (λ (n : Name). n ∷ []) named ∙ sym (without-new _ _ (sym found ∙ e)); same = refl; kept = same; long = refl })
         (yes-no (isBound s x bound (w .b)))
 
     all-names : (cut : Bool) (ns : List Name) (z : List ℕ) (w : Walk) (uses : List ℕ) → Ready s (w .at) (wAll wName ns z) (w .n) (w .b) bound uses
@@ -150,12 +154,8 @@ module _ (s : List ℕ) (small : (i : ℕ) → byteAt s i < 256) (short : length
       (λ (e : bytesOrTail i ≡ false).
       let v : Walk = counted u (u .at) (length (G .2) + 1) in
       rw (byte-here (g .here), stands i (1 ∷ wCombinator c z) (r .here), e)
-      (then h (hushed false q (chain v (G .1) (G .2) record { here = q .here; room = q .room; fits = omega arith }) (or-false (u .leftover)))))
+      (then h (hushed false q (chain v (G .1) (G .2) record { here = q .here; few = q .few; room = q .room; finds = q .finds; fits = omega arith }) (or-false (u .leftover)))))
       (yes-no (bytesOrTail i))
-
-  -- with the labels that were bound before
-  abbrev unboundAt : ℕ → State → State
-  unboundAt b g = (walk (g .0 .at) (g .0 .n) b (g .0 .leftover), g .1, g .2)
 
   -- each inner, from what is known of the combinators in it
   inner-leaf : (x : Leaf) (t : List ℕ) (k : ℕ) (w : Walk) (bound uses z : List ℕ) → Ready s (w .at) (wInner (leaf x t) z) (w .n) (w .b) bound uses → Gathered s z [] false (w .n) (w .b) (w .leftover) bound uses (innerBy (combinatorAt k s) (argumentAt k s) s w bound uses)
@@ -163,13 +163,13 @@ module _ (s : List ℕ) (small : (i : ℕ) → byteAt s i < 256) (short : length
   inner-leaf x t k w bound uses z r = rw (leaf-is w bound uses (combinatorAt k s) (argumentAt k s) x (wText t z) (r .here)) (nothing-used (w .leftover) r (text-here t (next-here (r .here))))
 
   inner-struct : (f : Fields) (k : ℕ) (w : Walk) (bound uses z : List ℕ) → Ready s (w .at) (wInner (struct f) z) (w .n) (w .b) bound uses
-      → ((v : Walk) → Ready s (v .at) (wFields f z) (v .n) (v .b) bound uses → Gathered s z (freeF f) (leftoverF f) (v .n) (v .b) (v .leftover) bound uses (unboundAt (v .b) (times (fieldBy (combinatorAt k s) s) (countF f) v bound uses))) → Gathered s z (freeF f) (leftoverF f) (w .n) (w .b) (w .leftover) bound uses (innerBy (combinatorAt k s) (argumentAt k s) s w bound uses)
+      → ((v : Walk) → Ready s (v .at) (wFields f z) (v .n) (v .b) bound uses → Closed s z (freeF f) (leftoverF f) (v .n) (v .b) (v .leftover) bound uses (times (fieldBy (combinatorAt k s) s) (countF f) v bound uses)) → Gathered s z (freeF f) (leftoverF f) (w .n) (w .b) (w .leftover) bound uses (innerBy (combinatorAt k s) (argumentAt k s) s w bound uses)
   unfolding wInner innerBy fieldsBy
   inner-struct f k w bound uses z r deep =
       let v : Walk = moved w (pastAt s (w .at) 1) in
       let q : Ready s (v .at) (wU16 (countF f) (wFields f z)) (v .n) (v .b) bound uses = after-byte (wU16 (countF f) (wFields f z)) r in
       rw (byte-here (r .here), many-is v bound uses (fieldBy (combinatorAt k s) s) (countF f) (wFields f z) (q .here))
-      (deep (moved v (pastAt s (v .at) 2)) (ready-past (wU16 (countF f)) (s-u16 (countF f)) (wFields f z) q (number-past (countF f) (q .here))))
+      (deep (moved v (pastAt s (v .at) 2)) (ready-past (wU16 (countF f)) (s-u16 (countF f)) (wFields f z) q (number-past (countF f) (q .here))) .gathered)
 
   inner-choice : (x : Selector) (y : CaseKind) (f : Cases) (k : ℕ) (w : Walk) (bound uses z : List ℕ) → Ready s (w .at) (wInner (choice x y f) z) (w .n) (w .b) bound uses
       → ((v : Walk) (m : List ℕ) → Ready s (v .at) (wCases f y z) (v .n) (v .b) bound m → Gathered s z (freeC f) (leftoverC f) (v .n) (v .b) (v .leftover) bound m (times (caseBy (combinatorAt k s) s (caseByte y)) (countC f) v bound m))
@@ -231,15 +231,15 @@ module _ (s : List ℕ) (small : (i : ℕ) → byteAt s i < 256) (short : length
       let p = ready-past (wName n) (s-name n) rest q (name-here n (q .here)) in
       let o = ready-past (wU16 (countA a)) (s-u16 (countA a)) (wInners a z) p (number-past (countA a) (p .here)) in
       rw (byte-here (r .here), many-is u bound uses (argumentAt k s) (countA a) (wInners a z) (p .here))
-      (hushed true r (deep (moved u (pastAt s (u .at) 2)) record { here = o .here; room = o .room; fits = omega arith }) (or-true (w .leftover)))
+      (hushed true r (deep (moved u (pastAt s (u .at) 2)) record { here = o .here; few = o .few; room = o .room; finds = o .finds; fits = omega arith }) (or-true (w .leftover)))
 
   -- a field and those after it
-  fields-none : (k : ℕ) (w : Walk) (bound uses z : List ℕ) → Ready s (w .at) (wFields no-field z) (w .n) (w .b) bound uses → Gathered s z [] false (w .n) (w .b) (w .leftover) bound uses (unboundAt (w .b) (times (fieldBy (combinatorAt k s) s) 0 w bound uses))
+  fields-none : (k : ℕ) (w : Walk) (bound uses z : List ℕ) → Ready s (w .at) (wFields no-field z) (w .n) (w .b) bound uses → Closed s z [] false (w .n) (w .b) (w .leftover) bound uses (times (fieldBy (combinatorAt k s) s) 0 w bound uses)
   unfolding wFields times
-  fields-none k w bound uses z r = nothing-used (w .leftover) r (r .here)
+  fields-none k w bound uses z r = closed-none (nothing-used (w .leftover) r (r .here))
 
   fields-ordinary : (l : Name) (c : Combinator) (f : Fields) (k : ℕ) (w : Walk) (bound uses z : List ℕ) → Ready s (w .at) (wFields (field ordinary l c f) z) (w .n) (w .b) bound uses
-      → ((v : Walk) → Ready s (v .at) (wCombinator c (wFields f z)) (v .n) (v .b) bound uses → Gathered s (wFields f z) (free c) (leftover c) (v .n) (v .b) (v .leftover) bound uses (combinatorAt k s v bound uses)) → ((v : Walk) (b u : List ℕ) → Ready s (v .at) (wFields f z) (v .n) (v .b) b u → Gathered s z (freeF f) (leftoverF f) (v .n) (v .b) (v .leftover) b u (unboundAt (v .b) (times (fieldBy (combinatorAt k s) s) (countF f) v b u))) → Gathered s z (free c ++ freeF f) (leftover c || leftoverF f) (w .n) (w .b) (w .leftover) bound uses (unboundAt (w .b) (times (fieldBy (combinatorAt k s) s) (suc (countF f)) w bound uses))
+      → ((v : Walk) → Ready s (v .at) (wCombinator c (wFields f z)) (v .n) (v .b) bound uses → Gathered s (wFields f z) (free c) (leftover c) (v .n) (v .b) (v .leftover) bound uses (combinatorAt k s v bound uses)) → ((v : Walk) (b u : List ℕ) → Ready s (v .at) (wFields f z) (v .n) (v .b) b u → Closed s z (freeF f) (leftoverF f) (v .n) (v .b) (v .leftover) b u (times (fieldBy (combinatorAt k s) s) (countF f) v b u)) → Closed s z (free c ++ freeF f) (leftover c || leftoverF f) (w .n) (w .b) (w .leftover) bound uses (times (fieldBy (combinatorAt k s) s) (suc (countF f)) w bound uses)
   unfolding wFields fieldByte
   fields-ordinary l c f k w bound uses z r one rest =
       let v : Walk = moved w (namePast s (pastAt s (w .at) 1)) in
@@ -248,10 +248,10 @@ module _ (s : List ℕ) (small : (i : ℕ) → byteAt s i < 256) (short : length
       let G : State = combinatorAt k s v bound uses in
       let g = one v p in
       rw (once w bound uses (fieldBy (combinatorAt k s) s) (countF f), ordinary-is w bound uses (combinatorAt k s) (wName l (wCombinator c (wFields f z))) (r .here))
-      (rebound (then g (rest (G .0) (G .1) (G .2) (ready-on g (wCombinator c) (s-comb c) p))))
+      (closed-then g (rest (G .0) (G .1) (G .2) (ready-on g (wCombinator c) (s-comb c) p)))
 
   fields-dependent : (l : Name) (c : Combinator) (f : Fields) (k : ℕ) (w : Walk) (bound uses z : List ℕ) → Ready s (w .at) (wFields (field dependent l c f) z) (w .n) (w .b) bound uses
-      → ((v : Walk) → Ready s (v .at) (wCombinator c (wFields f z)) (v .n) (v .b) bound uses → Gathered s (wFields f z) (free c) (leftover c) (v .n) (v .b) (v .leftover) bound uses (combinatorAt k s v bound uses)) → ((v : Walk) (b u : List ℕ) → Ready s (v .at) (wFields f z) (v .n) (v .b) b u → Gathered s z (freeF f) (leftoverF f) (v .n) (v .b) (v .leftover) b u (unboundAt (v .b) (times (fieldBy (combinatorAt k s) s) (countF f) v b u))) → Gathered s z (free c ++ remove l (freeF f)) (leftover c || leftoverF f) (w .n) (w .b) (w .leftover) bound uses (unboundAt (w .b) (times (fieldBy (combinatorAt k s) s) (suc (countF f)) w bound uses))
+      → ((v : Walk) → Ready s (v .at) (wCombinator c (wFields f z)) (v .n) (v .b) bound uses → Gathered s (wFields f z) (free c) (leftover c) (v .n) (v .b) (v .leftover) bound uses (combinatorAt k s v bound uses)) → ((v : Walk) (b u : List ℕ) → Ready s (v .at) (wFields f z) (v .n) (v .b) b u → Closed s z (freeF f) (leftoverF f) (v .n) (v .b) (v .leftover) b u (times (fieldBy (combinatorAt k s) s) (countF f) v b u)) → Closed s z (free c ++ remove l (freeF f)) (leftover c || leftoverF f) (w .n) (w .b) (w .leftover) bound uses (times (fieldBy (combinatorAt k s) s) (suc (countF f)) w bound uses)
   unfolding wFields fieldByte bindBy
   fields-dependent l c f k w bound uses z r one rest =
       let a : ℕ = pastAt s (w .at) 1 in
@@ -260,20 +260,27 @@ module _ (s : List ℕ) (small : (i : ℕ) → byteAt s i < 256) (short : length
       let p : Ready s (v .at) (wCombinator c (wFields f z)) (v .n) (v .b) bound uses = ready-past (wName l) (s-name l) (wCombinator c (wFields f z)) q (name-here l (q .here)) in
       let G : State = combinatorAt k s v bound uses in
       let g = one v p in
-      let x : ℕ = useAt s a false in
-      let named : nameIn s x ≡ l = use-here small short false l (wCombinator c (wFields f z)) (q .here) in
-      let bound′ : List ℕ = put (G .1) (G .0 .b) (x ∷ []) in
-      let m : ℕ = after (G .1) (G .0 .b) (x ∷ []) in
-      let u : Walk = walk (G .0 .at) (G .0 .n) m (G .0 .leftover) in
+      let named : nameAt s a ≡ l = label-stands s a l (wCombinator c (wFields f z)) (q .here .is) in
       let o = ready-on g (wCombinator c) (s-comb c) p in
-      let wrote : Wrote (G .1) (G .0 .b) (x ∷ []) bound′ m = record { place = refl; holds = refl } in
-      let room : 4 * suc (G .0 .b) + length (wFields f z) ≤ 4 * length (G .1) = omega (arith, g .same, g .long, r .room, name-long l (wCombinator c (wFields f z)), combinator-long c (wFields f z)) in
-      let place : m ≡ G .0 .b + 1 = omega (arith, place-is wrote) in
-      rw (once w bound uses (fieldBy (combinatorAt k s) s) (countF f), dependent-is w bound uses (combinatorAt k s) (wName l (wCombinator c (wFields f z))) (r .here))
-      (rebound (then g (binds l named (omega arith) wrote (rest u bound′ (G .2) record { here = o .here; room = omega (arith, same-length wrote); fits = o .fits }))))
+      let b : ℕ = G .0 .b in
+      let less : 4 * suc b + length (wFields f z) ≤ length s = omega (arith, g .same, r .few, name-long l (wCombinator c (wFields f z)), combinator-long c (wFields f z)) in
+      let near : a < 16777216 = omega (arith, here-length (q .here)) in
+      let few : b + 1 < 16777216 = omega arith in
+      let room : 514 + 2 * b ≤ length (G .1) = omega (arith, o .room) in
+      let t : List ℕ = labelled s a (G .1) b in
+      let u : Walk = walk (G .0 .at) (G .0 .n) (suc b) (G .0 .leftover) in
+      let ready : Ready s (u .at) (wFields f z) (u .n) (u .b) t (G .2) = record {
+        here = o .here;
+        few = less;
+        room = omega (arith, o .room, labelled-long s a (G .1) b near few room);
+        finds = finds-bind s a (G .1) b near few room (o .finds);
+        fits = o .fits;
+      } in
+      rw (once w bound uses (fieldBy (combinatorAt k s) s) (countF f), dependent-is w bound uses (combinatorAt k s) (wName l (wCombinator c (wFields f z))) (r .here), bind-is s a (G .1) b near few room)
+      (closed-then g (binds a (G .1) near few room l named (rest u t (G .2) ready)))
 
   fields-const : (l : Name) (x : List ℕ) (f : Fields) (k : ℕ) (w : Walk) (bound uses z : List ℕ) → Ready s (w .at) (wFields (const l x f) z) (w .n) (w .b) bound uses
-      → ((v : Walk) → Ready s (v .at) (wFields f z) (v .n) (v .b) bound uses → Gathered s z (freeF f) (leftoverF f) (v .n) (v .b) (v .leftover) bound uses (unboundAt (v .b) (times (fieldBy (combinatorAt k s) s) (countF f) v bound uses))) → Gathered s z (freeF f) (leftoverF f) (w .n) (w .b) (w .leftover) bound uses (unboundAt (w .b) (times (fieldBy (combinatorAt k s) s) (suc (countF f)) w bound uses))
+      → ((v : Walk) → Ready s (v .at) (wFields f z) (v .n) (v .b) bound uses → Closed s z (freeF f) (leftoverF f) (v .n) (v .b) (v .leftover) bound uses (times (fieldBy (combinatorAt k s) s) (countF f) v bound uses)) → Closed s z (freeF f) (leftoverF f) (w .n) (w .b) (w .leftover) bound uses (times (fieldBy (combinatorAt k s) s) (suc (countF f)) w bound uses)
   unfolding wFields
   fields-const l x f k w bound uses z r rest =
       let v : Walk = moved w (textPast s (namePast s (pastAt s (w .at) 1))) in
@@ -344,7 +351,7 @@ module _ (s : List ℕ) (small : (i : ℕ) → byteAt s i < 256) (short : length
         inner-macro n a k w bound uses z r (λ v q. gather-arguments a k h v bound uses z q)
 
     gather-fields : (f : Fields) (k : ℕ) → levelsF f ≤ k → (w : Walk) (bound uses z : List ℕ) → Ready s (w .at) (wFields f z) (w .n) (w .b) bound uses
-        → Gathered s z (freeF f) (leftoverF f) (w .n) (w .b) (w .leftover) bound uses (unboundAt (w .b) (times (fieldBy (combinatorAt k s) s) (countF f) w bound uses))
+        → Closed s z (freeF f) (leftoverF f) (w .n) (w .b) (w .leftover) bound uses (times (fieldBy (combinatorAt k s) s) (countF f) w bound uses)
     gather-fields no-field k h w bound uses z r = fields-none k w bound uses z r
     gather-fields (field ordinary l c f) k h w bound uses z r =
         fields-ordinary l c f k w bound uses z r (λ v q. gather c k (omega arith) v bound uses (wFields f z) q) (λ v b u q. gather-fields f k (omega arith) v b u z q)

@@ -7,6 +7,7 @@ use Prim.Native.Nat.{ℕ, zero, suc, _+_}
 use lib.Dec.{eqb}
 use lib.ListN.{length}
 use Rattle.seek.specs.At.{byteAt, pastAt, numberAt, namePast, textPast, labelPast, standsOn, pick}
+use Rattle.labels.specs.Labels.{unbindAt}
 use Rattle.uses.specs.declared.Walk.{Walk}
 use Rattle.uses.specs.Steps.{walk, moved, counted, unbound, lengthBy, callBy, selectorBy, bindBy}
 use Rattle.collect.specs.declared.Collected.{Collected}
@@ -39,10 +40,11 @@ fieldBy deep s w bound uses =
     pick (eqb kind 3) (moved w (textPast s e), bound, uses)
     (pick (eqb kind 2) (h .0, h .1, g .2) (g .0, g .1, g .2))
 
+-- a struct's labels are bound no longer behind it
 unfoldable pub fieldsBy : Step → List ℕ → Step
 fieldsBy deep s w bound uses =
     let g = many (fieldBy deep s) s w bound uses in
-    (unbound w (g .0), g .1, g .2)
+    (unbound w (g .0), unbindAt s (w .b) (g .0 .b) (g .1), g .2)
 
 unfoldable pub wrapBy : Step → List ℕ → Step
 wrapBy deep s w bound uses =

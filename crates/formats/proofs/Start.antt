@@ -2,7 +2,7 @@
 -- Assumes nothing.
 use mathlib.Core.Path.{_≡_, refl, ap, _∙_}
 use mathlib.Core.List.{List}
-use Prim.Native.Nat.{ℕ, zero, suc, _*_, _≤_, _<_}
+use Prim.Native.Nat.{ℕ, zero, suc, _+_, _*_, _≤_, _<_}
 use native.Mathlib.Omega.{arith}
 use lib.ListN.{length, take, getD, replicate, length-replicate}
 use Rattle.definition.specs.Tree.{Definition}
@@ -38,7 +38,7 @@ pub no-ends : {s : List ℕ} (n : ℕ) → Right s (replicate n 0)
 no-ends n = none-right (zero-at n)
 
 -- tables for books of at most n bytes
-pub scratch : {s : List ℕ} (n m : ℕ) → n ≡ 4 * m → length s ≤ n → ((i : ℕ) → getD s i 0 < 256) → Scratch s (replicate m 0) (replicate n 0) (replicate n 0)
+pub scratch : {s : List ℕ} (n m : ℕ) → n + 1024 ≡ 2 * m → length s ≤ n → ((i : ℕ) → getD s i 0 < 256) → Scratch s (replicate m 0) (replicate n 0) (replicate n 0)
 unfolding byteAt
 scratch n m e l b =
     let x = length-replicate {0} {A = ℕ} n 0 in

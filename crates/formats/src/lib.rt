@@ -60,7 +60,8 @@ fn expand_with(
     )
 }
 
-// The scratch tables of a book of at most 2,048 bytes: four numbers a binder and a label for every four bytes, a use for every byte.
+// The scratch tables of a book of at most 2,048 bytes: four numbers a binder and two a label for every four bytes, with 512 more for the
+// labels' hashes, and a use for every byte.
 fn expand_short(
     s: &[u8],
     made: &mut [u8],
@@ -74,7 +75,7 @@ fn expand_short(
 {
     let ends = [0u16; 2048];
     let mut binders = [0u16; 2048];
-    let mut bound = [0u32; 512];
+    let mut bound = [0u32; 1536];
     let mut uses = [0u32; 2048];
     let mut spare = [0u32; 2048];
     expand_with(
@@ -106,7 +107,7 @@ fn expand_long(
 {
     let ends = [0u16; 16384];
     let mut binders = [0u16; 16384];
-    let mut bound = [0u32; 4096];
+    let mut bound = [0u32; 8704];
     let mut uses = [0u32; 16384];
     let mut spare = [0u32; 16384];
     expand_with(

@@ -3,8 +3,8 @@
 use mathlib.Core.Path.{_≡_, refl, ap, _∙_}
 use mathlib.Core.Logic.{⊎-elim}
 use mathlib.Core.List.{List, [], _∷_, _++_}
-use mathlib.Core.Bool.{Bool, true, false, cond, _||_}
-use Prim.Native.Nat.{ℕ, _+_, _-_, _*_, _/_, _%_, _≤_, _<_, min}
+use mathlib.Core.Bool.{Bool, true, false, cond}
+use Prim.Native.Nat.{ℕ, _+_, _*_, _/_, _%_, _≤_, _<_, min}
 use native.Mathlib.Omega.{arith}
 use lib.Dec.{eqb}
 use lib.ListN.{length, take}
@@ -53,33 +53,14 @@ eqName-sym a b = ⊎-elim
     (λ (p : eqName a b ≡ false). rw (p, eqName-swap a b p))
     (yes-no (eqName a b))
 
-elem-snoc-is : (n l : Name) (bound : List Name) → elem n (bound ++ (l ∷ [])) ≡ elem n bound || eqName l n
-unfolding elem
-elem-snoc-is n l [] = rw (eqName-sym n l) (itself (eqName l n))
-  where
-    itself : (b : Bool) → cond b true false ≡ b
-    itself true = refl
-    itself false = refl
-elem-snoc-is n l (m ∷ bound) = rw (elem-snoc-is n l bound) (first (eqName n m) (elem n bound) (eqName l n))
-  where
-    first : (a b c : Bool) → cond a true (b || c) ≡ cond a true b || c
-    first true b c = refl
-    first false b c = refl
-
 -- one more name that is bound is a name removed
-pub without-bind : (bound : List Name) (l : Name) (ns : List Name) → without (bound ++ (l ∷ [])) ns ≡ without bound (remove l ns)
-unfolding without remove
-without-bind bound l [] = refl
-without-bind bound l (n ∷ ns) = rw (elem-snoc-is n l bound) (⊎-elim
-    (λ (e : elem n bound ≡ true). ⊎-elim
-    (λ (f : eqName l n ≡ true). rw (e, f) (without-bind bound l ns))
-    (λ (f : eqName l n ≡ false). rw (e, f, e) (without-bind bound l ns))
+pub without-bind : (l : Name) (bound ns : List Name) → without (l ∷ bound) ns ≡ without bound (remove l ns)
+unfolding without remove elem
+without-bind l bound [] = refl
+without-bind l bound (n ∷ ns) = rw (eqName-sym n l) (⊎-elim
+    (λ (e : eqName l n ≡ true). rw e (without-bind l bound ns))
+    (λ (e : eqName l n ≡ false). rw (e, without-bind l bound ns))
     (yes-no (eqName l n)))
-    (λ (e : elem n bound ≡ false). ⊎-elim
-    (λ (f : eqName l n ≡ true). rw (e, f) (without-bind bound l ns))
-    (λ (f : eqName l n ≡ false). rw (e, f, e) (ap (λ (m : List Name). n ∷ m) (without-bind bound l ns)))
-    (yes-no (eqName l n)))
-    (yes-no (elem n bound)))
 
 pub names-append : (s a b : List ℕ) → namesIn s (a ++ b) ≡ namesIn s a ++ namesIn s b
 unfolding namesIn

@@ -6,6 +6,7 @@ use Prim.Native.Nat.{ℕ, zero, suc}
 use lib.Dec.{eqb}
 use Rattle.seek.specs.At.{byteAt, pastAt, numberAt, namePast, textPast, pick}
 use Rattle.writer.specs.Buf.{put, after}
+use Rattle.labels.specs.Labels.{bindAt}
 use Rattle.uses.specs.Uses.{useAt, isBound}
 use Rattle.uses.specs.declared.Walk.{Walk}
 
@@ -60,5 +61,5 @@ selectorBy s bound w uses =
 -- the label at a place is bound
 unfoldable pub bindBy : List ℕ → ℕ → Walk → List ℕ → Walk × List ℕ
 bindBy s at w bound =
-    let x = useAt s at false in
-    (walk (w .at) (w .n) (after bound (w .b) (x ∷ [])) (w .leftover), put bound (w .b) (x ∷ []))
+    let g = bindAt s at bound (w .b) in
+    (walk (w .at) (w .n) (g .0) (w .leftover), g .1)

@@ -5,8 +5,9 @@ use mathlib.Core.Bool.{Bool}
 use Prim.Native.Nat.{ℕ, _+_, _*_, _/_, _%_}
 use lib.ListN.{length, take, drop}
 use Rattle.definition.specs.Tree.{Name}
-use Rattle.definition.specs.Names.{root, elem}
+use Rattle.definition.specs.Names.{root}
 use Rattle.lookup.specs.Name.{nameAt}
+use Rattle.labels.specs.Labels.{isLabel}
 use Rattle.seek.specs.At.{pastAt, pick}
 
 -- a place below 2 ^ 24 and a length below 256, in 32 bits
@@ -24,6 +25,6 @@ namesIn s l = map (nameIn s) l
 unfoldable pub useAt : List ℕ → ℕ → Bool → ℕ
 useAt s at cut = useOf (pastAt s at 1) (length (pick cut (root (nameAt s at)) (nameAt s at)))
 
--- whether a use means one of the names bound by so many labels
+-- whether a use means one of so many labels
 unfoldable pub isBound : List ℕ → ℕ → List ℕ → ℕ → Bool
-isBound s x bound b = elem (nameIn s x) (namesIn s (take b bound))
+isBound s x bound b = isLabel s (nameIn s x) bound b

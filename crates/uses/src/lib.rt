@@ -1,6 +1,7 @@
 // Uses of names: each kept as one number, and recorded unless its name is bound, by position over validated bytes.
+use labels::bind_label;
+use labels::is_label;
 use lookup::name_at;
-use lookup::same_name;
 use seek::byte;
 use seek::name_past;
 use seek::number;
@@ -82,23 +83,12 @@ fn put_use(x: u32, table: &mut [u32], at: usize) -> usize
     at + 1
 }
 
-// Whether a use means one of the first b labels that are bound. Lengths are compared before bytes.
+// Whether a use means one of the first b labels that are bound.
 fn is_bound(s: &[u8], x: u32, bound: &[u32], b: usize) -> bool
     ensures { λ r. ⌜ r ≡ isBound (now (s .entry)) x (now (bound .entry)) b ⌝ }
 {
     let name = name_of_use(s, x);
-    let mut i = 0;
-    while i < b {
-        if bound.len() <= i {
-            return false;
-        }
-        let label = name_of_use(s, bound[i]);
-        if same_name(name, label) {
-            return true;
-        }
-        i += 1;
-    }
-    false
+    is_label(s, name, bound, b)
 }
 
 // The same walk at another place.
@@ -206,9 +196,8 @@ pub fn selector(s: &[u8], w: Walk, bound: &[u32], uses: &mut [u32]) -> Walk
 pub fn bind(s: &[u8], w: Walk, at: usize, bound: &mut [u32]) -> Walk
     ensures { λ r. ⌜ (r ≡ bindBy (now (s .entry)) at w (now (bound .entry)) .0) × (now (bound .exit) ≡ bindBy (now (s .entry)) at w (now (bound .entry)) .1) ⌝ }
 {
-    let x = use_at(s, at, false);
     let b = w.b;
-    let next = put_use(x, bound, b);
+    let next = bind_label(s, at, bound, b);
     Walk {
         at: w.at,
         n: w.n,

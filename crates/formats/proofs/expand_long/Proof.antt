@@ -14,7 +14,7 @@ expand-with-requires : tie.Need-expand-with-requires
 expand-with-requires c κs =
     let p = c .before .before .before .before .before .before .before .before .before .before .before .before .before .before .before .before .pre in
     let few = book-short (the-book p) in
-    (p, scratch 16384 4096 refl few (λ i. omega (arith, c .before .before .before .before .before .before .before .before .before .before .before .before .before .before .before .shared-slice-known .given i)), omega (arith, few, length-replicate {0} {A = ℕ} 16384 0), no-ends 16384)
+    (p, scratch 16384 8704 refl few (λ i. omega (arith, c .before .before .before .before .before .before .before .before .before .before .before .before .before .before .before .shared-slice-known .given i)), omega (arith, few, length-replicate {0} {A = ℕ} 16384 0), no-ends 16384)
 
 pub expand-long-spec : {M : Type 1} → statement M
 expand-long-spec =

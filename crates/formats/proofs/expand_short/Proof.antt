@@ -12,7 +12,7 @@ use Rattle.formats.proofs.expand_short.Tie as tie
 expand-with-requires : tie.Need-expand-with-requires
 expand-with-requires c κs =
     let p = c .before .before .before .before .before .before .before .before .before .before .before .before .before .before .before .before .pre in
-    (p .0, scratch 2048 512 refl (p .1) (λ i. omega (arith, c .before .before .before .before .before .before .before .before .before .before .before .before .before .before .before .shared-slice-known .given i)), omega (arith, p .1, length-replicate {0} {A = ℕ} 2048 0), no-ends 2048)
+    (p .0, scratch 2048 1536 refl (p .1) (λ i. omega (arith, c .before .before .before .before .before .before .before .before .before .before .before .before .before .before .before .shared-slice-known .given i)), omega (arith, p .1, length-replicate {0} {A = ℕ} 2048 0), no-ends 2048)
 
 pub expand-short-spec : {M : Type 1} → statement M
 expand-short-spec =

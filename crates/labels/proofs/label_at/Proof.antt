@@ -1,0 +1,30 @@
+-- `labels::label_at` meets its contract.
+-- Assumes nothing.
+use Prim.Native.Nat.{_+_, _*_}
+use Rattle.labels.specs.Labels.{labelAt}
+use native.Mathlib.Omega.{arith}
+use lib.ListN.{List·getD-eq-default}
+use borrow.Author.Needs.{needs}
+use Rattle.labels.proofs.label_at.Statement.{statement}
+use Rattle.labels.proofs.label_at.Tie as tie
+
+returns : tie.Need-returns
+unfolding labelAt
+returns c = rw (List·getD-eq-default (c .before .before .before .before .args .table .now) 0 {n = 512 + 2 * (c .before .before .before .before .args .i)} (omega arith)) (c .name-at .ensures)
+
+returns-2 : tie.Need-returns-2
+unfolding labelAt
+returns-2 c = rw (← (c .before .held .ensures)) (c .name-at2 .ensures)
+
+pub label-at-spec : {M : Type 1} → statement M
+label-at-spec =
+    tie.close
+    (tie.spec
+    (λ c κs. search needs)
+    returns
+    (λ c. search needs)
+    (λ c. search needs)
+    (λ c κs. search needs)
+    (λ c. search needs)
+    (λ c κs. search needs)
+    returns-2)
