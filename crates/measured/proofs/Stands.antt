@@ -5,8 +5,8 @@ use mathlib.Core.Path.{_≡_, refl}
 use Prim.Native.Nat.{ℕ, zero, suc, _+_, _≤_}
 use native.Mathlib.Omega.{arith}
 use lib.ListN.{length}
-use Rattle.definition.specs.Tree.{Leaf, constraint-int, constraint-enum, bits, enum, tail, nothing, never, Shell, wrap, vec, option, array, CaseKind, FieldKind, ordinary, dependent, Combinator, plain, chained, Inner, leaf, struct, choice, shell, bytes, invocation, macro-invocation, Fields, no-field, field, const, Cases, no-case, case, Inners, no-inner, inner}
-use Rattle.definition.specs.Write.{wU16, wName, wText, wLen, wList, wSelector, caseByte, wLabel, leafTag, fieldByte, wOpen, wShut, countF, countC, countA, wCombinator, wInner, wFields, wCases, wInners}
+use Rattle.definition.specs.Tree.{Leaf, constraint-int, constraint-enum, bits, enum, tail, nothing, never, wrap, vec, option, array, CaseKind, FieldKind, ordinary, dependent, Combinator, plain, chained, Inner, leaf, struct, choice, shell, bytes, invocation, macro-invocation, Fields, no-field, field, const, Cases, no-case, case, Inners, no-inner, inner}
+use Rattle.definition.specs.Write.{wU16, wName, wText, wLen, wList, wSelector, caseByte, leafTag, fieldByte, wOpen, wShut, countF, countC, countA, wCombinator, wInner, wFields, wCases, wInners}
 use Rattle.definition.specs.Size.{levels, levelsI, levelsF, levelsC, levelsA}
 use Rattle.laws.proofs.Sizes.{adds, sizeI}
 use Rattle.laws.proofs.Splits.{s-inner}
@@ -44,11 +44,11 @@ module _ (s : List ℕ) where
   unfolding tailBy
   tail-chain deep g z h = rw (byte-here h)
 
-  pub combinator-suc : (k p : ℕ) (t : List ℕ) → combinatorAt (suc k) s p t ≡ tailBy (combinatorAt k s) s (innerAt k s p t)
+  combinator-suc : (k p : ℕ) (t : List ℕ) → combinatorAt (suc k) s p t ≡ tailBy (combinatorAt k s) s (innerAt k s p t)
   unfolding combinatorAt combinatorBy
   combinator-suc k p t = refl
 
-  pub argument-suc : (k p : ℕ) (t : List ℕ) → argumentAt (suc k) s p t ≡ innerAt k s p t
+  argument-suc : (k p : ℕ) (t : List ℕ) → argumentAt (suc k) s p t ≡ innerAt k s p t
   unfolding argumentAt argumentBy
   argument-suc k p t = refl
 

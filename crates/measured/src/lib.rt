@@ -26,7 +26,7 @@ fn keep(at: usize, end: usize, ends: &mut [u16])
 }
 
 // A combinator, with so many levels left, its own included; the place behind it.
-pub fn measure_combinator(s: &[u8], at: usize, levels: usize, ends: &mut [u16]) -> usize
+fn measure_combinator(s: &[u8], at: usize, levels: usize, ends: &mut [u16]) -> usize
     ensures { λ r. ⌜ (r ≡ combinatorAt levels (now (s .entry)) at (now (ends .entry)) .0) × (now (ends .exit) ≡ combinatorAt levels (now (s .entry)) at (now (ends .entry)) .1) ⌝ }
 {
     if levels == 0 {
@@ -42,7 +42,7 @@ pub fn measure_combinator(s: &[u8], at: usize, levels: usize, ends: &mut [u16]) 
 }
 
 // An inner, with so many levels left below it. Its end is kept.
-pub fn measure_inner(s: &[u8], at: usize, levels: usize, ends: &mut [u16]) -> usize
+fn measure_inner(s: &[u8], at: usize, levels: usize, ends: &mut [u16]) -> usize
     ensures { λ r. ⌜ (r ≡ innerAt levels (now (s .entry)) at (now (ends .entry)) .0) × (now (ends .exit) ≡ innerAt levels (now (s .entry)) at (now (ends .entry)) .1) ⌝ }
 {
     let tag = byte(s, at);

@@ -49,9 +49,11 @@ use Rattle.seek.proofs.number.Reads as number-reads
 use Rattle.seek.proofs.past.Reads as past-reads
 use Rattle.seek.proofs.selector_past.Reads as selector-past-reads
 use Rattle.seek.proofs.text_past.Reads as text-past-reads
-use Rattle.measured.proofs.+argument+arguments+behind+choice+field+fields+measure_combinator+measure_inner+wrap.{   statement,
+use Rattle.measured.proofs.+argument+arguments+behind+choice+field+fields+measure_combinator+measure_inner+wrap.{
+  statement,
 }
-use Rattle.measured.proofs.+argument+arguments+behind+choice+field+fields+measure_combinator+measure_inner+wrap.Tie.{   close,
+use Rattle.measured.proofs.+argument+arguments+behind+choice+field+fields+measure_combinator+measure_inner+wrap.Tie.{
+  close,
 }
 
 abbrev μ-argument : Measures 2 argument-kinds.ps ℕ

@@ -1,6 +1,5 @@
 -- `measured::entry` meets its contract.
 -- Assumes nothing.
-use mathlib.Core.Path.{refl}
 use borrow.Author.Needs.{needs}
 use borrow.Author.Tests.{eq-eqb, ne-eqb}
 use Rattle.measured.specs.Measure.{combinatorAt, entryAt, formatAt}
