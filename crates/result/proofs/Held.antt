@@ -30,7 +30,7 @@ use Rattle.splice.specs.Model as by-numbers
 use Rattle.splice.specs.Model.{Tables, namesBytes, calledBytes, callBytes, goes, onFrom, spliced}
 use Rattle.result.specs.Model.{innerEnd, passedBytes, paramsBytes}
 use Rattle.result.specs.Held.{Numbers}
-use Rattle.result.proofs.Levels.{fewI}
+use Rattle.measured.proofs.Levels.{fewI}
 
 -- "a name 255"
 abbrev pub Short : List Name → Type 0
