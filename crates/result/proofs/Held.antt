@@ -28,7 +28,7 @@ use Rattle.lifting.proofs.Standing.{Stood}
 use Rattle.result.specs.Model as model
 use Rattle.result.specs.Model.{Tables, namesBytes, calledBytes, callBytes, goes, onFrom, spliced, innerEnd, passedBytes, paramsBytes}
 use Rattle.result.specs.Held.{Numbers}
-use Rattle.result.proofs.Levels.{fewI}
+use Rattle.measured.proofs.Levels.{fewI}
 
 -- "a name 255"
 abbrev pub Short : List Name → Type 0

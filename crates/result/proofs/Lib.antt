@@ -1,6 +1,5 @@
 pub mod Steps
 pub mod Adds
-pub mod Levels
 pub mod Held
 pub mod Bodies
 pub mod Result

@@ -1,0 +1,4 @@
+pub mod Level
+pub mod Levels
+pub mod Stands
+pub mod Measured
