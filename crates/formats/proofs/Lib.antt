@@ -1,1 +1,1 @@
-mod Start
+pub mod Start

@@ -13,6 +13,8 @@ use Rattle.seek.specs.At.{byteAt, numberAt}
 use Rattle.contents.proofs.Listed.{book-listed}
 use Rattle.ends.specs.Ends.{Right}
 use Rattle.ends.proofs.Ends.{none-right}
+use Rattle.measured.specs.Measure.{measuredBook}
+use Rattle.measured.proofs.Measured.{measured-right}
 use Rattle.tables.specs.Rows.{rowsOf, lastFrom}
 use Rattle.lift.specs.declared.Counts.{Counts}
 use Rattle.lift.specs.Sheet.{sheetOf}
@@ -33,9 +35,9 @@ zero-at zero p = refl
 zero-at (suc n) zero = refl
 zero-at (suc n) (suc p) = zero-at n p
 
--- no end is known yet
-pub no-ends : {s : List ℕ} (n : ℕ) → Right s (replicate n 0)
-no-ends n = none-right (zero-at n)
+-- where inners end, found in one walk: no end is known before it
+pub ends-right : {s ends : List ℕ} (n : ℕ) → ends ≡ measuredBook s (replicate n 0) → Right s ends
+ends-right {s} n e = rw e (measured-right s (replicate n 0) (none-right (zero-at n)))
 
 -- tables for books of at most n bytes
 pub scratch : {s : List ℕ} (n m : ℕ) → n + 1024 ≡ 2 * m → length s ≤ n → ((i : ℕ) → getD s i 0 < 256) → Scratch s (replicate m 0) (replicate n 0) (replicate n 0)

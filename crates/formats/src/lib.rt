@@ -2,6 +2,7 @@
 use body::Body;
 use inorder::expand_in_order;
 use lift::Counts;
+use measured::measure_book;
 use start::take_at_start;
 ghost use Prim.Native.Nat.{_≤_};
 ghost use lib.ListN.{length};
@@ -73,7 +74,8 @@ fn expand_short(
     requires { ⌜ Starts (now s) (now made) (now rows) (now params) (now number) (now order) × (length (now s) ≤ 2048) ⌝ }
     ensures { λ r. ⌜ Expands (now (s .entry)) (now (made .exit)) (now (rows .exit)) (now (params .exit)) (now (number .exit)) (now (order .exit)) r ⌝ }
 {
-    let ends = [0u16; 2048];
+    let mut ends = [0u16; 2048];
+    measure_book(s, &mut ends);
     let mut binders = [0u16; 2048];
     let mut bound = [0u32; 1536];
     let mut uses = [0u32; 2048];
@@ -105,7 +107,8 @@ fn expand_long(
     requires { ⌜ Starts (now s) (now made) (now rows) (now params) (now number) (now order) ⌝ }
     ensures { λ r. ⌜ Expands (now (s .entry)) (now (made .exit)) (now (rows .exit)) (now (params .exit)) (now (number .exit)) (now (order .exit)) r ⌝ }
 {
-    let ends = [0u16; 16384];
+    let mut ends = [0u16; 16384];
+    measure_book(s, &mut ends);
     let mut binders = [0u16; 16384];
     let mut bound = [0u32; 8704];
     let mut uses = [0u32; 16384];

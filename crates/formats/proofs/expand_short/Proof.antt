@@ -5,19 +5,21 @@ use Prim.Native.Nat.{ℕ}
 use native.Mathlib.Omega.{arith}
 use lib.ListN.{length-replicate}
 use borrow.Author.Needs.{needs}
-use Rattle.formats.proofs.Start.{no-ends, scratch}
+use Rattle.formats.proofs.Start.{ends-right, scratch}
 use Rattle.formats.proofs.expand_short.Statement.{statement}
 use Rattle.formats.proofs.expand_short.Tie as tie
 
 expand-with-requires : tie.Need-expand-with-requires
 expand-with-requires c κs =
-    let p = c .before .before .before .before .before .before .before .before .before .before .before .before .before .before .before .before .pre in
-    (p .0, scratch 2048 1536 refl (p .1) (λ i. omega (arith, c .before .before .before .before .before .before .before .before .before .before .before .before .before .before .before .shared-slice-known .given i)), omega (arith, p .1, length-replicate {0} {A = ℕ} 2048 0), no-ends 2048)
+    let p = c .before .before .before .before .before .before .before .before .before .before .before .before .before .before .before .before .before .before .before .pre in
+    (p .0, scratch 2048 1536 refl (p .1) (λ i. omega (arith, c .before .before .before .before .before .before .before .before .before .before .before .before .before .before .before .before .before .before .shared-slice-known .given i)), omega (arith, p .1, length-replicate {0} {A = ℕ} 2048 0), ends-right 2048 (c .before .before .before .before .before .before .before .before .before .before .before .measure-book .ensures))
 
 pub expand-short-spec : {M : Type 1} → statement M
 expand-short-spec =
     tie.close
     (tie.spec
+    (λ c. search needs)
+    (λ c κs. search needs)
     (λ c. search needs)
     (λ c. search needs)
     (λ c. search needs)
