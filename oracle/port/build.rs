@@ -57,13 +57,19 @@ fn rust(path: &Path, name: &str, crates: &[&str]) -> String {
             continue;
         }
         let public = word.strip_prefix("pub ").unwrap_or(word);
-        if public.starts_with("struct") || public.starts_with("enum") {
+        if (public.starts_with("struct") || public.starts_with("enum")) && !holds_mut(&rattle, line) {
             text += "#[derive(Clone, Copy)]\n";
         }
         text += &paths(line, name, crates, &modules);
         text += "\n";
     }
     text
+}
+
+/// Whether the type that `line` begins holds a `&mut`: such a type is not copied.
+fn holds_mut(text: &str, line: &str) -> bool {
+    let fields = text.lines().skip_while(|l| *l != line).take_while(|l| *l != "}");
+    fields.skip(1).any(|l| l.contains(" mut "))
 }
 
 /// The name in a line `mod name;`.

@@ -19,6 +19,7 @@ use Rattle.laws.proofs.Splits.{s-definition}
 use Rattle.laws.proofs.Steps.{Yields, yields, next, yielded}
 use Rattle.seek.specs.At.{byteAt, pastAt, numberAt}
 use Rattle.seek.specs.Here.{Here}
+use Rattle.entries.specs.Entry.{entryBytes}
 use Rattle.writer.specs.Buf.{put, part, Wrote}
 use Rattle.writer.proofs.Put.{put-nil, put-put, put-past, put-fits, length-put, within}
 use Rattle.writer.proofs.Wrote.{fitted, place-fits, place-is, same-length}
@@ -101,10 +102,6 @@ bodies-are : (x : Definition) (es : List Definition) → wAll wDefinition (x ∷
 unfolding wAll
 bodies-are x es = s-definition x [] (wAll wDefinition es [])
 
--- the bytes of an entry
-abbrev entryBytes : ℕ → ℕ → ℕ → List ℕ
-entryBytes kind at size = kind ∷ 0 ∷ wU16 (at % 65536) (wU16 (size % 65536) [])
-
 kind-kept : (d : Definition) (ms : List Macro) → Yields (λ x. kindOf x ≡ kindOf d) (expandOne d ms)
 unfolding expandOne kindOf
 kind-kept (format n ps c) ms = body (expand c ms)
@@ -130,19 +127,19 @@ module _ {out out₁ out₂ : List ℕ} {e o r₁ e₂ : ℕ} (x : Definition) (
   entry-is = let z : r₁ - o ≡ sizeOf x = omega (arith, r₁-is) in rw z
 
   entries-are : (es : List Definition) → wEntries o (map entryOf (x ∷ es)) [] ≡ entryBytes (kindByte (kindOf x)) o (r₁ - o) ++ wEntries r₁ (map entryOf es) []
-  unfolding wEntries entryOf wU16
+  unfolding wEntries entryOf entryBytes wU16
   entries-are es =
       let a : o % 65536 ≡ o = omega (arith, fitted w₁ k) in
       let b : (r₁ - o) % 65536 ≡ sizeOf x = omega (arith, r₁-is, fitted w₁ k) in
       rw (a, b, r₁-is)
 
   place-2 : e + 6 ≤ o → e₂ ≡ e + 6
-  unfolding wU16
+  unfolding entryBytes wU16
   place-2 h = omega (arith, place-is w₂, same-length w₁, fitted w₁ k)
 
   joined : (es : List Definition) → e + 6 + 6 * length es ≤ o
       → put (put out₂ e₂ (wEntries r₁ (map entryOf es) [])) r₁ (wAll wDefinition es []) ≡ put (put out e (wEntries o (map entryOf (x ∷ es)) [])) o (wAll wDefinition (x ∷ es) [])
-  unfolding sizeOf wU16
+  unfolding sizeOf entryBytes wU16
   joined es room =
       let P = wDefinition x [] in
       let Q = entryBytes (kindByte (kindOf x)) o (r₁ - o) in
@@ -234,10 +231,10 @@ module _ {macros pl hs : List ℕ} {rows : ℕ} {book areas marks row out : List
               rw (shallow-kept d ds ms (λ q. f (hk ∙ listed-kind l ∙ q)) .0)
               (too-long out out₁ o r₁ e (expandOne d ms) (shallowAll ds ms) (kp .says ms wh d _ (listed-body l) (hk ∙ listed-kind l) f (hz ∙ listed-size l) (listed-deep l)) (omega arith))
 
-      pub listing-step : r₁ ≤ length out₁ → {long : ℕ} → long ≡ r₁ - o → {out₂ : List ℕ} {e₂ : ℕ} → Wrote out₁ e (entryBytes kind o long) out₂ e₂
+      pub listing-step : r₁ ≤ length out₁ → {out₂ : List ℕ} {e₂ : ℕ} → Wrote out₁ e (entryBytes kind o (r₁ - o)) out₂ e₂
           → {areas₁ marks₁ row₁ : List ℕ} → length areas₁ ≡ length areas → length marks₁ ≡ length marks → length row₁ ≡ length row
           → {out′ : List ℕ} {r : ℕ} → Listing macros pl hs rows book areas₁ marks₁ row₁ out₂ entry₁ at₁ (left - 1) e₂ r₁ out′ r → Listing macros pl hs rows book areas marks row out entry at left e o out′ r
-      listing-step g {long} hl {out₂} {e₂} w₂ {areas₁} {marks₁} {row₁} la lm lr {out′} {r} next = record { says = λ ms wh ds l el h ho. step ms wh ds l el h ho }
+      listing-step g {out₂} {e₂} w₂ {areas₁} {marks₁} {row₁} la lm lr {out′} {r} next = record { says = λ ms wh ds l el h ho. step ms wh ds l el h ho }
         where
           still : (ms : List Macro) → Whole macros pl hs rows book areas marks row out ms → Whole macros pl hs rows book areas₁ marks₁ row₁ out₂ ms
           still ms wh = record {
@@ -252,7 +249,7 @@ module _ {macros pl hs : List ℕ} {rows : ℕ} {book areas marks row out : List
           by-one ms wh d ds l el h (refused c) y p = absurd (omega arith)
           by-one ms wh d ds l el h (done x) y p =
               let q : kind ≡ kindByte (kindOf x) = hk ∙ listed-kind l ∙ ap kindByte (sym (yielded y refl)) in
-              let w : Wrote out₁ e (entryBytes (kindByte (kindOf x)) o (r₁ - o)) out₂ e₂ = rw (q, hl) at w₂ in
+              let w : Wrote out₁ e (entryBytes (kindByte (kindOf x)) o (r₁ - o)) out₂ e₂ = rw q at w₂ in
               let z = next .says ms (still ms wh) ds (on hz ha he l) el
               (omega (arith, place-2 x (wh .out-long) p (omega arith) w (omega arith), r₁-is x (wh .out-long) p (omega arith) w)) (omega (arith, same-length w₂)) in
               one-more x (wh .out-long) p (omega arith) w (keptOf ds) (shallowAll ds ms) (kept-count ds ms) h out′ r z

@@ -1,5 +1,6 @@
 // The book that is left: macros removed, order kept, contents made anew, and each format's body expanded.
 use contents::params_past;
+use entries::put_entry;
 use expansion::expand_macros_in_combinator;
 use marks::Walk;
 use marks::first_marks;
@@ -8,15 +9,7 @@ use seek::name_past;
 use seek::number;
 use seek::past;
 use substitution::walk_over;
-use writer::minus;
-use writer::put_byte;
 use writer::put_part;
-use writer::put_u16;
-ghost use mathlib.Core.Path.{_≡_};
-ghost use mathlib.Core.List.{[], _∷_};
-ghost use Prim.Native.Nat.{_%_};
-ghost use Rattle.definition.specs.Write.{wU16};
-ghost use Rattle.writer.specs.Buf.{Wrote};
 ghost use Rattle.macros.specs.Left.{KeptOf, Formatted, Kept, Booked};
 
 // A format: its name and its parameters are copied, and its body is expanded. Over 64 levels it is refused.
@@ -103,16 +96,6 @@ fn expand_definition(
     put_part(book, at, end, out, o)
 }
 
-// An entry of the contents.
-fn put_entry(kind: u8, at: usize, size: usize, out: &mut [u8], e: usize) -> usize
-    ensures { λ r. ⌜ Wrote (now (out .entry)) e (kind ∷ 0 ∷ wU16 (at % 65536) (wU16 (size % 65536) [])) (now (out .exit)) r ⌝ }
-{
-    let p = put_byte(kind, out, e);
-    let q = put_byte(0, out, p);
-    let r = put_u16((at % 65536) as u16, out, q);
-    put_u16((size % 65536) as u16, out, r)
-}
-
 // How many definitions are no macros.
 pub fn count_kept(book: &[u8]) -> usize
     ensures { λ r. ⌜ KeptOf (now (book .entry)) r ⌝ }
@@ -179,7 +162,7 @@ pub fn expand_all(
         if out.len() < r {
             return r;
         }
-        e = put_entry(kind, o, minus(r, o), out, e);
+        e = put_entry(kind, o, r, out, e);
         o = r;
         at = next;
     }

@@ -12,8 +12,9 @@ use Rattle.writer.specs.Buf.{put, Wrote}
 use Rattle.writer.proofs.Put.{length-put, put-nil, put-put, put-fits, take-put, drop-put}
 use Rattle.writer.proofs.Wrote.{same-length, place-fits}
 use Rattle.seek.specs.At.{byteAt, numberAt}
+use Rattle.entries.specs.Entry.{entryBytes}
 use Rattle.splice.specs.Model.{Tables, row}
-use Rattle.result.specs.Model.{liftedBytes, keptBytes, Piece, entryBytes, entries, bodies, keptFrom, liftedFrom, bookBytes, resultBytes}
+use Rattle.result.specs.Model.{liftedBytes, keptBytes, Piece, entries, bodies, keptFrom, liftedFrom, bookBytes, resultBytes}
 use Rattle.result.specs.Adds.{Adds, Filled}
 
 -- two writes that do not meet

@@ -34,8 +34,9 @@ use Rattle.lifting.proofs.Standing.{Stood, AllWhole}
 use Rattle.lifting.proofs.Book.{bodies, bodies-cons, elaborated-by, was-traced}
 use Rattle.lifting.proofs.Written.{WholeAll, bodies-stand, written}
 use Rattle.result.specs.Model as model
+use Rattle.entries.specs.Entry.{entryBytes}
 use Rattle.splice.specs.Model.{Tables, row}
-use Rattle.result.specs.Model.{Piece, entryBytes, entries, keptFrom, liftedFrom, bookBytes, resultBytes}
+use Rattle.result.specs.Model.{Piece, entries, keptFrom, liftedFrom, bookBytes, resultBytes}
 use Rattle.result.specs.Held.{Agrees, Held, Writes}
 use Rattle.result.specs.Adds.{Filled}
 use Rattle.result.proofs.Held.{Short, Known, Knows, room, spliced-goes, lifted-are}

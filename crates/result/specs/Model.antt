@@ -2,12 +2,13 @@
 -- That it is document 01's result where the tables are those of the book is shown in proofs/Result.antt.
 use mathlib.Core.Bool.{Bool, true, false}
 use mathlib.Core.List.{List, [], _∷_, _++_}
-use Prim.Native.Nat.{ℕ, zero, suc, _+_, _*_, _-_, _%_, min}
+use Prim.Native.Nat.{ℕ, zero, suc, _+_, _*_, _-_, _%_}
 use lib.Dec.{eqb}
-use lib.ListN.{length, take, drop, getD}
+use lib.ListN.{length, getD}
 use Rattle.definition.specs.Tree.{Name}
 use Rattle.definition.specs.Write.{wU16}
 use Rattle.writer.specs.Buf.{part, nameBytes}
+use Rattle.entries.specs.Entry.{entryBytes}
 use Rattle.seek.specs.At.{byteAt, numberAt}
 use Rattle.marks.specs.Steps.{walk}
 use Rattle.calls.specs.Walk.{skipAt}
@@ -51,10 +52,6 @@ keptBytes t i = spliced t (numberAt (t .book) (2 + 6 * i + 2)) (numberAt (t .boo
 pub record Piece : Type 0 where
   pub kind : ℕ
   pub bytes : List ℕ
-
--- "entries of 6 bytes: kind, a zero byte, u16 offset, u16 length"
-unfoldable pub entryBytes : ℕ → ℕ → ℕ → List ℕ
-entryBytes kind at n = (kind ∷ []) ++ ((0 ∷ []) ++ (wU16 (at % 65536) [] ++ wU16 (n % 65536) []))
 
 unfoldable pub entries : ℕ → List Piece → List ℕ
 entries at [] = []

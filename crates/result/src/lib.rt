@@ -1,6 +1,7 @@
 // The writing pass: the finished book from the expanded book and the tables that the naming pass leaves. It goes in layout order, writes each
 // body once at its final place, and cannot fail: every function is total on any bytes and any numbers.
 use ahead::entry;
+use entries::put_entry;
 use lookup::name_at;
 use marks::Walk;
 use seek::byte;
@@ -8,18 +9,17 @@ use skip::skip_inner;
 use splice::param_name;
 use splice::put_called;
 use splice::put_spliced;
-use writer::put_byte;
 use writer::put_name;
 use writer::put_part;
 use writer::put_u16;
 ghost use mathlib.Core.Path.{_≡_};
 ghost use mathlib.Core.List.{[], _++_};
-ghost use Prim.Native.Nat.{_+_, _*_, _-_, _≤_};
+ghost use Prim.Native.Nat.{_+_, _≤_};
 ghost use Rattle.definition.specs.Write.{wU16};
 ghost use Rattle.writer.specs.Buf.{Wrote, nameBytes};
 ghost use Rattle.tables.specs.Rows.{rowAt, namesFrom, typesFrom};
 ghost use Rattle.splice.specs.Model.{tables, paramName};
-ghost use Rattle.result.specs.Model.{innerEnd, paramType, typeBytes, paramsBytes, liftedBytes, keptBytes, entryBytes, keptFrom, liftedFrom};
+ghost use Rattle.result.specs.Model.{innerEnd, paramType, typeBytes, paramsBytes, liftedBytes, keptBytes, keptFrom, liftedFrom};
 ghost use Rattle.result.specs.Adds.{Adds};
 ghost use Rattle.result.specs.Held.{Writes};
 
@@ -155,29 +155,6 @@ fn put_kept(
     put_spliced(s, names, rows, params, number, from, to, out, at)
 }
 
-// How much x is over y.
-fn over(x: usize, y: usize) -> usize
-    ensures { λ r. ⌜ r ≡ x - y ⌝ }
-{
-    if x < y {
-        return 0;
-    }
-    x - y
-}
-
-// Entry i of the contents: the body stands from one place up to another.
-fn put_entry(kind: u8, from: usize, to: usize, i: usize, out: &mut [u8]) -> usize
-    requires { ⌜ i ≤ 131070 ⌝ }
-    ensures { λ r. ⌜ Wrote (now (out .entry)) (2 + 6 * i) (entryBytes kind from (to - from)) (now (out .exit)) r ⌝ }
-{
-    let n = over(to, from);
-    let at = 2 + 6 * i;
-    let a = put_byte(kind, out, at);
-    let b = put_byte(0, out, a);
-    let e = put_u16((from % 65536) as u16, out, b);
-    put_u16((n % 65536) as u16, out, e)
-}
-
 // Kept definition i, its body at o: body and entry.
 fn add_kept(
     s: &[u8],
@@ -191,9 +168,10 @@ fn add_kept(
 ) -> usize
     ensures { λ r. ⌜ Adds (now (out .entry)) i o (keptFrom (tables (now (s .entry)) (now (names .entry)) (now (rows .entry)) (now (params .entry)) (now (number .entry))) i 1) (now (out .exit)) r ⌝ }
 {
-    let kind = byte(s, 2 + 6 * (i as usize));
+    let at = 2 + 6 * (i as usize);
+    let kind = byte(s, at);
     let end = put_kept(s, names, rows, params, number, i, out, o);
-    put_entry(kind, o, end, i as usize, out);
+    put_entry(kind, o, end, out, at);
     end
 }
 
@@ -215,7 +193,7 @@ fn add_lifted(
     let k = entry(order, i as usize);
     let end = put_lifted(s, names, rows, params, number, k, out, o);
     let at = (kept as usize) + (i as usize);
-    put_entry(1, o, end, at, out);
+    put_entry(1, o, end, out, 2 + 6 * at);
     end
 }
 

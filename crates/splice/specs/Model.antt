@@ -1,6 +1,5 @@
 -- The bytes of a range of the expanded book with calls in the place of lifts, from the tables of the naming pass: total on any bytes and any
 -- numbers.
-use mathlib.Core.Bool.{Bool, true, false}
 use mathlib.Core.List.{List, [], _∷_, _++_}
 use Prim.Native.Nat.{ℕ, zero, suc, _+_, _*_, _-_, min}
 use lib.ListN.{length, take, drop, getD}

@@ -1,8 +1,7 @@
 -- `ahead::next_lift` meets its contract.
 -- Assumes nothing.
-use mathlib.Core.Path.{_≡_, refl, sym, ap, _∙_}
+use mathlib.Core.Path.{_≡_, sym, _∙_}
 use Prim.Native.Nat.{_-_}
-use native.Mathlib.Omega.{arith}
 use Rattle.ahead.specs.Next.{nextLift}
 use Rattle.ahead.proofs.Next.{next-on, next-here, next-end, past-empty}
 use borrow.Author.Needs.{needs}

@@ -5,11 +5,11 @@ use borrow.Author.Needs.{needs}
 use Rattle.result.proofs.add_kept.Statement.{statement}
 use Rattle.result.proofs.add_kept.Tie as tie
 
-mul-byte : tie.Need-mul-byte
-mul-byte c = search needs
+mul-at : tie.Need-mul-at
+mul-at c = search needs
 
-add-byte : tie.Need-add-byte
-add-byte c = search needs
+add-at : tie.Need-add-at
+add-at c = search needs
 
 byte-requires : tie.Need-byte-requires
 byte-requires c κs = search needs
@@ -30,8 +30,8 @@ pub add-kept-spec : {M : Type 1} → statement M
 add-kept-spec =
     tie.close
     (tie.spec
-    mul-byte
-    add-byte
+    mul-at
+    add-at
     byte-requires
     put-kept-requires
     put-entry-requires

@@ -14,6 +14,12 @@ put-lifted-requires c κs = search needs
 add-at : tie.Need-add-at
 add-at c = search needs
 
+mul-put-entry : tie.Need-mul-put-entry
+mul-put-entry c = search needs
+
+add-put-entry : tie.Need-add-put-entry
+add-put-entry c = search needs
+
 put-entry-requires : tie.Need-put-entry-requires
 put-entry-requires c κs = search needs
 
@@ -30,6 +36,8 @@ add-lifted-spec =
     entry-requires
     put-lifted-requires
     add-at
+    mul-put-entry
+    add-put-entry
     put-entry-requires
     same-length
     returns)

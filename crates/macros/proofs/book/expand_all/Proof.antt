@@ -9,8 +9,6 @@ use Rattle.macros.proofs.book.expand_all.Tie as tie
 use Rattle.macros.proofs.book.expand_all.Reads as reads
 use Rattle.macros.proofs.book.expand_all.Lts as lts
 use Rattle.macros.proofs.book.expand_definition.Reads as expand-definition-reads
-use Rattle.writer.proofs.minus.Reads as minus-reads
-use Rattle.macros.proofs.book.put_entry.Reads as put-entry-reads
 use Rattle.seek.proofs.byte.Reads as byte-reads
 use Rattle.seek.proofs.number.Reads as number-reads
 use Rattle.seek.proofs.past.Reads as past-reads
@@ -97,26 +95,23 @@ returns c =
     (c .before .before .before .before .before .before .before .before .before .before .before .before .before .before .before .before .before .before .before .before .before .loop .inv .goes _ _
     (listing-stop (c .before .before .before .before .before .before .before .before .before .before .before .before .before .before .before .before .before .before .before .before .loop-test .taken) (c .before .before .before .before .before .before .before .before .before .before .before .before .before .before .before .before .before .before .before .byte .ensures) (c .before .before .before .before .before .before .before .before .before .before .before .before .before .before .before .before .before .number2 .ensures ∙ rw (c .before .before .before .before .before .before .before .before .before .before .before .before .before .before .before .before .before .before .past3 .ensures)) (c .before .before .before .before .before .before .before .before .before .before .before .before .before .before .before .before .past4 .ensures) (c .before .before .before .before .before .before .before .before .before .before .before .before .before .before .before .past5 .ensures) (c .before .before .before .before .before .before .before .before .before .before .before .before .before .before .if1 .left) (c .before .before .before .before .before .before .before .before .before .expand-definition .ensures) (c .before .before .out .given) (c .if2 .taken)))
 
-minus-requires : tie.Need-minus-requires Inv-loop μ-loop
-minus-requires c κs = search needs
-
 put-entry-requires : tie.Need-put-entry-requires Inv-loop μ-loop
 put-entry-requires c κs = search needs
 
 loop-less-2 : tie.Need-loop-less-2 Inv-loop μ-loop
-loop-less-2 c = omega (arith, c .before .before .before .before .before .before .before .before .before .before .before .before .before .before .before .before .before .before .before .before .before .before .before .before .before .loop-test .taken)
+loop-less-2 c = omega (arith, c .before .before .before .before .before .before .before .before .before .before .before .before .before .before .before .before .before .before .before .before .before .before .before .before .loop-test .taken)
 
 loop-again-2 : tie.Need-loop-again-2 Inv-loop μ-loop
 loop-again-2 c =
-    let l = c .before .before .before .before .before .before .before .before .before .before .before .before .before .before .before .before .before .before .before .before .before .before .before .before .before .before .loop .inv in
+    let l = c .before .before .before .before .before .before .before .before .before .before .before .before .before .before .before .before .before .before .before .before .before .before .before .before .before .loop .inv in
     record {
-      areas-long = c .before .before .before .before .before .before .before .before .before .before .before .before .before .areas .given ∙ l .areas-long;
-      marks-long = c .before .before .before .before .before .before .before .before .before .before .before .marks .given ∙ l .marks-long;
-      row-long = c .before .before .before .before .before .before .before .before .before .row .given ∙ l .row-long;
-      out-long = c .before .out2 .given ∙ c .before .before .before .before .before .before .before .out .given ∙ l .out-long;
+      areas-long = c .before .before .before .before .before .before .before .before .before .before .before .before .areas .given ∙ l .areas-long;
+      marks-long = c .before .before .before .before .before .before .before .before .before .before .marks .given ∙ l .marks-long;
+      row-long = c .before .before .before .before .before .before .before .before .row .given ∙ l .row-long;
+      out-long = c .before .out2 .given ∙ c .before .before .before .before .before .before .out .given ∙ l .out-long;
       goes = λ d r x. l .goes d r
-          (listing-step (c .before .before .before .before .before .before .before .before .before .before .before .before .before .before .before .before .before .before .before .before .before .before .before .before .before .loop-test .taken) (c .before .before .before .before .before .before .before .before .before .before .before .before .before .before .before .before .before .before .before .before .before .before .before .before .byte .ensures) (c .before .before .before .before .before .before .before .before .before .before .before .before .before .before .before .before .before .before .before .before .before .before .number2 .ensures ∙ rw (c .before .before .before .before .before .before .before .before .before .before .before .before .before .before .before .before .before .before .before .before .before .before .before .past3 .ensures)) (c .before .before .before .before .before .before .before .before .before .before .before .before .before .before .before .before .before .before .before .before .before .past4 .ensures) (c .before .before .before .before .before .before .before .before .before .before .before .before .before .before .before .before .before .before .before .before .past5 .ensures) (c .before .before .before .before .before .before .before .before .before .before .before .before .before .before .before .before .before .before .before .if1 .left) (c .before .before .before .before .before .before .before .before .before .before .before .before .before .before .expand-definition .ensures) (c .before .before .before .before .before .before .before .out .given)
-          (c .before .before .before .before .before .if2 .left) (c .before .before .before .before .minus .ensures) (c .before .before .put-entry .ensures) (c .before .before .before .before .before .before .before .before .before .before .before .before .before .areas .given) (c .before .before .before .before .before .before .before .before .before .before .before .marks .given) (c .before .before .before .before .before .before .before .before .before .row .given) x);
+          (listing-step (c .before .before .before .before .before .before .before .before .before .before .before .before .before .before .before .before .before .before .before .before .before .before .before .before .loop-test .taken) (c .before .before .before .before .before .before .before .before .before .before .before .before .before .before .before .before .before .before .before .before .before .before .before .byte .ensures) (c .before .before .before .before .before .before .before .before .before .before .before .before .before .before .before .before .before .before .before .before .before .number2 .ensures ∙ rw (c .before .before .before .before .before .before .before .before .before .before .before .before .before .before .before .before .before .before .before .before .before .before .past3 .ensures)) (c .before .before .before .before .before .before .before .before .before .before .before .before .before .before .before .before .before .before .before .before .past4 .ensures) (c .before .before .before .before .before .before .before .before .before .before .before .before .before .before .before .before .before .before .before .past5 .ensures) (c .before .before .before .before .before .before .before .before .before .before .before .before .before .before .before .before .before .before .if1 .left) (c .before .before .before .before .before .before .before .before .before .before .before .before .before .expand-definition .ensures) (c .before .before .before .before .before .before .out .given)
+          (c .before .before .before .before .if2 .left) (c .before .before .put-entry .ensures) (c .before .before .before .before .before .before .before .before .before .before .before .before .areas .given) (c .before .before .before .before .before .before .before .before .before .before .marks .given) (c .before .before .before .before .before .before .before .before .row .given) x);
     }
 
 same-length-5 : tie.Need-same-length-5 Inv-loop μ-loop
@@ -161,7 +156,6 @@ expand-all-spec =
     same-length-3
     same-length-4
     returns
-    minus-requires
     put-entry-requires
     loop-less-2
     loop-again-2
