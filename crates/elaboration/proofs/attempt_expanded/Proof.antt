@@ -1,14 +1,14 @@
--- `elab::elaboration::attempt_expanded` meets its contract.
+-- `elaboration::attempt_expanded` meets its contract.
 -- Assumes nothing.
 use borrow.Author.Needs.{needs}
 use Prim.Native.Nat.{ℕ}
 use lib.ListN.{length-replicate, length-take}
 use native.Mathlib.Omega.{arith}
-use Rattle.elab.proofs.Answering.{opened-book, reports-code, reports-lifts}
-use Rattle.elab.proofs.elaboration.attempt_expanded.Statement.{statement}
-use Rattle.elab.proofs.elaboration.attempt_expanded.Tie as tie
-use Rattle.elab.proofs.elaboration.attempt_expanded.Reads as reads
-use Rattle.elab.proofs.elaboration.attempt_expanded.Lts as lts
+use Rattle.elaboration.proofs.Answering.{opened-book, reports-code, reports-lifts}
+use Rattle.elaboration.proofs.attempt_expanded.Statement.{statement}
+use Rattle.elaboration.proofs.attempt_expanded.Tie as tie
+use Rattle.elaboration.proofs.attempt_expanded.Reads as reads
+use Rattle.elaboration.proofs.attempt_expanded.Lts as lts
 use Rattle.closing.proofs.lift_book.Reads as lift-book-reads
 use Rattle.opening.proofs.expand_book.Reads as expand-book-reads
 

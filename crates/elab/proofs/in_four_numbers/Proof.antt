@@ -1,11 +1,11 @@
--- `elab::elaboration::in_numbers` meets its contract.
+-- `elab::in_four_numbers` meets its contract.
 -- Assumes nothing.
 use borrow.Author.Needs.{needs}
 use Rattle.closing.specs.Elaborates.{reported}
-use Rattle.elab.proofs.elaboration.in_numbers.Statement.{statement}
-use Rattle.elab.proofs.elaboration.in_numbers.Tie as tie
-use Rattle.elab.proofs.elaboration.in_numbers.Reads as reads
-use Rattle.elab.proofs.elaboration.in_numbers.Lts as lts
+use Rattle.elab.proofs.in_four_numbers.Statement.{statement}
+use Rattle.elab.proofs.in_four_numbers.Tie as tie
+use Rattle.elab.proofs.in_four_numbers.Reads as reads
+use Rattle.elab.proofs.in_four_numbers.Lts as lts
 
 enum-known-e : tie.Need-enum-known-e
 enum-known-e c = search needs
@@ -33,7 +33,7 @@ returns-2 : tie.Need-returns-2
 unfolding reported
 returns-2 c = search needs
 
-pub in-numbers-spec : {M : Type 1} → statement M
-in-numbers-spec =
+pub in-four-numbers-spec : {M : Type 1} → statement M
+in-four-numbers-spec =
     tie.close
     (tie.spec enum-known-e cast-t7 cast-t8 cast-t9 enum-known-e-2 cast-t10 returns returns-2)

@@ -1,14 +1,14 @@
--- `elab::elaboration::elaborate` meets its contract.
+-- `elaboration::elaborate` meets its contract.
 -- Assumes nothing.
 use borrow.Author.Needs.{needs}
 use mathlib.Core.Path.{refl}
-use Rattle.elab.proofs.Answering.{answers-it, fills-it}
+use Rattle.elaboration.proofs.Answering.{answers-it, fills-it}
 use Rattle.closing.proofs.Reporting.{all-zero}
-use Rattle.elab.proofs.elaboration.elaborate.Statement.{statement}
-use Rattle.elab.proofs.elaboration.elaborate.Tie as tie
-use Rattle.elab.proofs.elaboration.elaborate.Reads as reads
-use Rattle.elab.proofs.elaboration.elaborate.Lts as lts
-use Rattle.elab.proofs.elaboration.attempt.Reads as attempt-reads
+use Rattle.elaboration.proofs.elaborate.Statement.{statement}
+use Rattle.elaboration.proofs.elaborate.Tie as tie
+use Rattle.elaboration.proofs.elaborate.Reads as reads
+use Rattle.elaboration.proofs.elaborate.Lts as lts
+use Rattle.elaboration.proofs.attempt.Reads as attempt-reads
 use Rattle.writer.proofs.zero_range.Reads as zero-range-reads
 
 attempt-requires : tie.Need-attempt-requires

@@ -1,13 +1,13 @@
--- `elab::elaboration::attempt` meets its contract.
+-- `elaboration::attempt` meets its contract.
 -- Assumes nothing.
 use borrow.Author.Needs.{needs}
-use Rattle.elab.proofs.Answering.{plain-book, reports-code, reports-plain}
-use Rattle.elab.proofs.elaboration.attempt.Statement.{statement}
-use Rattle.elab.proofs.elaboration.attempt.Tie as tie
-use Rattle.elab.proofs.elaboration.attempt.Reads as reads
-use Rattle.elab.proofs.elaboration.attempt.Lts as lts
+use Rattle.elaboration.proofs.Answering.{plain-book, reports-code, reports-plain}
+use Rattle.elaboration.proofs.attempt.Statement.{statement}
+use Rattle.elaboration.proofs.attempt.Tie as tie
+use Rattle.elaboration.proofs.attempt.Reads as reads
+use Rattle.elaboration.proofs.attempt.Lts as lts
 use Rattle.closing.proofs.lift_book.Reads as lift-book-reads
-use Rattle.elab.proofs.elaboration.attempt_expanded.Reads as attempt-expanded-reads
+use Rattle.elaboration.proofs.attempt_expanded.Reads as attempt-expanded-reads
 use Rattle.opening.proofs.begin.Reads as begin-reads
 
 begin-requires : tie.Need-begin-requires

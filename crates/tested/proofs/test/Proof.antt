@@ -1,14 +1,14 @@
--- `elab::test` meets its contract.
+-- `tested::test` meets its contract.
 -- Assumes nothing.
 use borrow.Author.Needs.{needs}
 use Prim.Native.Nat.{ℕ}
 use lib.ListN.{length-replicate, length-take}
-use Rattle.elab.proofs.Telling.{tells-code, tells-yes, tells-no}
+use Rattle.tested.proofs.Telling.{tells-code, tells-yes, tells-no}
 use native.Mathlib.Omega.{arith}
-use Rattle.elab.proofs.test.Statement.{statement}
-use Rattle.elab.proofs.test.Tie as tie
-use Rattle.elab.proofs.test.Reads as reads
-use Rattle.elab.proofs.test.Lts as lts
+use Rattle.tested.proofs.test.Statement.{statement}
+use Rattle.tested.proofs.test.Tie as tie
+use Rattle.tested.proofs.test.Reads as reads
+use Rattle.tested.proofs.test.Lts as lts
 use Rattle.opening.proofs.open_book.Reads as open-book-reads
 use Rattle.premise.proofs.holds.Reads as holds-reads
 

@@ -1,12 +1,12 @@
--- `elab::in_numbers` meets its contract.
+-- `elab::in_two_numbers` meets its contract.
 -- Assumes nothing.
 use borrow.Author.Needs.{needs}
-use Rattle.elab.specs.Tells.{told}
+use Rattle.tested.specs.Tells.{told}
 use mathlib.Core.Path.{refl}
-use Rattle.elab.proofs.in_numbers.Statement.{statement}
-use Rattle.elab.proofs.in_numbers.Tie as tie
-use Rattle.elab.proofs.in_numbers.Reads as reads
-use Rattle.elab.proofs.in_numbers.Lts as lts
+use Rattle.elab.proofs.in_two_numbers.Statement.{statement}
+use Rattle.elab.proofs.in_two_numbers.Tie as tie
+use Rattle.elab.proofs.in_two_numbers.Reads as reads
+use Rattle.elab.proofs.in_two_numbers.Lts as lts
 
 enum-told : tie.Need-enum-told
 enum-told c = search needs
@@ -32,6 +32,6 @@ returns-3 : tie.Need-returns-3
 unfolding told
 returns-3 c = rw (c .before .t .given .1) (refl, refl)
 
-pub in-numbers-spec : {M : Type 1} → statement M
-in-numbers-spec =
+pub in-two-numbers-spec : {M : Type 1} → statement M
+in-two-numbers-spec =
     tie.close (tie.spec enum-told enum-told-2 enum-known-t cast-t4 returns returns-2 returns-3)
