@@ -47,7 +47,16 @@ fn lift_with(s: &[u8], number: &mut [u16], out: &mut [u8]) -> Elaborated
     }
 }
 
-// The numbers of a book of at most 2,048 bytes.
+// The numbers of a book of at most 512 bytes.
+fn lift_small(s: &[u8], out: &mut [u8]) -> Elaborated
+    requires { ⌜ Expanded (now s) × (length (now s) ≤ 512) ⌝ }
+    ensures { λ r. ⌜ Lifts (now (s .entry)) (now (out .entry)) (now (out .exit)) r ⌝ }
+{
+    let mut number = [0u16; 512];
+    lift_with(s, &mut number, out)
+}
+
+// Those of a book of at most 2,048 bytes.
 fn lift_short(s: &[u8], out: &mut [u8]) -> Elaborated
     requires { ⌜ Expanded (now s) × (length (now s) ≤ 2048) ⌝ }
     ensures { λ r. ⌜ Lifts (now (s .entry)) (now (out .entry)) (now (out .exit)) r ⌝ }
@@ -70,6 +79,9 @@ pub fn lift_book(s: &[u8], out: &mut [u8]) -> Elaborated
     requires { ⌜ Expanded (now s) ⌝ }
     ensures { λ r. ⌜ Lifts (now (s .entry)) (now (out .entry)) (now (out .exit)) r ⌝ }
 {
+    if s.len() <= 512 {
+        return lift_small(s, out);
+    }
     if s.len() <= 2048 {
         return lift_short(s, out);
     }

@@ -1,3 +1,1 @@
-mod Telling
-mod Answering
 pub mod Delivers

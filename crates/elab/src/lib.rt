@@ -1,59 +1,34 @@
-// The entry points: what they answer, what they leave in the work area, for every input.
-use opening::Opened;
-use opening::open_book;
-use premise::holds;
-use writer::zero_range;
+// The entry points for callers in other languages, which get the answers in numbers.
+use closing::Elaborated;
+use elaboration::elaborate;
+use nesting::elaborate_nested;
+use tested::Tested;
+use tested::premise;
 ghost use mathlib.Core.Path.{_≡_};
 ghost use lib.ListN.{length};
-ghost use Rattle.definition.specs.Answer.{zeroed};
+ghost use Rattle.definition.specs.Answer.{answer, output, zeroed};
 ghost use Rattle.definition.specs.Premise.{premise};
-ghost use Rattle.elab.specs.Tells.{told};
+ghost use Rattle.nested.specs.Nested.{answerNested, outputNested};
+ghost use Rattle.closing.specs.Elaborates.{reported};
+ghost use Rattle.tested.specs.Tells.{told};
 
-pub mod elaboration;
-
-// The premise test's answer: yes, no or a code.
-pub enum Tested {
-    Holds,
-    Fails,
-    Refused { code: u8 },
-}
-
-// The same in numbers, for callers in other languages: the code, and 1 for yes.
+// The premise test's answer: the code, and 1 for yes.
 #[repr(C)]
 pub struct Numbers {
     pub code: u32,
     pub holds: u32,
 }
 
-// The premise test, with the work area left as it is then.
-fn test(book: &[u8], work: &mut [u8]) -> Tested
-    ensures { λ r. ⌜ told r ≡ premise (now (book .entry)) (length (now (work .entry))) ⌝ }
-{
-    let mut expanded = [0u8; 16384];
-    let opened = open_book(book, work, &mut expanded);
-    match opened {
-        Opened::Refused { code } => Tested::Refused { code },
-        Opened::Book { len } => {
-            if holds(&expanded[..len]) {
-                return Tested::Holds;
-            }
-            Tested::Fails
-        }
-    }
+// An elaboration's answer.
+#[repr(C)]
+pub struct Report {
+    pub code: u32,
+    pub length: u32,
+    pub definitions: u32,
+    pub lifted: u32,
 }
 
-// "takes a book and a work area, gives 1 to 6 as above, else yes or no"; "The work area is all zero afterwards."
-pub fn premise(book: &[u8], work: &mut [u8]) -> Tested
-    ensures { λ r. ⌜ told r ≡ premise (now (book .entry)) (length (now (work .entry))) ⌝ }
-    ensures { λ _. ⌜ now (work .exit) ≡ zeroed (now (work .entry)) ⌝ }
-{
-    let answer = test(book, work);
-    let end = work.len();
-    zero_range(work, 0, end);
-    answer
-}
-
-fn in_numbers(t: Tested) -> Numbers
+fn in_two_numbers(t: Tested) -> Numbers
     ensures { λ r. ⌜ (r .code ≡ told t .code) × (r .holds ≡ told t .holds) ⌝ }
 {
     match t {
@@ -66,11 +41,55 @@ fn in_numbers(t: Tested) -> Numbers
     }
 }
 
+fn in_four_numbers(e: Elaborated) -> Report
+    ensures { λ r. ⌜ (r .code ≡ reported e .code) × (r .length ≡ reported e .size) × (r .definitions ≡ reported e .definitions) × (r .lifted ≡ reported e .lifts) ⌝ }
+{
+    match e {
+        Elaborated::Done {
+            length,
+            definitions,
+            lifted,
+        } => Report {
+            code: 0,
+            length: length as u32,
+            definitions: definitions as u32,
+            lifted: lifted as u32,
+        },
+        Elaborated::Refused { code } => Report {
+            code: code as u32,
+            length: 0,
+            definitions: 0,
+            lifted: 0,
+        },
+    }
+}
+
 #[no_mangle]
 pub extern "C" fn samulsto_premise(book: &[u8], work: &mut [u8]) -> Numbers
     ensures { λ r. ⌜ (r .code ≡ premise (now (book .entry)) (length (now (work .entry))) .code) × (r .holds ≡ premise (now (book .entry)) (length (now (work .entry))) .holds) ⌝ }
     ensures { λ _. ⌜ now (work .exit) ≡ zeroed (now (work .entry)) ⌝ }
 {
     let answer = premise(book, work);
-    in_numbers(answer)
+    in_two_numbers(answer)
+}
+
+#[no_mangle]
+pub extern "C" fn samulsto_elaborate(book: &[u8], out: &mut [u8], work: &mut [u8]) -> Report
+    ensures { λ r. ⌜ (r .code ≡ answer (now (book .entry)) (length (now (out .entry))) (length (now (work .entry))) .code) × (r .length ≡ answer (now (book .entry)) (length (now (out .entry))) (length (now (work .entry))) .size) × (r .definitions ≡ answer (now (book .entry)) (length (now (out .entry))) (length (now (work .entry))) .definitions) × (r .lifted ≡ answer (now (book .entry)) (length (now (out .entry))) (length (now (work .entry))) .lifts) ⌝ }
+    ensures { λ _. ⌜ now (out .exit) ≡ output (now (book .entry)) (now (out .entry)) (length (now (work .entry))) ⌝ }
+    ensures { λ _. ⌜ now (work .exit) ≡ zeroed (now (work .entry)) ⌝ }
+{
+    let e = elaborate(book, out, work);
+    in_four_numbers(e)
+}
+
+// The nested mode, of document 02 b.
+#[no_mangle]
+pub extern "C" fn samulsto_elaborate_nested(book: &[u8], out: &mut [u8], work: &mut [u8]) -> Report
+    ensures { λ r. ⌜ (r .code ≡ answerNested (now (book .entry)) (length (now (out .entry))) (length (now (work .entry))) .code) × (r .length ≡ answerNested (now (book .entry)) (length (now (out .entry))) (length (now (work .entry))) .size) × (r .definitions ≡ answerNested (now (book .entry)) (length (now (out .entry))) (length (now (work .entry))) .definitions) × (r .lifted ≡ answerNested (now (book .entry)) (length (now (out .entry))) (length (now (work .entry))) .lifts) ⌝ }
+    ensures { λ _. ⌜ now (out .exit) ≡ outputNested (now (book .entry)) (now (out .entry)) (length (now (work .entry))) ⌝ }
+    ensures { λ _. ⌜ now (work .exit) ≡ zeroed (now (work .entry)) ⌝ }
+{
+    let e = elaborate_nested(book, out, work);
+    in_four_numbers(e)
 }

@@ -61,8 +61,41 @@ fn expand_with(
     )
 }
 
-// The scratch tables of a book of at most 2,048 bytes: four numbers a binder and two a label for every four bytes, with 512 more for the
+// The scratch tables of a book of at most 512 bytes: four numbers a binder and two a label for every four bytes, with 512 more for the
 // labels' hashes, and a use for every byte.
+fn expand_small(
+    s: &[u8],
+    made: &mut [u8],
+    rows: &mut [u16],
+    params: &mut [u16],
+    number: &mut [u16],
+    order: &mut [u16],
+) -> Body
+    requires { ⌜ Starts (now s) (now made) (now rows) (now params) (now number) (now order) × (length (now s) ≤ 512) ⌝ }
+    ensures { λ r. ⌜ Expands (now (s .entry)) (now (made .exit)) (now (rows .exit)) (now (params .exit)) (now (number .exit)) (now (order .exit)) r ⌝ }
+{
+    let mut ends = [0u16; 512];
+    measure_book(s, &mut ends);
+    let mut binders = [0u16; 512];
+    let mut bound = [0u32; 768];
+    let mut uses = [0u32; 512];
+    let mut spare = [0u32; 512];
+    expand_with(
+        s,
+        &ends,
+        &mut binders,
+        &mut bound,
+        &mut uses,
+        &mut spare,
+        made,
+        rows,
+        params,
+        number,
+        order,
+    )
+}
+
+// Those of a book of at most 2,048 bytes.
 fn expand_short(
     s: &[u8],
     made: &mut [u8],
@@ -140,6 +173,9 @@ pub fn expand_definitions(
     requires { ⌜ Starts (now s) (now made) (now rows) (now params) (now number) (now order) ⌝ }
     ensures { λ r. ⌜ Expands (now (s .entry)) (now (made .exit)) (now (rows .exit)) (now (params .exit)) (now (number .exit)) (now (order .exit)) r ⌝ }
 {
+    if s.len() <= 512 {
+        return expand_small(s, made, rows, params, number, order);
+    }
     if s.len() <= 2048 {
         return expand_short(s, made, rows, params, number, order);
     }

@@ -1,6 +1,6 @@
 // The listing of a book, written into a buffer.
 use closing::Elaborated;
-use elab::elaboration::elaborate;
+use elaboration::elaborate;
 use nesting::elaborate_nested;
 use printed::put_refusal;
 use printed::put_result;

@@ -1,8 +1,7 @@
 // Replays the recorded answers of the Rust, data/ (its page there says how they were made and laid out), and counts for each
 // code the answers that are the recorded ones and those that are not.
 use closing::Elaborated;
-use elab::Tested;
-use elab::elaboration::elaborate;
+use elaboration::elaborate;
 use libc::STDOUT_FILENO;
 use lookup::same_name;
 use macros::Expanded;
@@ -10,6 +9,7 @@ use reader::Verdict;
 use seek::byte;
 use seek::number;
 use seek::past;
+use tested::Tested;
 ghost use mathlib.Core.Path.{_≡_};
 ghost use Prim.Native.Nat.{_≤_};
 ghost use lib.ListN.{length};
@@ -178,7 +178,7 @@ fn all_are(s: &[u8], b: u8) -> bool {
 // Whether the premise test gives this book the recorded answer, and leaves a work area of zeros.
 fn tests_as(book: &[u8], code: u8, holds: u8) -> bool {
     let mut work = [170u8; 65536];
-    let alike = match elab::premise(book, &mut work) {
+    let alike = match tested::premise(book, &mut work) {
         Tested::Holds => { if code == 0 { holds == 1 } else { false } }
         Tested::Fails => { if code == 0 { holds == 0 } else { false } }
         Tested::Refused { code: found } => found == code,

@@ -14,6 +14,6 @@ pub fn read(bytes: &[u8]) -> (u8, usize) {
 
 /// The code, and the length of the result in `out`.
 pub fn elaborate(bytes: &[u8], out: &mut [u8], work: &mut [u8]) -> (u32, usize) {
-    let answer = elab::elaboration::samulsto_elaborate(bytes, out, work);
+    let answer = elab::samulsto_elaborate(bytes, out, work);
     (answer.code, answer.length as usize)
 }

@@ -10,7 +10,10 @@ lift-book-spec =
     (tie.spec
     (λ c κs. (c .before .before .before .before .pre, c .before .if1 .taken))
     (λ c. search needs)
+    (λ c. c .before .before .lift-small .ensures)
+    (λ c κs. (c .before .before .before .before .before .pre, c .before .if2 .taken))
+    (λ c. search needs)
     (λ c. c .before .before .lift-short .ensures)
-    (λ c κs. c .before .before .before .before .pre)
+    (λ c κs. c .before .before .before .before .before .pre)
     (λ c. search needs)
     (λ c. c .before .before .lift-long .ensures))

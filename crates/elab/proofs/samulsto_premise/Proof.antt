@@ -7,21 +7,21 @@ use Rattle.elab.proofs.samulsto_premise.Statement.{statement}
 use Rattle.elab.proofs.samulsto_premise.Tie as tie
 use Rattle.elab.proofs.samulsto_premise.Reads as reads
 use Rattle.elab.proofs.samulsto_premise.Lts as lts
-use Rattle.elab.proofs.in_numbers.Reads as in-numbers-reads
-use Rattle.elab.proofs.premise.Reads as premise-reads
+use Rattle.elab.proofs.in_two_numbers.Reads as in-two-numbers-reads
+use Rattle.tested.proofs.premise.Reads as premise-reads
 
 premise-requires : tie.Need-premise-requires
 premise-requires c κs = search needs
 
-in-numbers-requires : tie.Need-in-numbers-requires
-in-numbers-requires c κs = search needs
+in-two-numbers-requires : tie.Need-in-two-numbers-requires
+in-two-numbers-requires c κs = search needs
 
 same-length : tie.Need-same-length
 same-length c = search needs
 
 returns : tie.Need-returns
-returns c = ((let e = c .before .before .before .premise .ensures .0 in ((c .in-numbers .ensures .0) ∙ ap (λ (a : PremiseAnswer). a .code) e, (c .in-numbers .ensures .1) ∙ ap (λ (a : PremiseAnswer). a .holds) e)), c .before .before .before .premise .ensures .1)
+returns c = ((let e = c .before .before .before .premise .ensures .0 in ((c .in-two-numbers .ensures .0) ∙ ap (λ (a : PremiseAnswer). a .code) e, (c .in-two-numbers .ensures .1) ∙ ap (λ (a : PremiseAnswer). a .holds) e)), c .before .before .before .premise .ensures .1)
 
 pub samulsto-premise-spec : {M : Type 1} → statement M
 samulsto-premise-spec =
-    tie.close (tie.spec premise-requires in-numbers-requires same-length returns)
+    tie.close (tie.spec premise-requires in-two-numbers-requires same-length returns)

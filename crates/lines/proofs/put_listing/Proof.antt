@@ -9,7 +9,7 @@ use Rattle.lines.proofs.put_listing.Statement.{statement}
 use Rattle.lines.proofs.put_listing.Tie as tie
 use Rattle.lines.proofs.put_listing.Reads as reads
 use Rattle.lines.proofs.put_listing.Lts as lts
-use Rattle.elab.proofs.elaboration.elaborate.Reads as elaborate-reads
+use Rattle.elaboration.proofs.elaborate.Reads as elaborate-reads
 use Rattle.lines.proofs.put_answer.Reads as put-answer-reads
 
 slice-aggregate-elaborate : tie.Need-slice-aggregate-elaborate

@@ -1,0 +1,31 @@
+-- `elaboration::elaborate` meets its contract.
+-- Assumes nothing.
+use borrow.Author.Needs.{needs}
+use mathlib.Core.Path.{refl}
+use Rattle.elaboration.proofs.Answering.{answers-it, fills-it}
+use Rattle.closing.proofs.Reporting.{all-zero}
+use Rattle.elaboration.proofs.elaborate.Statement.{statement}
+use Rattle.elaboration.proofs.elaborate.Tie as tie
+use Rattle.elaboration.proofs.elaborate.Reads as reads
+use Rattle.elaboration.proofs.elaborate.Lts as lts
+use Rattle.elaboration.proofs.attempt.Reads as attempt-reads
+use Rattle.writer.proofs.zero_range.Reads as zero-range-reads
+
+attempt-requires : tie.Need-attempt-requires
+attempt-requires c κs = search needs
+
+zero-range-requires : tie.Need-zero-range-requires
+zero-range-requires c κs = search needs
+
+same-length : tie.Need-same-length
+same-length c = search needs
+
+same-length-2 : tie.Need-same-length-2
+same-length-2 c = search needs
+
+returns : tie.Need-returns
+returns c = (answers-it _ _ (c .before .before .before .before .before .before .before .before .attempt .ensures), (fills-it _ _ (c .before .before .before .before .before .before .before .before .attempt .ensures), all-zero _ _ _ _ (c .before .before .before .before .before .work .given) refl (c .before .before .zero-range .ensures)))
+
+pub elaborate-spec : {M : Type 1} → statement M
+elaborate-spec =
+    tie.close (tie.spec attempt-requires zero-range-requires same-length same-length-2 returns)

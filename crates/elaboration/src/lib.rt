@@ -1,0 +1,51 @@
+// The whole elaboration: what it answers, what it writes and what it leaves in the work area, for every input.
+use closing::Elaborated;
+use closing::lift_book;
+use opening::Begun;
+use opening::Opened;
+use opening::begin;
+use opening::expand_book;
+use writer::zero_range;
+ghost use mathlib.Core.Path.{_≡_};
+ghost use lib.ListN.{length};
+ghost use Rattle.definition.specs.Answer.{attempt, answer, output, zeroed};
+ghost use Rattle.opening.specs.Opens.{Sound};
+ghost use Rattle.closing.specs.Elaborates.{reported, Reports};
+
+// The elaboration of a book with macros, which is expanded into an array of its own, with the work area left as it is then.
+fn attempt_expanded(book: &[u8], out: &mut [u8], work: &mut [u8]) -> Elaborated
+    requires { ⌜ Sound (now book) (length (now work)) ⌝ }
+    ensures { λ r. ⌜ Reports (attempt (now (book .entry)) (length (now (out .entry))) (length (now (work .entry)))) (now (out .entry)) (now (out .exit)) r ⌝ }
+{
+    let mut expanded = [0u8; 16384];
+    let opened = expand_book(book, work, &mut expanded);
+    match opened {
+        Opened::Refused { code } => Elaborated::Refused { code },
+        Opened::Book { len } => lift_book(&expanded[..len], out),
+    }
+}
+
+// The elaboration of any book.
+fn attempt(book: &[u8], out: &mut [u8], work: &mut [u8]) -> Elaborated
+    ensures { λ r. ⌜ Reports (attempt (now (book .entry)) (length (now (out .entry))) (length (now (work .entry)))) (now (out .entry)) (now (out .exit)) r ⌝ }
+{
+    let begun = begin(book, work.len());
+    match begun {
+        Begun::Refused { code } => Elaborated::Refused { code },
+        Begun::Plain => lift_book(book, out),
+        Begun::Macros => attempt_expanded(book, out, work),
+    }
+}
+
+// "On 0 the result fills the output's first bytes and the rest is as before. On a refusal .. the output is as before. The work area, short or
+// not, is all zero afterwards in each case."
+pub fn elaborate(book: &[u8], out: &mut [u8], work: &mut [u8]) -> Elaborated
+    ensures { λ r. ⌜ reported r ≡ answer (now (book .entry)) (length (now (out .entry))) (length (now (work .entry))) ⌝ }
+    ensures { λ _. ⌜ now (out .exit) ≡ output (now (book .entry)) (now (out .entry)) (length (now (work .entry))) ⌝ }
+    ensures { λ _. ⌜ now (work .exit) ≡ zeroed (now (work .entry)) ⌝ }
+{
+    let answer = attempt(book, out, work);
+    let end = work.len();
+    zero_range(work, 0, end);
+    answer
+}

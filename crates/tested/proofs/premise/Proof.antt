@@ -1,0 +1,26 @@
+-- `tested::premise` meets its contract.
+-- Assumes nothing.
+use borrow.Author.Needs.{needs}
+use Rattle.closing.proofs.Reporting.{all-zero}
+use mathlib.Core.Path.{refl}
+use Rattle.tested.proofs.premise.Statement.{statement}
+use Rattle.tested.proofs.premise.Tie as tie
+use Rattle.tested.proofs.premise.Reads as reads
+use Rattle.tested.proofs.premise.Lts as lts
+use Rattle.tested.proofs.test.Reads as test-reads
+use Rattle.writer.proofs.zero_range.Reads as zero-range-reads
+
+test-requires : tie.Need-test-requires
+test-requires c κs = search needs
+
+zero-range-requires : tie.Need-zero-range-requires
+zero-range-requires c κs = search needs
+
+same-length : tie.Need-same-length
+same-length c = search needs
+
+returns : tie.Need-returns
+returns c = (c .before .before .before .before .before .before .test .ensures, all-zero _ _ _ _ (c .before .before .before .before .before .work .given) refl (c .before .before .zero-range .ensures))
+
+pub premise-spec : {M : Type 1} → statement M
+premise-spec = tie.close (tie.spec test-requires zero-range-requires same-length returns)
