@@ -11,6 +11,8 @@ use Rattle.definition.specs.Write.{wBook}
 use Rattle.definition.specs.Lift.{liftBook}
 use Rattle.definition.specs.Answer.{Result, all, outcome, Answer, answered, filled}
 use Rattle.laws.specs.Book.{IsBook}
+use Rattle.ends.specs.Ends.{Right}
+use Rattle.naming.specs.Lifts.{Scratch}
 use Rattle.closing.specs.declared.Elaborated.{Elaborated}
 use Rattle.closing.specs.declared.Elaborated.the-variants.{Done, Refused}
 
@@ -34,10 +36,13 @@ pub record Expanded (s : List ℕ) : Type 0 where
   pub book : s ≡ wBook of
   pub isBook : IsBook of
 
--- a table of numbers by place that is long enough for the book; no place has a number yet
-pub record Unnumbered (s number : List ℕ) : Type 0 where
+-- tables that are long enough for the book: its ends are right, and no place has a number yet
+pub record Lent (s ends number binders bound uses spare : List ℕ) : Type 0 where
+  pub right : Right s ends
   pub long : length s ≤ length number
   pub blank : (p : ℕ) → getD number p 0 ≡ 0
+  pub binders-long : length s ≤ length binders
+  pub scratch : Scratch s bound uses spare
 
 -- the result of a book is a book: the laws say so
 pub record Lifts (s out out′ : List ℕ) (r : Elaborated) : Type 0 where

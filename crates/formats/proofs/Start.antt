@@ -1,24 +1,19 @@
 -- The tables before the first definition.
 -- Assumes nothing.
-use mathlib.Core.Path.{_≡_, refl, ap, _∙_}
+use mathlib.Core.Path.{_≡_, ap, _∙_}
 use mathlib.Core.List.{List}
-use Prim.Native.Nat.{ℕ, zero, suc, _+_, _*_, _≤_, _<_}
+use Prim.Native.Nat.{ℕ, _≤_}
 use native.Mathlib.Omega.{arith}
-use lib.ListN.{length, take, getD, replicate, length-replicate}
+use lib.ListN.{length, take}
 use Rattle.definition.specs.Tree.{Definition}
 use Rattle.definition.specs.Write.{wBook}
 use Rattle.definition.specs.Size.{sizeBook}
 use Rattle.laws.specs.Book.{IsBook}
-use Rattle.seek.specs.At.{byteAt, numberAt}
+use Rattle.seek.specs.At.{numberAt}
 use Rattle.contents.proofs.Listed.{book-listed}
-use Rattle.ends.specs.Ends.{Right}
-use Rattle.ends.proofs.Ends.{none-right}
-use Rattle.measured.specs.Measure.{measuredBook}
-use Rattle.measured.proofs.Measured.{measured-right}
 use Rattle.tables.specs.Rows.{rowsOf, lastFrom}
 use Rattle.lift.specs.declared.Counts.{Counts}
 use Rattle.lift.specs.Sheet.{sheetOf}
-use Rattle.naming.specs.Lifts.{Scratch}
 use Rattle.walked.specs.Book.{blank, walkBook}
 use Rattle.body.specs.declared.Body.{Body}
 use Rattle.steps.specs.Good.{Good}
@@ -29,23 +24,6 @@ use Rattle.start.proofs.Rows.{book-short}
 
 abbrev pub counts : ℕ → ℕ → ℕ → Counts
 counts taken bytes defns = record { taken = taken; end = 0; lifts = 0; params = 0; bytes = bytes; defns = defns }
-
-pub zero-at : (n p : ℕ) → getD {A = ℕ} (replicate n 0) p 0 ≡ 0
-zero-at zero p = refl
-zero-at (suc n) zero = refl
-zero-at (suc n) (suc p) = zero-at n p
-
--- where inners end, found in one walk: no end is known before it
-pub ends-right : {s ends : List ℕ} (n : ℕ) → ends ≡ measuredBook s (replicate n 0) → Right s ends
-ends-right {s} n e = rw e (measured-right s (replicate n 0) (none-right (zero-at n)))
-
--- tables for books of at most n bytes
-pub scratch : {s : List ℕ} (n m : ℕ) → n + 1024 ≡ 2 * m → length s ≤ n → ((i : ℕ) → getD s i 0 < 256) → Scratch s (replicate m 0) (replicate n 0) (replicate n 0)
-unfolding byteAt
-scratch n m e l b =
-    let x = length-replicate {0} {A = ℕ} n 0 in
-    let y = length-replicate {0} {A = ℕ} m 0 in
-    record { small = b; labels = omega arith; uses-long = omega arith; spare-long = omega arith }
 
 module _ {s made rows params number order : List ℕ} (x : Starts s made rows params number order) where
   pub the-book : Book s

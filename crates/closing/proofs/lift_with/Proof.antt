@@ -9,25 +9,28 @@ use Rattle.closing.proofs.lift_with.Statement.{statement}
 use Rattle.closing.proofs.lift_with.Tie as tie
 
 expand-definitions-requires : tie.Need-expand-definitions-requires
-expand-definitions-requires c κs = let p = c .before .before .before .before .before .before .before .before .pre in starts (p .0) (p .1) (length-replicate {0} {A = ℕ} 8192 0) (length-replicate {0} {A = ℕ} 2560 0) (length-replicate {0} {A = ℕ} 13108 0) (length-replicate {0} {A = ℕ} 512 0)
+expand-definitions-requires c κs =
+    let p = c .before .before .before .before .before .before .before .before .before .before .before .before .before .before .before .before .before .pre in
+    let q = p .1 in
+    (starts (p .0) q (length-replicate {0} {A = ℕ} 8192 0) (length-replicate {0} {A = ℕ} 2560 0) (length-replicate {0} {A = ℕ} 13108 0) (length-replicate {0} {A = ℕ} 512 0), q .scratch, q .binders-long, q .right)
 
 returns : tie.Need-returns
-returns c = lifts-short (rw (c .before .before .before .body2 .given .1) at (c .before .before .before .before .before .before .before .before .before .before .before .expand-definitions .ensures)) (c .if1 .taken)
+returns c = lifts-short (rw (c .before .before .before .body2 .given .1) at (c .before .before .before .before .before .before .before .before .before .before .before .before .before .before .before .before .before .before .before .expand-definitions .ensures)) (c .if1 .taken)
 
 cast-length : tie.Need-cast-length
-cast-length c = let p = c .before .before .before .before .before .before .before .before .before .before .before .before .before .before .before .before .before .before .before .before .before .pre .0 in omega (arith, small (rw (c .before .before .before .before .body2 .given .1) at (c .before .before .before .before .before .before .before .before .before .before .before .before .expand-definitions .ensures)) p .bytes)
+cast-length c = omega (arith, small (rw (c .before .before .before .before .body2 .given .1) at (c .before .before .before .before .before .before .before .before .before .before .before .before .before .before .before .before .before .before .before .before .expand-definitions .ensures)) (c .before .before .before .before .before .before .before .before .before .before .before .before .before .before .before .before .before .before .before .before .before .before .before .before .before .before .before .before .before .before .before .before .before .before .before .before .before .before .pre .0) .bytes)
 
 cast-definitions : tie.Need-cast-definitions
-cast-definitions c = let p = c .before .before .before .before .before .before .before .before .before .before .before .before .before .before .before .before .before .before .before .before .before .before .pre .0 in omega (arith, small (rw (c .before .before .before .before .before .body2 .given .1) at (c .before .before .before .before .before .before .before .before .before .before .before .before .before .expand-definitions .ensures)) p .defns)
+cast-definitions c = omega (arith, small (rw (c .before .before .before .before .before .body2 .given .1) at (c .before .before .before .before .before .before .before .before .before .before .before .before .before .before .before .before .before .before .before .before .before .expand-definitions .ensures)) (c .before .before .before .before .before .before .before .before .before .before .before .before .before .before .before .before .before .before .before .before .before .before .before .before .before .before .before .before .before .before .before .before .before .before .before .before .before .before .before .pre .0) .defns)
 
 cast-lifted : tie.Need-cast-lifted
-cast-lifted c = let p = c .before .before .before .before .before .before .before .before .before .before .before .before .before .before .before .before .before .before .before .before .before .before .pre .0 in omega (arith, small (rw (c .before .before .before .before .before .body2 .given .1) at (c .before .before .before .before .before .before .before .before .before .before .before .before .before .expand-definitions .ensures)) p .lifts)
+cast-lifted c = omega (arith, small (rw (c .before .before .before .before .before .body2 .given .1) at (c .before .before .before .before .before .before .before .before .before .before .before .before .before .before .before .before .before .before .before .before .before .expand-definitions .ensures)) (c .before .before .before .before .before .before .before .before .before .before .before .before .before .before .before .before .before .before .before .before .before .before .before .before .before .before .before .before .before .before .before .before .before .before .before .before .before .before .before .pre .0) .lifts)
 
 returns-2 : tie.Need-returns-2
-returns-2 c = lifts-refused (rw (c .before .body .given .1) at (c .before .before .before .before .before .before .before .before .before .expand-definitions .ensures))
+returns-2 c = lifts-refused (rw (c .before .body .given .1) at (c .before .before .before .before .before .before .before .before .before .before .before .before .before .before .before .before .before .expand-definitions .ensures))
 
 returns-3 : tie.Need-returns-3
-returns-3 c = lifts-written (rw (c .before .before .before .before .before .before .before .before .before .before .before .before .before .before .body2 .given .1) at (c .before .before .before .before .before .before .before .before .before .before .before .before .before .before .before .before .before .before .before .before .before .before .expand-definitions .ensures)) (c .before .before .before .before .before .before .before .before .before .before .before .if1 .left) (c .before .before .write-result .ensures)
+returns-3 c = lifts-written (rw (c .before .before .before .before .before .before .before .before .before .before .before .before .before .before .body2 .given .1) at (c .before .before .before .before .before .before .before .before .before .before .before .before .before .before .before .before .before .before .before .before .before .before .before .before .before .before .before .before .before .before .expand-definitions .ensures)) (c .before .before .before .before .before .before .before .before .before .before .before .if1 .left) (c .before .before .write-result .ensures)
 
 pub lift-with-spec : {M : Type 1} → statement M
 lift-with-spec =
@@ -40,7 +43,11 @@ lift-with-spec =
     expand-definitions-requires
     (λ c. search needs)
     (λ c. search needs)
-    (λ c. search needs)
+    (λ c. c .before .before .before .before .before .before .before .number .given)
+    (λ c. c .before .before .before .before .before .before .before .before .before .before .before .before .before .before .before .before .before .before .binders .given)
+    (λ c. c .before .before .before .before .before .before .before .before .before .before .before .before .before .before .before .before .bound .given)
+    (λ c. c .before .before .before .before .before .before .before .before .before .before .before .before .before .before .uses .given)
+    (λ c. c .before .before .before .before .before .before .before .before .before .before .before .before .spare .given)
     returns
     cast-length
     cast-definitions
@@ -50,8 +57,16 @@ lift-with-spec =
     (λ c. search needs)
     (λ c. search needs)
     (λ c κs. search needs)
-    (λ c. search needs)
+    (λ c. c .before .before .before .before .before .number .given)
+    (λ c. c .before .before .before .before .before .before .before .before .before .before .before .before .before .before .before .before .binders .given)
+    (λ c. c .before .before .before .before .before .before .before .before .before .before .before .before .before .before .bound .given)
+    (λ c. c .before .before .before .before .before .before .before .before .before .before .before .before .uses .given)
+    (λ c. c .before .before .before .before .before .before .before .before .before .before .spare .given)
     returns-2
-    (λ c. search needs)
-    (λ c. search needs)
+    (λ c. c .before .before .before .before .before .before .before .before .before .before .before .before .before .before .before .before .before .before .number .given)
+    (λ c. c .before .before .before .before .before .before .before .before .before .before .before .before .before .before .before .before .before .before .before .before .before .before .before .before .before .before .before .before .before .binders .given)
+    (λ c. c .before .before .before .before .before .before .before .before .before .before .before .before .before .before .before .before .before .before .before .before .before .before .before .before .before .before .before .bound .given)
+    (λ c. c .before .before .before .before .before .before .before .before .before .before .before .before .before .before .before .before .before .before .before .before .before .before .before .before .before .uses .given)
+    (λ c. c .before .before .before .before .before .before .before .before .before .before .before .before .before .before .before .before .before .before .before .before .before .before .before .spare .given)
+    (λ c. c .before .out .given)
     returns-3)

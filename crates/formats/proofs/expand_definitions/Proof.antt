@@ -1,31 +1,47 @@
 -- `formats::expand_definitions` meets its contract.
 -- Assumes nothing.
+use Prim.Native.Nat.{ℕ}
+use native.Mathlib.Omega.{arith}
+use lib.ListN.{length-replicate}
 use borrow.Author.Needs.{needs}
+use Rattle.formats.proofs.Start.{the-book, good, expands}
 use Rattle.formats.proofs.expand_definitions.Statement.{statement}
 use Rattle.formats.proofs.expand_definitions.Tie as tie
+
+expand-in-order-requires : tie.Need-expand-in-order-requires
+expand-in-order-requires c κs =
+    let p = c .before .before .before .before .before .before .before .before .before .before .before .before .before .before .before .before .before .before .before .before .before .before .before .before .before .before .before .before .before .before .before .before .pre in (
+      good (p .0) (c .before .before .before .before .before .before .before .before .before .before .before .before .before .before .before .before .before .take-at-start .ensures) (c .before .before .before .before .before .before .before .before .before .before .before .before .before .number .ensures) (omega (arith, c .before .before .before .before .before .before .before .before .before .before .before .before .before .before .before .before .places2 .given)) (omega (arith, c .before .before .before .before .before .before .before .before .before .before .before .before .before .before .before .hashes2 .given)) (omega (arith, c .before .before .before .before .before .before .before .before .before .before .before .before .before .before .hints2 .given)),
+      record { scratch = p .1; path-long = length-replicate {0} {A = ℕ} 255 0; binders-long = p .2 },
+      the-book (p .0),
+      p .3,
+    )
+
+returns : tie.Need-returns
+returns c = expands (c .before .before .before .before .before .before .before .before .before .before .before .before .before .before .before .before .before .before .before .before .before .before .before .before .before .before .before .before .before .before .before .before .before .before .before .before .before .before .before .before .before .before .before .before .before .before .before .before .before .before .before .before .before .before .before .pre .0) (c .before .before .before .before .before .before .before .before .before .before .before .before .before .before .before .before .before .before .before .before .before .before .before .before .before .before .before .before .before .before .before .before .before .before .before .before .before .before .before .before .take-at-start .ensures) (c .before .before .before .before .before .before .before .before .before .before .before .before .before .before .before .before .before .before .before .before .before .before .before .before .before .before .before .before .before .before .before .before .before .before .before .before .number .ensures) (c .before .before .before .before .before .before .before .before .before .before .before .before .before .before .before .before .before .before .before .before .before .before .expand-in-order .ensures)
 
 pub expand-definitions-spec : {M : Type 1} → statement M
 expand-definitions-spec =
     tie.close
     (tie.spec
-    (λ c κs. (c .before .before .before .before .before .before .before .before .before .before .before .before .pre, c .before .before .before .before .before .if1 .taken))
+    (λ c. search needs)
+    (λ c. search needs)
+    (λ c. search needs)
+    (λ c κs. search needs)
+    (λ c κs. search needs)
     (λ c. search needs)
     (λ c. search needs)
     (λ c. search needs)
     (λ c. search needs)
     (λ c. search needs)
-    (λ c. c .before .before .before .before .before .before .before .before .before .before .expand-small .ensures)
-    (λ c κs. (c .before .before .before .before .before .before .before .before .before .before .before .before .before .pre, c .before .before .before .before .before .if2 .taken))
-    (λ c. search needs)
-    (λ c. search needs)
-    (λ c. search needs)
-    (λ c. search needs)
-    (λ c. search needs)
-    (λ c. c .before .before .before .before .before .before .before .before .before .before .expand-short .ensures)
-    (λ c κs. c .before .before .before .before .before .before .before .before .before .before .before .before .before .pre)
-    (λ c. search needs)
-    (λ c. search needs)
-    (λ c. search needs)
-    (λ c. search needs)
-    (λ c. search needs)
-    (λ c. c .before .before .before .before .before .before .before .before .before .before .expand-long .ensures))
+    expand-in-order-requires
+    (λ c. c .before .before .before .before .before .before .before .before .before .before .before .before .before .before .before .before .before .before .before .before .binders .given)
+    (λ c. c .before .before .before .before .before .before .before .before .before .before .before .before .before .before .before .before .before .before .bound .given)
+    (λ c. c .before .before .before .before .before .before .before .before .before .before .before .before .before .before .before .before .uses .given)
+    (λ c. c .before .before .before .before .before .before .before .before .before .before .before .before .before .before .spare .given)
+    (λ c. c .before .before .before .before .before .before .before .before .before .before .before .before .made .given)
+    (λ c. c .before .before .before .before .before .before .before .rows .given)
+    (λ c. c .before .before .before .before .before .params .given)
+    (λ c. c .before .before .before .number2 .given)
+    (λ c. c .before .order .given)
+    returns)
