@@ -1,2 +1,3 @@
 pub mod Lifting
+mod Copying
 pub mod Reporting

@@ -1,9 +1,14 @@
 // From the expanded book to the result: the lifts are named, then the result is written. Codes 7 to 11.
 use body::Body;
+use flat::copy_book;
+use flat::is_flat;
 use formats::expand_definitions;
 use result::write_result;
+use seek::number;
+ghost use mathlib.Core.Bool.{true};
 ghost use Prim.Native.Nat.{_≤_};
 ghost use lib.ListN.{length};
+ghost use Rattle.flat.specs.Told.{Told};
 ghost use Rattle.closing.specs.Elaborates.{Expanded, Unnumbered, Lifts};
 
 // The result's length, its count of definitions and the count lifted, or a code.
@@ -74,8 +79,8 @@ fn lift_long(s: &[u8], out: &mut [u8]) -> Elaborated
     lift_with(s, &mut number, out)
 }
 
-// Codes 7 to 11.
-pub fn lift_book(s: &[u8], out: &mut [u8]) -> Elaborated
+// A book of any length.
+fn lift_by_length(s: &[u8], out: &mut [u8]) -> Elaborated
     requires { ⌜ Expanded (now s) ⌝ }
     ensures { λ r. ⌜ Lifts (now (s .entry)) (now (out .entry)) (now (out .exit)) r ⌝ }
 {
@@ -86,4 +91,32 @@ pub fn lift_book(s: &[u8], out: &mut [u8]) -> Elaborated
         return lift_short(s, out);
     }
     lift_long(s, out)
+}
+
+// Out of a flat book nothing is lifted: it is its own result.
+fn lift_nothing(s: &[u8], out: &mut [u8]) -> Elaborated
+    requires { ⌜ Expanded (now s) × Told (now s) true ⌝ }
+    ensures { λ r. ⌜ Lifts (now (s .entry)) (now (out .entry)) (now (out .exit)) r ⌝ }
+{
+    if !copy_book(s, out) {
+        return Elaborated::Refused { code: 11 };
+    }
+    let length = s.len() as u16;
+    let definitions = number(s, 0);
+    Elaborated::Done {
+        length,
+        definitions,
+        lifted: 0,
+    }
+}
+
+// Codes 7 to 11.
+pub fn lift_book(s: &[u8], out: &mut [u8]) -> Elaborated
+    requires { ⌜ Expanded (now s) ⌝ }
+    ensures { λ r. ⌜ Lifts (now (s .entry)) (now (out .entry)) (now (out .exit)) r ⌝ }
+{
+    if is_flat(s) {
+        return lift_nothing(s, out);
+    }
+    lift_by_length(s, out)
 }

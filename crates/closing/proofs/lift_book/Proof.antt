@@ -1,19 +1,21 @@
 -- `closing::lift_book` meets its contract.
 -- Assumes nothing.
 use borrow.Author.Needs.{needs}
+use Rattle.closing.proofs.Copying.{told-flat}
 use Rattle.closing.proofs.lift_book.Statement.{statement}
 use Rattle.closing.proofs.lift_book.Tie as tie
+
+lift-nothing-requires : tie.Need-lift-nothing-requires
+lift-nothing-requires c κs = (c .before .before .before .before .before .pre, told-flat (c .before .before .is-flat .ensures) (c .before .if1 .taken))
 
 pub lift-book-spec : {M : Type 1} → statement M
 lift-book-spec =
     tie.close
     (tie.spec
-    (λ c κs. (c .before .before .before .before .pre, c .before .if1 .taken))
+    (λ c κs. search needs)
+    lift-nothing-requires
     (λ c. search needs)
-    (λ c. c .before .before .lift-small .ensures)
-    (λ c κs. (c .before .before .before .before .before .pre, c .before .if2 .taken))
-    (λ c. search needs)
-    (λ c. c .before .before .lift-short .ensures)
+    (λ c. c .before .before .lift-nothing .ensures)
     (λ c κs. c .before .before .before .before .before .pre)
     (λ c. search needs)
-    (λ c. c .before .before .lift-long .ensures))
+    (λ c. c .before .before .lift-by-length .ensures))
