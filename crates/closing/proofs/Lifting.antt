@@ -3,10 +3,10 @@
 use mathlib.Core.Path.{_≡_, refl, sym, ap, _∙_}
 use mathlib.Core.Logic.{inl, inr}
 use mathlib.Core.List.{List, [], _∷_, _++_, map, append-nil}
-use Prim.Native.Nat.{ℕ, zero, suc, _+_, _*_, _≤_, _<_}
+use Prim.Native.Nat.{ℕ, zero, suc, _+_, _≤_, _<_}
 use native.Mathlib.Omega.{arith}
 use lib.Dec.{leb}
-use lib.ListN.{length, take, drop, getD, replicate, length-replicate}
+use lib.ListN.{length, take, drop, getD}
 use lib.Seq.{getD-take, length-take-le}
 use borrow.Author.Tests.{le-leb, lt-leb}
 use Rattle.definition.specs.Code.{Code, number, output-short}
@@ -19,10 +19,6 @@ use Rattle.definition.specs.Lift.{liftBook}
 use Rattle.definition.specs.Answer.{Result, all, outcome, answered, filled}
 use Rattle.laws.specs.Book.{IsBook}
 use Rattle.laws.proofs.Sizes.{size-bodies, size-book}
-use Rattle.seek.specs.At.{byteAt}
-use Rattle.ends.proofs.Ends.{none-right}
-use Rattle.measured.specs.Measure.{measuredBook}
-use Rattle.measured.proofs.Measured.{measured-right}
 use Rattle.lifting.specs.After.{Lift, liftsAll, firstAt, Stands}
 use Rattle.lifting.specs.Laws.{Gave, Comes, refuses, gives}
 use Rattle.lifting.specs.Trace.{Trace, treeHead, traceBook}
@@ -48,26 +44,6 @@ use Rattle.result.proofs.Numbered.{numbered-by}
 use Rattle.closing.specs.declared.Elaborated.{Elaborated}
 use Rattle.closing.specs.declared.Elaborated.the-variants.{Done, Refused}
 use Rattle.closing.specs.Elaborates.{reported, Reports, lifted, Expanded, Lent, Lifts}
-
-pub zero-at : (n p : ℕ) → getD {A = ℕ} (replicate n 0) p 0 ≡ 0
-zero-at zero p = refl
-zero-at (suc n) zero = refl
-zero-at (suc n) (suc p) = zero-at n p
-
--- tables of zeros for books of at most n bytes, and the ends of one walk over the book: no end is known before it
-pub lent : {s ends : List ℕ} (n m : ℕ) → n + 1024 ≡ 2 * m → length s ≤ n → ((i : ℕ) → getD s i 0 < 256) → ends ≡ measuredBook s (replicate n 0)
-    → Lent s ends (replicate n 0) (replicate n 0) (replicate m 0) (replicate n 0) (replicate n 0)
-unfolding byteAt
-lent {s} n m e l b f =
-    let x = length-replicate {0} {A = ℕ} n 0 in
-    let y = length-replicate {0} {A = ℕ} m 0 in
-    record {
-      right = rw f (measured-right s (replicate n 0) (none-right (zero-at n)));
-      long = omega arith;
-      blank = zero-at n;
-      binders-long = omega arith;
-      scratch = record { small = b; labels = omega arith; uses-long = omega arith; spare-long = omega arith };
-    }
 
 pub starts : {s ends made rows params number order binders bound uses spare : List ℕ} → Expanded s → Lent s ends number binders bound uses spare → length made ≡ 8192 → length rows ≡ 2560 → length params ≡ 13108 → length order ≡ 512
     → Starts s made rows params number order

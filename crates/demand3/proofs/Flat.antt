@@ -35,7 +35,7 @@ kid-flat c W ih s d t (moved inside n b l w) =
     let v = ih (l .first) (l .body) (l .last) w in
     record { made = λ f. rw (l .last-made) (flat-append (l .last .made) _ (v .made (rw (l .first-made) f)) (v .here .0, tt)); here = rw (l .there) tt }
 
-calm-leaf : (k : Leaf) → anonymousLeaf k ≡ false → CalmLeaf k
+pub calm-leaf : (k : Leaf) → anonymousLeaf k ≡ false → CalmLeaf k
 unfolding anonymousLeaf
 calm-leaf constraint-int e = tt
 calm-leaf constraint-enum e = tt

@@ -21,6 +21,7 @@ use Rattle.laws.specs.Book.{Bytes, IsBook}
 use Rattle.laws.proofs.Steps.{yielded}
 use Rattle.laws.proofs.NoneKnown.{none-known}
 use Rattle.laws.proofs.Results.{written-is-read, elaborated-book}
+use Rattle.demand3.specs.Words.{EachBody}
 use Rattle.demand3.specs.Flat.{CalmLeaf, Calm, CalmI, CalmF, CalmC, Flat, FlatI, FlatAll}
 use Rattle.demand3.proofs.Demand3.{comes}
 
@@ -130,17 +131,29 @@ mutual
   stillC no-case f k i n b s = refl
   stillC (case l c g) f k i n b s = rw (kid-still c (λ n b s. walk full c n b s) (f .0) (λ n b s. still c (calm-flat c (f .0)) n b s) (child n (caseSegment k l i)) b s, stillC g (f .1) k (suc i) n b s)
 
-still-all : (ds : List Definition) → FlatAll ds → (s : State) → walkAll full ds s ≡ ok ds s
+still-all : (ds : List Definition) → EachBody Flat ds → (s : State) → walkAll full ds s ≡ ok ds s
 unfolding walkAll
 still-all [] f s = refl
 still-all (format n ps c ∷ ds) f s = rw (still c (f .0) n ps s, still-all ds (f .1) s)
 still-all (constant n x ∷ ds) f s = rw (still-all ds f s)
 still-all (byte-order x ∷ ds) f s = rw (still-all ds f s)
-still-all (macro n ps c ∷ ds) f s = absurd f
+still-all (macro n ps c ∷ ds) f s = rw (still-all ds f s)
 
 lift-says : (ds : List Definition) → liftBook ds ≡ walkAll full ds (start ds)
 unfolding liftBook
 lift-says ds = refl
+
+-- nothing is lifted out of flat bodies
+pub nothing-lifted : (ds : List Definition) → EachBody Flat ds → outcome (liftBook ds) ≡ done (record { kept = ds; lifted = [] })
+unfolding outcome start
+nothing-lifted ds f = rw (lift-says ds, still-all ds f (start ds))
+
+flat-bodies : (ds : List Definition) → FlatAll ds → EachBody Flat ds
+flat-bodies [] h = tt
+flat-bodies (format n ps c ∷ ds) h = (h .0, flat-bodies ds (h .1))
+flat-bodies (constant n x ∷ ds) h = flat-bodies ds h
+flat-bodies (byte-order x ∷ ds) h = flat-bodies ds h
+flat-bodies (macro n ps c ∷ ds) h = absurd h
 
 -- elaborated again it is the same, and nothing is lifted
 source-again : (ds : List Definition) → Ends ds → source (wBook ds) ≡ done ds
@@ -154,8 +167,8 @@ unfolding expanded
 expanded-again ds e = rw (source-again ds e) (expand-again ds e)
 
 pub twice : (ds : List Definition) → Ends ds → elaborated (wBook ds) ≡ done (record { kept = ds; lifted = [] })
-unfolding elaborated outcome start
-twice ds e = rw (expanded-again ds e, lift-says ds, still-all ds (e .flat) (start ds))
+unfolding elaborated
+twice ds e = rw (expanded-again ds e) (nothing-lifted ds (flat-bodies ds (e .flat)))
 
 -- the same for the call: code 0, the same bytes, nothing lifted
 attempt-again : (ds : List Definition) → Ends ds → (o w : ℕ) → 65536 ≤ w → length (wBook ds) ≤ o → attempt (wBook ds) o w ≡ done (record { kept = ds; lifted = [] })

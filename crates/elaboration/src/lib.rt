@@ -1,10 +1,10 @@
 // The whole elaboration: what it answers, what it writes and what it leaves in the work area, for every input.
 use closing::Elaborated;
-use closing::lift_book;
 use opening::Begun;
 use opening::Opened;
 use opening::begin;
 use opening::expand_book;
+use room::lift_book;
 use writer::zero_range;
 ghost use mathlib.Core.Path.{_≡_};
 ghost use lib.ListN.{length};

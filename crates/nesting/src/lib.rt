@@ -1,10 +1,10 @@
 // The nested mode of document 02 b: the pass of document 01, more passes with the same macros, then the lifts.
 use closing::Elaborated;
-use closing::lift_book;
 use opening::Opened;
 use opening::open_book;
 use passes::Passes;
 use passes::expand_again;
+use room::lift_book;
 use writer::zero_range;
 ghost use mathlib.Core.Path.{_≡_};
 ghost use lib.ListN.{length};

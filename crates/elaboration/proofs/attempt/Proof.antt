@@ -6,7 +6,7 @@ use Rattle.elaboration.proofs.attempt.Statement.{statement}
 use Rattle.elaboration.proofs.attempt.Tie as tie
 use Rattle.elaboration.proofs.attempt.Reads as reads
 use Rattle.elaboration.proofs.attempt.Lts as lts
-use Rattle.closing.proofs.lift_book.Reads as lift-book-reads
+use Rattle.room.proofs.lift_book.Reads as lift-book-reads
 use Rattle.elaboration.proofs.attempt_expanded.Reads as attempt-expanded-reads
 use Rattle.opening.proofs.begin.Reads as begin-reads
 

@@ -1,11 +1,11 @@
--- `closing::lift_middle` meets its contract.
+-- `room::lift_middle` meets its contract.
 -- Assumes nothing.
 use mathlib.Core.Path.{refl}
 use native.Mathlib.Omega.{arith}
 use borrow.Author.Needs.{needs}
-use Rattle.closing.proofs.Lifting.{lent}
-use Rattle.closing.proofs.lift_middle.Statement.{statement}
-use Rattle.closing.proofs.lift_middle.Tie as tie
+use Rattle.room.proofs.Tables.{lent}
+use Rattle.room.proofs.lift_middle.Statement.{statement}
+use Rattle.room.proofs.lift_middle.Tie as tie
 
 lift-with-requires : tie.Need-lift-with-requires
 lift-with-requires c κs = let p = c .before .before .before .before .before .before .before .before .before .before .before .before .pre in (p .0, lent 4096 2560 refl (p .1) (λ i. omega (arith, c .before .before .before .before .before .before .before .before .before .before .before .shared-slice-known .given i)) (c .before .before .before .before .before .before .before .before .measure-book .ensures))

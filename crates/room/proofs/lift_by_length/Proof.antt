@@ -1,11 +1,11 @@
--- `closing::lift_book` meets its contract.
+-- `room::lift_by_length` meets its contract.
 -- Assumes nothing.
 use borrow.Author.Needs.{needs}
-use Rattle.closing.proofs.lift_book.Statement.{statement}
-use Rattle.closing.proofs.lift_book.Tie as tie
+use Rattle.room.proofs.lift_by_length.Statement.{statement}
+use Rattle.room.proofs.lift_by_length.Tie as tie
 
-pub lift-book-spec : {M : Type 1} → statement M
-lift-book-spec =
+pub lift-by-length-spec : {M : Type 1} → statement M
+lift-by-length-spec =
     tie.close
     (tie.spec
     (λ c κs. (c .before .before .before .before .pre, c .before .if1 .taken))

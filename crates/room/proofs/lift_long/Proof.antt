@@ -1,11 +1,12 @@
--- `closing::lift_long` meets its contract.
+-- `room::lift_long` meets its contract.
 -- Assumes nothing.
 use mathlib.Core.Path.{refl}
 use native.Mathlib.Omega.{arith}
 use borrow.Author.Needs.{needs}
-use Rattle.closing.proofs.Lifting.{lent, expanded-short}
-use Rattle.closing.proofs.lift_long.Statement.{statement}
-use Rattle.closing.proofs.lift_long.Tie as tie
+use Rattle.room.proofs.Tables.{lent}
+use Rattle.closing.proofs.Lifting.{expanded-short}
+use Rattle.room.proofs.lift_long.Statement.{statement}
+use Rattle.room.proofs.lift_long.Tie as tie
 
 lift-with-requires : tie.Need-lift-with-requires
 lift-with-requires c κs = let p = c .before .before .before .before .before .before .before .before .before .before .before .before .pre in (p, lent 16384 8704 refl (expanded-short p) (λ i. omega (arith, c .before .before .before .before .before .before .before .before .before .before .before .shared-slice-known .given i)) (c .before .before .before .before .before .before .before .before .measure-book .ensures))

@@ -1,0 +1,4 @@
+mod Level
+mod Past
+mod Telling
+pub mod Still

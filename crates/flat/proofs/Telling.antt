@@ -1,0 +1,34 @@
+-- The bodies of formats, one after the other; and the copy.
+-- Assumes nothing.
+use mathlib.Core.Path.{_≡_, refl, sym, _∙_}
+use mathlib.Core.List.{List, _++_}
+use mathlib.Core.Bool.{Bool, true, false}
+use Prim.Native.Nat.{ℕ, _+_, _≤_}
+use native.Mathlib.Omega.{arith}
+use lib.ListN.{length, take, drop}
+use borrow.Author.Tests.{le-leb}
+use Rattle.definition.specs.Write.{wDefinition, wCombinator}
+use Rattle.seek.specs.At.{namePast}
+use Rattle.seek.proofs.Here.{name-here}
+use Rattle.contents.specs.Params.{ParamsPast}
+use Rattle.bodies.specs.Tested.{FormatTested, BodiesTested}
+use Rattle.writer.specs.Buf.{put, Wrote}
+use Rattle.writer.proofs.Put.{put-fits}
+use Rattle.flat.specs.Flat.{flat}
+use Rattle.flat.specs.Past.{flatAt}
+use Rattle.flat.specs.Told.{Told, Copied}
+use Rattle.flat.proofs.Past.{flat-here}
+
+pub format-told : {s : List ℕ} {at params body : ℕ} → params ≡ namePast s at → ParamsPast s params body → {r : Bool} → r ≡ flatAt s body → FormatTested s at flat 8192 r
+unfolding wDefinition
+format-told {s} {body = body} e p f = record {
+  says = λ l k m ps c z h dp dc. f ∙ flat-here s (omega arith) c dc body z (p .says l ps (wCombinator c z) (rw e (name-here m h)) dp);
+}
+
+pub book-told : {s : List ℕ} {r : Bool} → BodiesTested s flat 8192 r → Told s r
+book-told v = record { says = λ ds e b. v .says ds e b refl }
+
+pub copied : {s out out′ : List ℕ} {n : ℕ} → length s ≤ length out → Wrote out 0 s out′ n → Copied s out out′ true
+copied {s} {out} l w =
+    let z : 0 + length s ≡ length s = omega arith in
+    record { fits = sym (le-leb (length s) (length out) l); holds = w .holds ∙ (rw z at (put-fits out 0 s (omega arith))) }

@@ -1,0 +1,209 @@
+// A flat book, out of which nothing is lifted: it is told by one walk, by position over validated bytes, and copied.
+use contents::params_past;
+use ends::inner_end;
+use marks::text_or_length;
+use seek::byte;
+use seek::label_past;
+use seek::length_past;
+use seek::list_past;
+use seek::name_past;
+use seek::number;
+use seek::past;
+use seek::selector_past;
+use seek::text_past;
+use writer::put_bytes;
+ghost use mathlib.Core.Path.{_≡_};
+ghost use Rattle.bodies.specs.Tested.{FormatTested, DefinitionTested};
+ghost use Rattle.flat.specs.Flat.{flat};
+ghost use Rattle.flat.specs.Past.{calmPast, innerPast, wrapPast, tailPast, fieldPast, fieldsPast, choicePast, rootPast, flatAt};
+ghost use Rattle.flat.specs.Told.{Told, Copied};
+
+// Where a combinator ends, with so many levels left; 0 where a struct, choice, enum or bits stands in it.
+fn calm_past(s: &[u8], at: usize, levels: usize) -> usize
+    ensures { λ r. ⌜ r ≡ calmPast levels (now (s .entry)) at ⌝ }
+{
+    if levels == 0 {
+        return 0;
+    }
+    let e = inner_past(s, at, levels - 1);
+    tail_past(s, e, levels - 1)
+}
+
+// The same of an inner, with so many levels left below it.
+fn inner_past(s: &[u8], at: usize, levels: usize) -> usize
+    ensures { λ r. ⌜ r ≡ innerPast levels (now (s .entry)) at ⌝ }
+{
+    let tag = byte(s, at);
+    let a = past(s, at, 1);
+    match tag {
+        3 => 0,
+        4 => 0,
+        5 => wrap_past(s, a, levels),
+        6 => 0,
+        7 => 0,
+        8 => calm_past(s, a, levels),
+        9 => {
+            let b = length_past(s, a);
+            calm_past(s, b, levels)
+        }
+        12 => calm_past(s, a, levels),
+        15 => {
+            let b = name_past(s, a);
+            list_past(s, b)
+        }
+        16 => inner_end(s, at),
+        _ => text_or_length(s, a, tag),
+    }
+}
+
+fn wrap_past(s: &[u8], at: usize, levels: usize) -> usize
+    ensures { λ r. ⌜ r ≡ wrapPast levels (now (s .entry)) at ⌝ }
+{
+    let a = text_past(s, at);
+    let e = calm_past(s, a, levels);
+    if e == 0 {
+        return 0;
+    }
+    text_past(s, e)
+}
+
+// What stands behind an inner that ends at `end`: a flag, and a chain where it is 1.
+fn tail_past(s: &[u8], end: usize, levels: usize) -> usize
+    ensures { λ r. ⌜ r ≡ tailPast levels (now (s .entry)) end ⌝ }
+{
+    if end == 0 {
+        return 0;
+    }
+    let more = byte(s, end);
+    let a = past(s, end, 1);
+    if more == 1 {
+        return calm_past(s, a, levels);
+    }
+    a
+}
+
+// A field of a body's root.
+fn field_past(s: &[u8], at: usize) -> usize
+    ensures { λ r. ⌜ r ≡ fieldPast (now (s .entry)) at ⌝ }
+{
+    let kind = byte(s, at);
+    let a = past(s, at, 1);
+    let b = name_past(s, a);
+    if kind == 3 {
+        return text_past(s, b);
+    }
+    calm_past(s, b, 63)
+}
+
+// A count, and as many fields.
+fn fields_past(s: &[u8], at: usize) -> usize
+    ensures { λ r. ⌜ r ≡ fieldsPast (now (s .entry)) at ⌝ }
+{
+    let mut left = number(s, at);
+    let mut here = past(s, at, 2);
+    while 0 < left {
+        here = field_past(s, here);
+        if here == 0 {
+            return 0;
+        }
+        left -= 1;
+    }
+    here
+}
+
+// A selector, the cases' kind, a count, and as many cases.
+fn choice_past(s: &[u8], at: usize) -> usize
+    ensures { λ r. ⌜ r ≡ choicePast (now (s .entry)) at ⌝ }
+{
+    let a = selector_past(s, at);
+    let kind = byte(s, a);
+    let b = past(s, a, 1);
+    let mut left = number(s, b);
+    let mut here = past(s, b, 2);
+    while 0 < left {
+        let c = label_past(s, here, kind);
+        here = calm_past(s, c, 63);
+        if here == 0 {
+            return 0;
+        }
+        left -= 1;
+    }
+    here
+}
+
+// The inner at a body's root: it may be a struct, choice, enum or bits itself.
+fn root_past(s: &[u8], at: usize) -> usize
+    ensures { λ r. ⌜ r ≡ rootPast (now (s .entry)) at ⌝ }
+{
+    let tag = byte(s, at);
+    let a = past(s, at, 1);
+    match tag {
+        3 => text_past(s, a),
+        4 => fields_past(s, a),
+        6 => text_past(s, a),
+        7 => choice_past(s, a),
+        _ => inner_past(s, at, 63),
+    }
+}
+
+// Whether the body at a place is flat.
+fn body_flat(s: &[u8], at: usize) -> bool
+    ensures { λ r. ⌜ r ≡ flatAt (now (s .entry)) at ⌝ }
+{
+    let e = root_past(s, at);
+    let end = tail_past(s, e, 63);
+    0 < end
+}
+
+// The format at a place: its body, behind its name and its parameters.
+fn format_flat(s: &[u8], at: usize) -> bool
+    ensures { λ r. ⌜ FormatTested (now (s .entry)) at flat 8192 r ⌝ }
+{
+    let mut none = [0u16; 1];
+    let params = name_past(s, at);
+    let body = params_past(s, params, &mut none);
+    body_flat(s, body)
+}
+
+// The definition at a place: only formats have a body.
+fn definition_flat(s: &[u8], kind: u8, at: usize) -> bool
+    ensures { λ r. ⌜ DefinitionTested (now (s .entry)) kind at flat 8192 r ⌝ }
+{
+    if kind == 1 {
+        return format_flat(s, at);
+    }
+    true
+}
+
+// Whether in a book no struct, choice, enum or bits stands below the root of a body, macro arguments aside.
+pub fn is_flat(s: &[u8]) -> bool
+    ensures { λ r. ⌜ Told (now (s .entry)) r ⌝ }
+{
+    let mut left = number(s, 0) as usize;
+    let mut entry = past(s, 0, 2);
+    let mut at = past(s, 2, 6 * left);
+    while 0 < left {
+        let kind = byte(s, entry);
+        let sized = past(s, entry, 4);
+        let size = number(s, sized) as usize;
+        let here = at;
+        at = past(s, at, size);
+        entry = past(s, entry, 6);
+        left -= 1;
+        if !definition_flat(s, kind, here) {
+            return false;
+        }
+    }
+    true
+}
+
+// Whether the output is long enough for the book. If so, its first bytes are the book's and the rest is as before; else all is as before.
+pub fn copy_book(s: &[u8], out: &mut [u8]) -> bool
+    ensures { λ r. ⌜ Copied (now (s .entry)) (now (out .entry)) (now (out .exit)) r ⌝ }
+{
+    if out.len() < s.len() {
+        return false;
+    }
+    put_bytes(s, out, 0);
+    true
+}

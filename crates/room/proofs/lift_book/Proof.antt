@@ -1,0 +1,21 @@
+-- `room::lift_book` meets its contract.
+-- Assumes nothing.
+use borrow.Author.Needs.{needs}
+use Rattle.room.proofs.Copying.{told-flat}
+use Rattle.room.proofs.lift_book.Statement.{statement}
+use Rattle.room.proofs.lift_book.Tie as tie
+
+lift-nothing-requires : tie.Need-lift-nothing-requires
+lift-nothing-requires c κs = (c .before .before .before .before .before .pre, told-flat (c .before .before .is-flat .ensures) (c .before .if1 .taken))
+
+pub lift-book-spec : {M : Type 1} → statement M
+lift-book-spec =
+    tie.close
+    (tie.spec
+    (λ c κs. search needs)
+    lift-nothing-requires
+    (λ c. search needs)
+    (λ c. c .before .before .lift-nothing .ensures)
+    (λ c κs. c .before .before .before .before .before .pre)
+    (λ c. search needs)
+    (λ c. c .before .before .lift-by-length .ensures))

@@ -1,0 +1,154 @@
+// Codes 7 to 11, in tables that are as long as the book asks. A flat book needs none.
+use closing::Elaborated;
+use closing::lift_with;
+use flat::copy_book;
+use flat::is_flat;
+use measured::measure_book;
+use seek::number;
+ghost use mathlib.Core.Bool.{true};
+ghost use Prim.Native.Nat.{_≤_};
+ghost use lib.ListN.{length};
+ghost use Rattle.flat.specs.Told.{Told};
+ghost use Rattle.closing.specs.Elaborates.{Expanded, Lifts};
+
+// The tables of a book of at most 512 bytes: for every byte an end, a number and a use; for every four bytes four numbers of a binder and two of a
+// label, with 512 more for the labels' hashes.
+fn lift_small(s: &[u8], out: &mut [u8]) -> Elaborated
+    requires { ⌜ Expanded (now s) × (length (now s) ≤ 512) ⌝ }
+    ensures { λ r. ⌜ Lifts (now (s .entry)) (now (out .entry)) (now (out .exit)) r ⌝ }
+{
+    let mut ends = [0u16; 512];
+    let mut number = [0u16; 512];
+    let mut binders = [0u16; 512];
+    let mut bound = [0u32; 768];
+    let mut uses = [0u32; 512];
+    let mut spare = [0u32; 512];
+    measure_book(s, &mut ends);
+    lift_with(
+        s,
+        &ends,
+        &mut number,
+        &mut binders,
+        &mut bound,
+        &mut uses,
+        &mut spare,
+        out,
+    )
+}
+
+// Those of a book of at most 2,048 bytes.
+fn lift_short(s: &[u8], out: &mut [u8]) -> Elaborated
+    requires { ⌜ Expanded (now s) × (length (now s) ≤ 2048) ⌝ }
+    ensures { λ r. ⌜ Lifts (now (s .entry)) (now (out .entry)) (now (out .exit)) r ⌝ }
+{
+    let mut ends = [0u16; 2048];
+    let mut number = [0u16; 2048];
+    let mut binders = [0u16; 2048];
+    let mut bound = [0u32; 1536];
+    let mut uses = [0u32; 2048];
+    let mut spare = [0u32; 2048];
+    measure_book(s, &mut ends);
+    lift_with(
+        s,
+        &ends,
+        &mut number,
+        &mut binders,
+        &mut bound,
+        &mut uses,
+        &mut spare,
+        out,
+    )
+}
+
+// Those of a book of at most 4,096 bytes.
+fn lift_middle(s: &[u8], out: &mut [u8]) -> Elaborated
+    requires { ⌜ Expanded (now s) × (length (now s) ≤ 4096) ⌝ }
+    ensures { λ r. ⌜ Lifts (now (s .entry)) (now (out .entry)) (now (out .exit)) r ⌝ }
+{
+    let mut ends = [0u16; 4096];
+    let mut number = [0u16; 4096];
+    let mut binders = [0u16; 4096];
+    let mut bound = [0u32; 2560];
+    let mut uses = [0u32; 4096];
+    let mut spare = [0u32; 4096];
+    measure_book(s, &mut ends);
+    lift_with(
+        s,
+        &ends,
+        &mut number,
+        &mut binders,
+        &mut bound,
+        &mut uses,
+        &mut spare,
+        out,
+    )
+}
+
+// Those of any other book.
+fn lift_long(s: &[u8], out: &mut [u8]) -> Elaborated
+    requires { ⌜ Expanded (now s) ⌝ }
+    ensures { λ r. ⌜ Lifts (now (s .entry)) (now (out .entry)) (now (out .exit)) r ⌝ }
+{
+    let mut ends = [0u16; 16384];
+    let mut number = [0u16; 16384];
+    let mut binders = [0u16; 16384];
+    let mut bound = [0u32; 8704];
+    let mut uses = [0u32; 16384];
+    let mut spare = [0u32; 16384];
+    measure_book(s, &mut ends);
+    lift_with(
+        s,
+        &ends,
+        &mut number,
+        &mut binders,
+        &mut bound,
+        &mut uses,
+        &mut spare,
+        out,
+    )
+}
+
+// A book of any length.
+fn lift_by_length(s: &[u8], out: &mut [u8]) -> Elaborated
+    requires { ⌜ Expanded (now s) ⌝ }
+    ensures { λ r. ⌜ Lifts (now (s .entry)) (now (out .entry)) (now (out .exit)) r ⌝ }
+{
+    if s.len() <= 512 {
+        return lift_small(s, out);
+    }
+    if s.len() <= 2048 {
+        return lift_short(s, out);
+    }
+    if s.len() <= 4096 {
+        return lift_middle(s, out);
+    }
+    lift_long(s, out)
+}
+
+// Out of a flat book nothing is lifted: it is its own result.
+fn lift_nothing(s: &[u8], out: &mut [u8]) -> Elaborated
+    requires { ⌜ Expanded (now s) × Told (now s) true ⌝ }
+    ensures { λ r. ⌜ Lifts (now (s .entry)) (now (out .entry)) (now (out .exit)) r ⌝ }
+{
+    if !copy_book(s, out) {
+        return Elaborated::Refused { code: 11 };
+    }
+    let length = s.len() as u16;
+    let definitions = number(s, 0);
+    Elaborated::Done {
+        length,
+        definitions,
+        lifted: 0,
+    }
+}
+
+// Codes 7 to 11.
+pub fn lift_book(s: &[u8], out: &mut [u8]) -> Elaborated
+    requires { ⌜ Expanded (now s) ⌝ }
+    ensures { λ r. ⌜ Lifts (now (s .entry)) (now (out .entry)) (now (out .exit)) r ⌝ }
+{
+    if is_flat(s) {
+        return lift_nothing(s, out);
+    }
+    lift_by_length(s, out)
+}
