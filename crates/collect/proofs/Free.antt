@@ -20,7 +20,7 @@ use Rattle.collect.specs.declared.Collected.the-variants.{Uses, Leftover
 use Rattle.labels.specs.Labels.{labelsIn}
 use Rattle.labels.proofs.Found.{finds-none}
 use Rattle.uses.specs.Uses.{namesIn}
-use Rattle.uses.specs.Steps.{walk}
+use Rattle.scope.specs.Steps.{walk}
 use Rattle.collect.specs.Walk.{collectAt, answerOf}
 use Rattle.uses.proofs.Without.{without-none}
 use Rattle.collect.proofs.Gathered.{Gathered}

@@ -18,7 +18,7 @@ use Rattle.lookup.specs.Name.{nameAt}
 use Rattle.labels.specs.Labels.{labelsIn, unbindAt}
 use Rattle.labels.proofs.Found.{Same, Finds, same-then, labels-same, finds-same, labelled, labelled-long, labels-bind, release-back, unbind-once, unbind-none, unbind-long}
 use Rattle.uses.specs.Uses.{namesIn}
-use Rattle.uses.specs.Steps.{walk, moved}
+use Rattle.scope.specs.Steps.{walk, moved}
 use Rattle.collect.specs.Walk.{State}
 use Rattle.uses.proofs.Without.{without, without-append, without-bind, names-append}
 

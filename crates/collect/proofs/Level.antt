@@ -6,7 +6,7 @@ use Prim.Native.Nat.{ℕ, zero, suc, _-_, _≤_, _<_}
 use lib.Dec.{eqb, eqb·suc-zero}
 use native.Mathlib.Numerals.{sub-one}
 use native.Mathlib.Omega.{arith}
-use Rattle.uses.specs.declared.Walk.{Walk}
+use Rattle.scope.specs.declared.Walk.{Walk}
 use Rattle.collect.specs.Walk.{Step, times, combinatorBy, argumentBy, combinatorAt, argumentAt}
 
 pub combinator-level : (k : ℕ) (s : List ℕ) (w : Walk) (b u : List ℕ) → combinatorAt k s w b u ≡ combinatorBy (eqb k 0) (combinatorAt (k - 1) s) (argumentAt (k - 1) s) s w b u

@@ -19,13 +19,14 @@ use Rattle.seek.specs.At.{byteAt, pastAt, namePast, textPast, labelPast}
 use Rattle.seek.specs.Here.{Here}
 use Rattle.seek.proofs.Here.{here-length, byte-here, next-here, number-here, number-past, name-here, text-here, label-here}
 use Rattle.seek.proofs.Stands.{stands}
-use Rattle.uses.specs.declared.Walk.{Walk}
+use Rattle.scope.specs.declared.Walk.{Walk}
 use Rattle.lookup.specs.Name.{nameAt}
 use Rattle.lookup.proofs.Names.{stands as label-stands}
 use Rattle.labels.specs.Labels.{labelsIn}
 use Rattle.labels.proofs.Found.{Same, labelled, labelled-long, bind-is, finds-bind}
-use Rattle.uses.specs.Uses.{nameIn, namesIn, useAt, isBound}
-use Rattle.uses.specs.Steps.{walk, moved, counted, timesUse, nameBy, namesBy, lengthBy, callBy, selectorBy, bindBy}
+use Rattle.uses.specs.Uses.{nameIn, namesIn, useAt}
+use Rattle.scope.specs.Steps.{walk, moved, counted, bindBy}
+use Rattle.roots.specs.Recorded.{isBound, timesUse, nameBy, namesBy, lengthBy, callBy, selectorBy}
 use Rattle.collect.specs.Walk.{State, Step, times, many, fieldBy, fieldsBy, wrapBy, caseBy, choiceBy, arrayBy, macroBy, innerBy, chainBy, tailBy, combinatorBy, argumentBy, combinatorAt, argumentAt}
 use Rattle.uses.proofs.Without.{cutBy, use-here, without-here, without-new}
 use Rattle.collect.proofs.Room.{name-long, combinator-long}

@@ -8,8 +8,9 @@ use lib.Dec.{eqb}
 use lib.ListN.{length}
 use Rattle.seek.specs.At.{byteAt, pastAt, numberAt, namePast, textPast, labelPast, standsOn, pick}
 use Rattle.labels.specs.Labels.{unbindAt}
-use Rattle.uses.specs.declared.Walk.{Walk}
-use Rattle.uses.specs.Steps.{walk, moved, counted, unbound, lengthBy, callBy, selectorBy, bindBy}
+use Rattle.scope.specs.declared.Walk.{Walk}
+use Rattle.scope.specs.Steps.{walk, moved, counted, unbound, bindBy}
+use Rattle.roots.specs.Recorded.{lengthBy, callBy, selectorBy}
 use Rattle.collect.specs.declared.Collected.{Collected}
 use Rattle.collect.specs.declared.Collected.the-variants.{Uses, Leftover}
 

@@ -1,5 +1,13 @@
 // The names that are free in a combinator, by position over validated bytes.
 use labels::unbind;
+use roots::call;
+use roots::roots;
+use roots::selector;
+use scope::Walk;
+use scope::bind;
+use scope::counted;
+use scope::moved;
+use scope::unbound;
 use seek::byte;
 use seek::label_past;
 use seek::name_past;
@@ -7,14 +15,6 @@ use seek::number;
 use seek::past;
 use seek::stands_on;
 use seek::text_past;
-use uses::Walk;
-use uses::bind;
-use uses::call;
-use uses::counted;
-use uses::moved;
-use uses::roots;
-use uses::selector;
-use uses::unbound;
 ghost use mathlib.Core.Path.{_≡_};
 ghost use Rattle.collect.specs.Walk.{combinatorAt, argumentAt, innerAt, chainAt, fieldAt, fieldsAt, wrapAt, caseAt, casesAt, choiceAt, arrayAt, argumentsAt, macroAt, collectAt, answerOf};
 

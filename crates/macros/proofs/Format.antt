@@ -1,9 +1,9 @@
--- How many definitions are kept, and a format: its bytes up to its body, and its body expanded.
+-- A format: its bytes up to its body, and its body expanded.
 -- Assumes nothing.
 use mathlib.Core.Path.{_≡_, refl, ap, _∙_}
-use mathlib.Core.List.{List, [], _∷_, _++_, map, append-assoc}
+use mathlib.Core.List.{List, [], _∷_, _++_, append-assoc}
 use mathlib.Core.Bool.{Bool, true, false}
-use Prim.Native.Nat.{ℕ, suc, _+_, _-_, _*_, _/_, _%_, _≤_, _<_, min}
+use Prim.Native.Nat.{ℕ, suc, _+_, _-_, _≤_, _<_, min}
 use native.Mathlib.Omega.{arith}
 use lib.Dec.{leb}
 use lib.ListN.{length, drop, take}
@@ -11,14 +11,14 @@ use lib.Seq.{drop-at, length-take-le}
 use borrow.Author.Tests.{le-leb, lt-leb}
 use Rattle.definition.specs.Code.{macro-growth}
 use Rattle.definition.specs.Out.{Out, refused, done, _>>=_, given}
-use Rattle.definition.specs.Tree.{Name, Combinator, Param, Definition, format, constant, byte-order, macro}
-use Rattle.definition.specs.Write.{wU16, wName, wParam, wList, wCombinator, wDefinition, kindOf, kindByte, sizeOf, wEntries, entryOf}
+use Rattle.definition.specs.Tree.{Name, Combinator, Param, format}
+use Rattle.definition.specs.Write.{wName, wParam, wList, wCombinator, wDefinition}
 use Rattle.definition.specs.Size.{size, levels, levelsP}
 use Rattle.definition.specs.Macros.{Macro, expand}
 use Rattle.laws.proofs.Splits.{s-list, s-param, s-name}
-use Rattle.seek.specs.At.{byteAt, pastAt, numberAt, namePast}
+use Rattle.seek.specs.At.{namePast}
 use Rattle.seek.specs.Here.{Here}
-use Rattle.seek.proofs.Here.{place, past-here, byte-here, name-here}
+use Rattle.seek.proofs.Here.{place, name-here}
 use Rattle.writer.specs.Buf.{part, Wrote}
 use Rattle.writer.proofs.Put.{part-none, put-fits, take-written}
 use Rattle.writer.proofs.Wrote.{fitted, place-is, same-length, glue}
@@ -36,62 +36,12 @@ use Rattle.known.specs.Table.{Rows}
 use Rattle.contents.specs.Params.{ParamsPast}
 use Rattle.substitution.specs.Call.{Puts}
 use Rattle.expansion.specs.Expand.{front, Expanding}
-use Rattle.macros.specs.Left.{Counting, KeptOf, keptOf, shallow, expandOne, Whole, Formatted}
+use Rattle.macros.specs.Left.{shallow, expandOne, Whole, Formatted}
 use Rattle.pieces.proofs.Spliced.{part-here}
 use Rattle.pieces.proofs.Room.{room-enough}
 use Rattle.expansion.proofs.Depth.{expand-deep, pieces-deep}
 use Rattle.substitution.proofs.Turns.{size-here}
 use Rattle.expansion.proofs.Next.{front-none}
-use Rattle.contents.proofs.Listed.{book-listed}
-
--- counting
-module _ {book : List ℕ} {entry : ℕ} (at : ℕ) (z : List ℕ) (d : Definition) (ds : List Definition) (h : Here book entry (wEntries at (map entryOf (d ∷ ds)) z)) where
-  entry-kind : byteAt book entry ≡ kindByte (kindOf d)
-  unfolding wEntries entryOf
-  entry-kind = byte-here h
-
-  entry-next : Here book (pastAt book entry 6) (wEntries (at + sizeOf d) (map entryOf ds) z)
-  unfolding wEntries entryOf wU16
-  entry-next = past-here (kindByte (kindOf d) ∷ 0 ∷ at % 256 ∷ at / 256 ∷ sizeOf d % 256 ∷ sizeOf d / 256 ∷ []) h
-
-module _ {book : List ℕ} {entry left n : ℕ} where
-  pub counting-none : left ≤ 0 → Counting book entry left n n
-  unfolding keptOf
-  counting-none k = record { says = λ ds at z h e. none ds e }
-    where
-      none : (ds : List Definition) → left ≡ length ds → n ≡ n + keptOf ds
-      none [] e = omega arith
-      none (d ∷ ds) e = absurd (omega arith)
-
-  module _ (k : 0 < left) {kind entry₁ r : ℕ} (hk : kind ≡ byteAt book entry) (he : entry₁ ≡ pastAt book entry 6) where
-    pub counting-kept : (kind ≡ 4 → ⊥) → Counting book entry₁ (left - 1) (n + 1) r → Counting book entry left n r
-    unfolding keptOf kindByte kindOf
-    counting-kept f c = record { says = λ ds at z h e. step ds at z h e }
-      where
-        step : (ds : List Definition) (at : ℕ) (z : List ℕ) → Here book entry (wEntries at (map entryOf ds) z) → left ≡ length ds → r ≡ n + keptOf ds
-        step [] at z h e = absurd (omega arith)
-        step (format m ps c₁ ∷ ds) at z h e = omega (arith, c .says ds (at + sizeOf (format m ps c₁)) z (rw he (entry-next at z (format m ps c₁) ds h)) (omega arith))
-        step (constant m x ∷ ds) at z h e = omega (arith, c .says ds (at + sizeOf (constant m x)) z (rw he (entry-next at z (constant m x) ds h)) (omega arith))
-        step (byte-order x ∷ ds) at z h e = omega (arith, c .says ds (at + sizeOf (byte-order x)) z (rw he (entry-next at z (byte-order x) ds h)) (omega arith))
-        step (macro m ps c₁ ∷ ds) at z h e = absurd (f (hk ∙ entry-kind at z (macro m ps c₁) ds h))
-
-    pub counting-macro : kind ≡ 4 → Counting book entry₁ (left - 1) n r → Counting book entry left n r
-    unfolding keptOf kindByte kindOf
-    counting-macro f c = record { says = λ ds at z h e. step ds at z h e }
-      where
-        step : (ds : List Definition) (at : ℕ) (z : List ℕ) → Here book entry (wEntries at (map entryOf ds) z) → left ≡ length ds → r ≡ n + keptOf ds
-        step [] at z h e = absurd (omega arith)
-        step (format m ps c₁ ∷ ds) at z h e = absurd (omega (arith, entry-kind at z (format m ps c₁) ds h))
-        step (constant m x ∷ ds) at z h e = absurd (omega (arith, entry-kind at z (constant m x) ds h))
-        step (byte-order x ∷ ds) at z h e = absurd (omega (arith, entry-kind at z (byte-order x) ds h))
-        step (macro m ps c₁ ∷ ds) at z h e = c .says ds (at + sizeOf (macro m ps c₁)) z (rw he (entry-next at z (macro m ps c₁) ds h)) (omega arith)
-
-pub counted : {book : List ℕ} {entry left r : ℕ} → left ≡ numberAt book 0 → entry ≡ pastAt book 0 2 → Counting book entry left 0 r → KeptOf book r
-counted {book} el ee c = record {
-  says = λ ds e b.
-      let w = book-listed book ds e b in
-      c .says ds (pastAt book 2 (6 * length ds)) (w .1 .behind) (rw ee (w .1 .entries)) (el ∙ w .0) ∙ (let z : 0 + keptOf ds ≡ keptOf ds = omega arith in z);
-}
 
 -- the table tells how deep the macros are
 rows-deep : (s pl hs : List ℕ) (n : ℕ) (ms : List Macro) → Rows s pl hs n ms → DeepM ms

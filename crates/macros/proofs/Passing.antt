@@ -24,11 +24,13 @@ use Rattle.writer.proofs.Put.{put-put, put-fits}
 use Rattle.writer.proofs.Wrote.{same-length}
 use Rattle.macros.specs.declared.Expanded.the-variants.{Book, Grown}
 use Rattle.known.specs.Table.{Tabled}
-use Rattle.macros.specs.Left.{keptOf, shallow, expandOne, andOne, shallowAll, KeptOf, WritesBy, Writes, Booked}
+use Rattle.macros.specs.Left.{shallow, expandOne, andOne, shallowAll, WritesBy, Writes, Booked}
 use Rattle.macros.specs.Pass.{pass, answerOf, leaves, Passed}
 use Rattle.contents.proofs.Listed.{entries-apart, entries-size}
 use Rattle.macros.proofs.Leftover.{kept-count}
-use Rattle.macros.proofs.Plain.{kept-few, size-length}
+use Rattle.macros.proofs.Plain.{size-length}
+use Rattle.kept.specs.Kept.{keptOf, KeptOf}
+use Rattle.kept.proofs.Counting.{kept-few}
 
 abbrev tested : List Definition → Out (List Definition)
 tested es = given (leb (levelsBook es) 64) macro-growth es

@@ -3,9 +3,9 @@
 use mathlib.Core.Path.{_≡_, refl, sym, ap, _∙_}
 use mathlib.Core.List.{List, [], _∷_, _++_}
 use mathlib.Core.Bool.{Bool, true}
-use Prim.Native.Nat.{ℕ, _+_, _≤_}
+use Prim.Native.Nat.{ℕ, _+_}
 use native.Mathlib.Omega.{arith}
-use lib.Dec.{leb, eqb}
+use lib.Dec.{leb}
 use lib.ListN.{length, drop}
 use borrow.Author.Tests.{le-leb}
 use Rattle.definition.specs.Out.{done}
@@ -17,26 +17,14 @@ use Rattle.laws.specs.Book.{IsBook}
 use Rattle.laws.proofs.NoneKnown.{none-known}
 use Rattle.writer.specs.Buf.{put, Wrote}
 use Rattle.writer.proofs.Put.{put-fits}
-use Rattle.seek.specs.At.{numberAt}
-use Rattle.contents.proofs.Listed.{book-listed}
+use Rattle.kept.specs.Kept.{keptOf, Macroless}
+use Rattle.kept.proofs.Counting.{kept-few, all-kept}
 use Rattle.macros.specs.declared.Expanded.the-variants.{Book}
-use Rattle.macros.specs.Left.{keptOf, KeptOf, Macroless}
 use Rattle.macros.specs.Pass.{pass, answerOf, leaves, Passed}
 
 pub size-length : (es : List Definition) → sizeBook es ≡ length (wBook es)
 unfolding sizeBook
 size-length es = refl
-
-pub kept-few : (ds : List Definition) → keptOf ds ≤ length ds
-unfolding keptOf
-kept-few [] = omega arith
-kept-few (format m ps c ∷ ds) = omega (arith, kept-few ds)
-kept-few (constant m x ∷ ds) = omega (arith, kept-few ds)
-kept-few (byte-order x ∷ ds) = omega (arith, kept-few ds)
-kept-few (macro m ps c ∷ ds) = omega (arith, kept-few ds)
-
-pub all-kept : {book : List ℕ} {n all : ℕ} {r : Bool} → all ≡ numberAt book 0 → KeptOf book n → (r ≡ true → n ≡ all) → Macroless book r
-all-kept {book} e k t = record { says = λ h ds w i. sym (k .says ds w i) ∙ t h ∙ e ∙ book-listed book ds w i .0 }
 
 no-macros : (ds : List Definition) (ms : List Macro) → keptOf ds ≡ length ds → macros ds ms ≡ ms
 unfolding keptOf macros
@@ -63,7 +51,7 @@ pass-plain ms ds h k i =
 
 module _ {lib book areas out out′ : List ℕ} {a b : Bool} {q : ℕ} (p : Macroless lib a) (t : a ≡ true) (r : Macroless book b) (u : b ≡ true) (w : Wrote out 0 book out′ q) where
   pub passed-plain : Passed lib book areas out out′ (Book (length book))
-  passed-plain = record { says = λ ms ds el im eb id al ol. copied ms ds (p .says t ms el im) eb id (r .says u ds eb id) ol }
+  passed-plain = record { says = λ ms ds el im eb id al ol. copied ms ds (all-kept p t ms el im) eb id (all-kept r u ds eb id) ol }
     where
       copied : (ms ds : List Definition) → keptOf ms ≡ length ms → book ≡ wBook ds → IsBook ds → keptOf ds ≡ length ds → length out ≡ 16384 → (Book (length book) ≡ answerOf (pass ms ds)) × leaves (pass ms ds) out out′
       copied ms ds h eb id k ol =

@@ -2,7 +2,7 @@
 use mathlib.Core.Path.{_≡_}
 use mathlib.Core.List.{List, [], _∷_, map}
 use mathlib.Core.Bool.{Bool, true, false}
-use Prim.Native.Nat.{ℕ, suc, _+_, _*_, _≤_, _<_}
+use Prim.Native.Nat.{ℕ, _+_, _*_, _≤_, _<_}
 use lib.Dec.{leb}
 use lib.ListN.{length}
 use Rattle.definition.specs.Code.{macro-growth}
@@ -18,6 +18,7 @@ use Rattle.contents.specs.Listed.{Listed}
 use Rattle.substitution.specs.Instance.{Areas}
 use Rattle.substitution.specs.Call.{Puts}
 use Rattle.known.specs.Table.{Rows}
+use Rattle.kept.specs.Kept.{keptOf}
 
 -- rule 5: "or the book left when expansion is done .. is over either": the levels, body by body
 unfoldable pub shallow : Combinator → Out Combinator
@@ -38,24 +39,6 @@ shallowAll (format n ps c ∷ ds) ms = andOne (expandOne (format n ps c) ms) (sh
 shallowAll (constant n x ∷ ds) ms = andOne (expandOne (constant n x) ms) (shallowAll ds ms)
 shallowAll (byte-order x ∷ ds) ms = andOne (expandOne (byte-order x) ms) (shallowAll ds ms)
 shallowAll (macro n ps c ∷ ds) ms = shallowAll ds ms
-
--- rule 1: "All kind 4 definitions are then removed": how many are left
-unfoldable pub keptOf : List Definition → ℕ
-keptOf [] = 0
-keptOf (format n ps c ∷ ds) = suc (keptOf ds)
-keptOf (constant n x ∷ ds) = suc (keptOf ds)
-keptOf (byte-order x ∷ ds) = suc (keptOf ds)
-keptOf (macro n ps c ∷ ds) = keptOf ds
-
-pub record Counting (book : List ℕ) (entry left n r : ℕ) : Type 0 where
-  pub says : (ds : List Definition) (at : ℕ) (z : List ℕ) → Here book entry (wEntries at (map entryOf ds) z) → left ≡ length ds → r ≡ n + keptOf ds
-
-pub record KeptOf (book : List ℕ) (r : ℕ) : Type 0 where
-  pub says : (ds : List Definition) → book ≡ wBook ds → IsBook ds → r ≡ keptOf ds
-
--- a book whose definitions are all kept has no macros
-pub record Macroless (book : List ℕ) (r : Bool) : Type 0 where
-  pub says : r ≡ true → (ds : List Definition) → book ≡ wBook ds → IsBook ds → keptOf ds ≡ length ds
 
 -- what an expansion of the whole book needs
 pub record Whole (macros pl hs : List ℕ) (rows : ℕ) (book areas marks row out : List ℕ) (ms : List Macro) : Type 0 where

@@ -10,7 +10,7 @@ use seek::number;
 use seek::past;
 use substitution::walk_over;
 use writer::put_part;
-ghost use Rattle.macros.specs.Left.{KeptOf, Formatted, Kept, Booked};
+ghost use Rattle.macros.specs.Left.{Formatted, Kept, Booked};
 
 // A format: its name and its parameters are copied, and its body is expanded. Over 64 levels it is refused.
 fn expand_format(
@@ -94,24 +94,6 @@ fn expand_definition(
     }
     let end = past(book, at, size);
     put_part(book, at, end, out, o)
-}
-
-// How many definitions are no macros.
-pub fn count_kept(book: &[u8]) -> usize
-    ensures { λ r. ⌜ KeptOf (now (book .entry)) r ⌝ }
-{
-    let mut left = number(book, 0) as usize;
-    let mut entry = past(book, 0, 2);
-    let mut n: usize = 0;
-    while 0 < left {
-        let kind = byte(book, entry);
-        entry = past(book, entry, 6);
-        left -= 1;
-        if kind != 4 {
-            n += 1;
-        }
-    }
-    n
 }
 
 // The definitions that are listed from `entry` on, of which the bodies stand from `at` on: entries go to out from `e` on, bodies from `o` on.

@@ -1,26 +1,18 @@
 // Macro expansion on validated bytes: document 01's "Macro rules".
 mod book;
 
+use kept::count_kept;
+use kept::has_no_macros;
 use known::table;
-use seek::number;
 use writer::least;
 use writer::put_bytes;
 use writer::put_u16;
-ghost use Rattle.macros.specs.Left.{Macroless};
 ghost use Rattle.macros.specs.Pass.{Passed};
 
 // The length of the expanded book, or growth past a limit: code 6.
 pub enum Expanded {
     Book { len: usize },
     Grown,
-}
-
-// Whether no definition of a book is a macro.
-pub fn has_no_macros(book: &[u8]) -> bool
-    ensures { λ r. ⌜ Macroless (now (book .entry)) r ⌝ }
-{
-    let all = number(book, 0) as usize;
-    book::count_kept(book) == all
 }
 
 // A pass with the macros of the other book in a table, and the calls of each body marked.
@@ -32,7 +24,7 @@ fn expand_marked(macros: &[u8], book: &[u8], areas: &mut [u8], out: &mut [u8]) -
     let mut marks = [0u16; 8192];
     let mut row = [0u16; 8192];
     let rows = table(macros, &mut places, &mut hashes);
-    let n = least(book::count_kept(book), 512);
+    let n = least(count_kept(book), 512);
     put_u16(n as u16, out, 0);
     let bodies = 2 + 6 * n;
     let end = book::expand_all(

@@ -25,9 +25,10 @@ use Rattle.cursor.specs.declared.Fault.{Fault}
 use Rattle.reader.specs.declared.Verdict.{Verdict}
 use Rattle.reader.specs.declared.Verdict.the-variants.{Sound, Refused as Judged}
 use Rattle.reader.specs.Verdict.{verdict}
+use Rattle.kept.specs.Kept.{Macroless}
+use Rattle.kept.proofs.Counting.{all-kept}
 use Rattle.macros.specs.declared.Expanded.{Expanded}
 use Rattle.macros.specs.declared.Expanded.the-variants.{Book as Whole, Grown}
-use Rattle.macros.specs.Left.{Macroless}
 use Rattle.macros.specs.Pass.{pass, answerOf, leaves, Passed}
 use Rattle.macros.proofs.Plain.{pass-plain}
 use Rattle.opening.specs.declared.Begun.the-variants as begun
@@ -94,7 +95,7 @@ module _ (b : List ℕ) (n : ℕ) where
       pub begins-plain : {r : Bool} → Passes b n → Macroless b r → r ≡ true → Begins b n begun.Plain
       begins-plain p m t =
           let ds = p .source in
-          let k = m .says t ds (p .written) (p .isBook) in (
+          let k = all-kept m t ds (p .written) (p .isBook) in (
             p,
             record {
               left = ds;

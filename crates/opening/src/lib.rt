@@ -1,8 +1,8 @@
 // The steps that all entry points share: codes 1 to 6, and the expanded book.
 use book::read;
+use kept::has_no_macros;
 use macros::Expanded;
 use macros::expand_macros;
-use macros::has_no_macros;
 use reader::Verdict;
 ghost use lib.ListN.{length};
 ghost use Rattle.opening.specs.Opens.{Sound, Begins, Opens};

@@ -1,3 +1,2 @@
 mod Uses
-mod Level
 pub mod Without

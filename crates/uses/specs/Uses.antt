@@ -7,7 +7,6 @@ use lib.ListN.{length, take, drop}
 use Rattle.definition.specs.Tree.{Name}
 use Rattle.definition.specs.Names.{root}
 use Rattle.lookup.specs.Name.{nameAt}
-use Rattle.labels.specs.Labels.{isLabel}
 use Rattle.seek.specs.At.{pastAt, pick}
 
 -- a place below 2 ^ 24 and a length below 256, in 32 bits
@@ -24,7 +23,3 @@ namesIn s l = map (nameIn s) l
 -- the use of the name whose length byte stands at a place: of all of it, or of "the part before the first '.'"
 unfoldable pub useAt : List ℕ → ℕ → Bool → ℕ
 useAt s at cut = useOf (pastAt s at 1) (length (pick cut (root (nameAt s at)) (nameAt s at)))
-
--- whether a use means one of so many labels
-unfoldable pub isBound : List ℕ → ℕ → List ℕ → ℕ → Bool
-isBound s x bound b = isLabel s (nameIn s x) bound b

@@ -4,7 +4,7 @@ use native.Mathlib.Omega.{arith}
 use Prim.Native.Nat.{_+_, _*_}
 use mathlib.Core.Path.{_≡_, refl, _∙_}
 use lib.ListN.{length}
-use Rattle.uses.specs.Steps.{moved, counted}
+use Rattle.scope.specs.Steps.{moved, counted}
 use Rattle.collect.specs.Walk.{times, many, fieldBy, fieldsBy, wrapBy, caseBy, choiceBy, arrayBy, macroBy, innerBy, chainBy, tailBy, combinatorBy, argumentBy, argumentAt, fieldAt, caseAt}
 use Rattle.collect.proofs.Level.{combinator-level, argument-level, more, done}
 use Prim.Native.Nat.{ℕ, _<_}
@@ -49,16 +49,16 @@ use Rattle.collect.proofs.+argument+arguments+array+case+cases+chain+ch
 use Rattle.collect.proofs.wrap.Reads as wrap
 use Rattle.collect.proofs.wrap.Kinds as wrap-kinds
 use Rattle.collect.proofs.+argument+arguments+array+case+cases+chain+choice+collect_params_with_bound+field+fields+inner+macro_call+wrap.Lts-wrap as wrap-lts
-use Rattle.uses.proofs.bind.Reads as bind-reads
-use Rattle.uses.proofs.call.Reads as call-reads
-use Rattle.uses.proofs.counted.Reads as counted-reads
+use Rattle.scope.proofs.bind.Reads as bind-reads
+use Rattle.roots.proofs.call.Reads as call-reads
+use Rattle.scope.proofs.counted.Reads as counted-reads
 use Rattle.seek.proofs.label_past.Reads as label-past-reads
-use Rattle.uses.proofs.moved.Reads as moved-reads
-use Rattle.uses.proofs.roots.Reads as roots-reads
-use Rattle.uses.proofs.selector.Reads as selector-reads
+use Rattle.scope.proofs.moved.Reads as moved-reads
+use Rattle.roots.proofs.roots.Reads as roots-reads
+use Rattle.roots.proofs.selector.Reads as selector-reads
 use Rattle.seek.proofs.stands_on.Reads as stands-on-reads
 use Rattle.labels.proofs.unbind.Reads as unbind-reads
-use Rattle.uses.proofs.unbound.Reads as unbound-reads
+use Rattle.scope.proofs.unbound.Reads as unbound-reads
 use Rattle.seek.proofs.byte.Reads as byte-reads
 use Rattle.seek.proofs.name_past.Reads as name-past-reads
 use Rattle.seek.proofs.number.Reads as number-reads
@@ -523,7 +523,7 @@ field-same-length-2 t c = search needs
 
 field-returns-2 : (t : ℕ) → field-lts.Need-returns-2 (field-calls t) (field-at t) field.Post
 unfolding fieldBy
-field-returns-2 t c = rw (← (c .before .before .before .before .before .before .before .before .before .before .before .before .before .before .before .before .byte .ensures), ← (c .before .before .before .before .before .before .before .before .before .before .before .before .before .before .before .past .ensures), ← (c .before .before .before .before .before .before .before .before .before .before .before .before .before .before .name-past .ensures), ne-eqb _ _ (c .before .before .before .before .before .before .before .before .before .before .before .before .before .if1 .left), ← (c .before .before .before .before .before .before .before .before .before .before .before .before .moved2 .ensures), ← (c .before .before .before .before .before .before .before .before .before .collect-params-with-bound .ensures .0), ← (c .before .before .before .before .before .before .before .before .before .collect-params-with-bound .ensures .1), ← (c .before .before .before .before .before .before .before .before .before .collect-params-with-bound .ensures .2), eq-eqb _ _ (c .before .before .before .before .if2 .taken)) (c .before .before .bind .ensures .0, c .before .before .bind .ensures .1, refl)
+field-returns-2 t c = rw (← (c .before .before .before .before .before .before .before .before .before .before .before .before .before .before .before .before .byte .ensures), ← (c .before .before .before .before .before .before .before .before .before .before .before .before .before .before .before .past .ensures), ← (c .before .before .before .before .before .before .before .before .before .before .before .before .before .before .name-past .ensures), ne-eqb _ _ (c .before .before .before .before .before .before .before .before .before .before .before .before .before .if1 .left), ← (c .before .before .before .before .before .before .before .before .before .before .before .before .moved2 .ensures), ← (c .before .before .before .before .before .before .before .before .before .collect-params-with-bound .ensures .0), ← (c .before .before .before .before .before .before .before .before .before .collect-params-with-bound .ensures .1), ← (c .before .before .before .before .before .before .before .before .before .collect-params-with-bound .ensures .2), eq-eqb _ 2 (c .before .before .before .before .if2 .taken)) (c .before .before .bind .ensures .0, c .before .before .bind .ensures .1, refl)
 
 field-same-length-3 : (t : ℕ) → field-lts.Need-same-length-3 (field-calls t) (field-at t) field.Post
 field-same-length-3 t c = search needs
@@ -533,7 +533,7 @@ field-same-length-4 t c = search needs
 
 field-returns-3 : (t : ℕ) → field-lts.Need-returns-3 (field-calls t) (field-at t) field.Post
 unfolding fieldBy
-field-returns-3 t c = rw (← (c .before .before .before .before .before .before .before .before .before .before .before .before .byte .ensures), ← (c .before .before .before .before .before .before .before .before .before .before .before .past .ensures), ← (c .before .before .before .before .before .before .before .before .before .before .name-past .ensures), ne-eqb _ _ (c .before .before .before .before .before .before .before .before .before .if1 .left), ← (c .before .before .before .before .before .before .before .before .moved2 .ensures), ← (c .before .before .before .before .before .collect-params-with-bound .ensures .0), ← (c .before .before .before .before .before .collect-params-with-bound .ensures .1), ← (c .before .before .before .before .before .collect-params-with-bound .ensures .2), ne-eqb _ _ (c .if2 .left)) (refl, refl, refl)
+field-returns-3 t c = rw (← (c .before .before .before .before .before .before .before .before .before .before .before .before .byte .ensures), ← (c .before .before .before .before .before .before .before .before .before .before .before .past .ensures), ← (c .before .before .before .before .before .before .before .before .before .before .name-past .ensures), ne-eqb _ _ (c .before .before .before .before .before .before .before .before .before .if1 .left), ← (c .before .before .before .before .before .before .before .before .moved2 .ensures), ← (c .before .before .before .before .before .collect-params-with-bound .ensures .0), ← (c .before .before .before .before .before .collect-params-with-bound .ensures .1), ← (c .before .before .before .before .before .collect-params-with-bound .ensures .2), ne-eqb _ 2 (c .if2 .left)) (refl, refl, refl)
 
 abbrev fields-Inv-loop : fields-lts.InvT-loop
 fields-Inv-loop s w levels bound₀ uses₀ at k a left₀ here₀ bound uses left here = (length bound ≡ length bound₀) × (length uses ≡ length uses₀) × (times (fieldAt levels s) left₀ here₀ bound₀ uses₀ ≡ times (fieldAt levels s) left here bound uses)

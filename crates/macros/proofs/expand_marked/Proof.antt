@@ -9,7 +9,7 @@ use Rattle.macros.proofs.expand_marked.Statement.{statement}
 use Rattle.macros.proofs.expand_marked.Tie as tie
 use Rattle.macros.proofs.expand_marked.Reads as reads
 use Rattle.macros.proofs.expand_marked.Lts as lts
-use Rattle.macros.proofs.book.count_kept.Reads as count-kept-reads
+use Rattle.kept.proofs.count_kept.Reads as count-kept-reads
 use Rattle.macros.proofs.book.expand_all.Reads as expand-all-reads
 use Rattle.writer.proofs.least.Reads as least-reads
 use Rattle.known.proofs.table.Reads as table-reads

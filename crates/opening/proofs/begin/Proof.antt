@@ -8,7 +8,7 @@ use Rattle.opening.proofs.begin.Tie as tie
 use Rattle.opening.proofs.begin.Reads as reads
 use Rattle.opening.proofs.begin.Lts as lts
 use Rattle.book.proofs.read.Reads as read-reads
-use Rattle.macros.proofs.has_no_macros.Reads as has-no-macros-reads
+use Rattle.kept.proofs.has_no_macros.Reads as has-no-macros-reads
 
 returns : tie.Need-returns
 returns c = begins-1 _ _ (c .if1 .taken)

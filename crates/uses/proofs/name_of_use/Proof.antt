@@ -11,8 +11,6 @@ use Prim.Native.Nat.{_/_}
 use borrow.Author.Needs.{needs}
 use Rattle.uses.proofs.name_of_use.Statement.{statement}
 use Rattle.uses.proofs.name_of_use.Tie as tie
-use Rattle.uses.proofs.name_of_use.Reads as reads
-use Rattle.uses.proofs.name_of_use.Lts as lts
 
 cast-first : tie.Need-cast-first
 cast-first c = search needs

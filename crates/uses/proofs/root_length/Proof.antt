@@ -7,8 +7,6 @@ use Rattle.definition.specs.Names.{root}
 use Rattle.uses.proofs.Uses.{root-on, root-stop, root-end}
 use Rattle.uses.proofs.root_length.Statement.{statement}
 use Rattle.uses.proofs.root_length.Tie as tie
-use Rattle.uses.proofs.root_length.Reads as reads
-use Rattle.uses.proofs.root_length.Lts as lts
 
 abbrev Inv-loop : tie.InvT-loop
 Inv-loop name i₀ i = (i ≤ length name) × (length (root name) ≡ i + length (root (drop i name)))

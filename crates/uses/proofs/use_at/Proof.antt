@@ -2,12 +2,6 @@ use Rattle.uses.specs.Uses.{useAt}
 use borrow.Author.Needs.{needs}
 use Rattle.uses.proofs.use_at.Statement.{statement}
 use Rattle.uses.proofs.use_at.Tie as tie
-use Rattle.uses.proofs.use_at.Reads as reads
-use Rattle.uses.proofs.use_at.Lts as lts
-use Rattle.uses.proofs.root_length.Reads as root-length-reads
-use Rattle.uses.proofs.use_of.Reads as use-of-reads
-use Rattle.lookup.proofs.name_at.Reads as name-at-reads
-use Rattle.seek.proofs.past.Reads as past-reads
 
 past-requires : tie.Need-past-requires
 past-requires c κs = search needs

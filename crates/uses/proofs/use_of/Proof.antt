@@ -3,8 +3,6 @@ use Rattle.uses.specs.Uses.{useOf}
 use borrow.Author.Needs.{needs}
 use Rattle.uses.proofs.use_of.Statement.{statement}
 use Rattle.uses.proofs.use_of.Tie as tie
-use Rattle.uses.proofs.use_of.Reads as reads
-use Rattle.uses.proofs.use_of.Lts as lts
 
 mul-result : tie.Need-mul-result
 mul-result c = search needs
