@@ -1,18 +1,8 @@
-// A table that has a number for each place, 0 where there is none: the number at a place, and the next place that has one.
+// A table that has a number for each place, 0 where there is none: the next place that has one.
+use tables::entry;
 use writer::least;
 ghost use mathlib.Core.Path.{_≡_};
-ghost use lib.ListN.{getD};
 ghost use Rattle.ahead.specs.Next.{someIn, pastEmpty, nextLift};
-
-// The number at a place of a table, 0 past its end.
-pub fn entry(table: &[u16], at: usize) -> u16
-    ensures { λ r. ⌜ r ≡ getD (now (table .entry)) at 0 ⌝ }
-{
-    if at < table.len() {
-        return table[at];
-    }
-    0
-}
 
 // Whether an entry is not 0. The loop has one way out, so that the machine takes several entries at a time.
 fn some_in(entries: &[u16]) -> bool

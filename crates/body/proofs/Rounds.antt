@@ -12,26 +12,31 @@ use Rattle.definition.specs.Size.{levels}
 use Rattle.writer.proofs.Put.{within}
 use Rattle.names.specs.Name.{Held}
 use Rattle.ends.specs.Ends.{Right}
+use Rattle.frames.specs.declared.Frame.{Frame}
+use Rattle.frames.specs.Frames.{Stands, Standing, frameAt}
+use Rattle.children.specs.declared.Step.{Step}
+use Rattle.children.specs.declared.Step.the-variants as step
+use Rattle.children.specs.Next.{nextOf}
+use Rattle.children.specs.Steps.{StepAt}
+use Rattle.done.specs.declared.Closed.{Closed}
+use Rattle.done.specs.Done.{passed, bindBy, boundAfter, delivered, closedOf, orderOf}
 use Rattle.lift.specs.declared.Counts.{Counts}
 use Rattle.lift.specs.Bound.{boundFrom, Sized}
 use Rattle.lift.specs.Sheet.{sheetOf, Tables}
 use Rattle.lift.proofs.Entered.{cut-length}
-use Rattle.naming.specs.declared.Frame.{Frame}
 use Rattle.naming.specs.Walk.{walk}
 use Rattle.naming.specs.Nodes.{walked, nodeOf, Wait}
-use Rattle.naming.specs.Frames.{Stands, Standing, OwnIs, frameAt, Closing, passed, Passing, bindBy, boundAfter, delivered}
+use Rattle.naming.specs.Frames.{OwnIs, Closing, Passing}
 use Rattle.naming.specs.Lifts.{Scratch}
 use Rattle.naming.proofs.Machine.{run-root}
 use Rattle.naming.proofs.Opened.{frame-opens}
 use Rattle.steps.specs.Good.{Good}
 use Rattle.body.specs.Walks.{Ready, Ends, Walks}
-use Rattle.steps.specs.Steps.{Reached, StepIs, weight, Opened, ChildIs, Comes, closedOf, orderOf}
+use Rattle.steps.specs.Steps.{weight, Opened, ChildIs, Comes}
 use Rattle.body.specs.declared.Body.the-variants.{Named, Refused}
-use Rattle.steps.specs.declared.Step.{Step}
-use Rattle.steps.specs.declared.Step.the-variants as step
 use Rattle.steps.specs.declared.Child.{Child}
 use Rattle.steps.specs.declared.Child.the-variants as comes
-use Rattle.steps.specs.declared.Closed.{Closed}
+use Rattle.steps.proofs.Named.{Reached, StepIs, step-is}
 use Rattle.steps.proofs.Children.{frame-sound}
 use Rattle.body.proofs.Stack.{no-frame, Stack, waiting, lifting, Going}
 use Rattle.body.proofs.Turns.{less-pass, goes-pass, child-levels, child-few, goes-open, less-open, ends-refused, good-closed, ends-last, goes-back, less-back}
@@ -126,15 +131,15 @@ module _ {s : List ℕ} {at : ℕ} {path₀ : List ℕ} {len : ℕ} {binders₀ 
   pub resume-safe : 0 < d → (p .bound ≤ 65535) × (p .child ≤ 65536)
   resume-safe h = let g = R .goes (R .root) in resume-by (g .waits) h (g .stack)
 
-  module _ (path′ : List ℕ) {r : Step} (st : StepIs s f path path′ r) where
+  module _ (path′ : List ℕ) {r : Step} (st : StepAt s f path path′ (nextOf s f) r) where
     -- ---- a Const field
     pass-path : {e : ℕ} → r ≡ step.Pass e → path′ ≡ path
     unfolding StepIs
-    pass-path q = (rw q at st) .0
+    pass-path q = (rw q at (step-is s f path path′ r st)) .0
 
     passing : {e : ℕ} → r ≡ step.Pass e → (x : Root s at path₀ len) → Passing s path binders (63 - d) f (R .goes x .node) e
     unfolding StepIs
-    passing q x = (rw q at st) .1 binders (63 - d) (R .goes x .node) source (R .goes x .top)
+    passing q x = (rw q at (step-is s f path path′ r st)) .1 binders (63 - d) (R .goes x .node) source (R .goes x .top)
 
     pub round-pass : {e : ℕ} {h : Frame} → r ≡ step.Pass e → h ≡ passed f e
         → Round s at path₀ len binders₀ b made₀ places₀ rows₀ params₀ order₀ w₀ n₀ path′ binders bound uses spare made places hashes hints rows params number order frames h d w n
@@ -148,11 +153,11 @@ module _ {s : List ℕ} {at : ℕ} {path₀ : List ℕ} {len : ℕ} {binders₀ 
     module _ (q : r ≡ step.Done) {z : Closed} {order′ : List ℕ} (ez : z ≡ closedOf f n) (eo : order′ ≡ orderOf f order n) where
       done-path : path′ ≡ path
       unfolding StepIs
-      done-path = (rw q at st) .0
+      done-path = (rw q at (step-is s f path path′ r st)) .0
 
       closing : (x : Root s at path₀ len) → Closing f (R .goes x .node)
       unfolding StepIs
-      closing x = (rw q at st) .1 binders (63 - d) (R .goes x .node) source (R .goes x .top)
+      closing x = (rw q at (step-is s f path path′ r st)) .1 binders (63 - d) (R .goes x .node) source (R .goes x .top)
 
       pub walks-last : d ≡ 0 → Walks s at path₀ len binders₀ b made₀ places₀ rows₀ params₀ order₀ w₀ n₀ made places hashes hints rows params number order′ (Named w (z .finished))
       unfolding Ends
@@ -173,11 +178,11 @@ module _ {s : List ℕ} {at : ℕ} {path₀ : List ℕ} {len : ℕ} {binders₀ 
     module _ {place l : ℕ} (q : r ≡ step.Child place l) (long : length path′ ≡ length path) where
       reached : (x : Root s at path₀ len) → Reached s (63 - d) f (R .goes x .node) path′ place l
       unfolding StepIs
-      reached x = (rw q at st) .reaches binders (63 - d) (R .goes x .node) source (R .goes x .top)
+      reached x = (rw q at (step-is s f path path′ r st)) .reaches binders (63 - d) (R .goes x .node) source (R .goes x .top)
 
       step-kept : take (f .len) path′ ≡ take (f .len) path
       unfolding StepIs
-      step-kept = (rw q at st) .kept
+      step-kept = (rw q at (step-is s f path path′ r st)) .kept
 
       pub open-safe : {ends : List ℕ} → Right s ends → Tables s made places hashes hints rows params w × Standing s place × Scratch s bound uses spare × (length path′ ≡ 255) × (f .bound ≤ 65536) × Sized binders (f .bound) × Right s ends
       open-safe right =

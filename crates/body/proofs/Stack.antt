@@ -17,18 +17,20 @@ use Rattle.laws.proofs.Tests.{by-test}
 use Rattle.seek.specs.At.{pick}
 use Rattle.writer.proofs.Put.{put-first, take-written}
 use Rattle.names.proofs.Held.{held-back, take-less}
+use Rattle.tables.specs.Numbers.{plus}
+use Rattle.tables.proofs.Params.{Same}
+use Rattle.frames.specs.declared.Frame.{Frame}
+use Rattle.done.specs.Done.{closedOf, orderOf}
 use Rattle.lift.specs.declared.Counts.{Counts}
 use Rattle.lift.specs.Bound.{Sized}
 use Rattle.lift.specs.Sheet.{Sheet, sheetOf}
-use Rattle.lift.proofs.Params.{Same}
-use Rattle.naming.specs.declared.Frame.{Frame}
-use Rattle.naming.specs.Walk.{plus, Extent, finish}
+use Rattle.naming.specs.Walk.{Extent, finish}
 use Rattle.naming.specs.Nodes.{Own, walked, lifted, Node, close, Wait, run}
 use Rattle.naming.specs.Frames.{OwnIs, FrameIs, Opening}
 use Rattle.naming.specs.Lifts.{Scratch}
 use Rattle.naming.proofs.Bound.{bound-kept}
 use Rattle.steps.specs.Good.{Good}
-use Rattle.steps.specs.Steps.{Sound, closedOf, orderOf}
+use Rattle.steps.specs.Steps.{Sound}
 
 -- ---- a frame where path and binders change behind it
 module _ {s path binders path′ binders′ : List ℕ} (long : length path′ ≡ length path) where

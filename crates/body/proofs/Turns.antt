@@ -19,20 +19,24 @@ use Rattle.laws.proofs.Splits.{s-comb}
 use Rattle.seek.specs.At.{byteAt, pastAt, pick}
 use Rattle.seek.proofs.Here.{here-length}
 use Rattle.names.proofs.Held.{take-less}
+use Rattle.tables.specs.Numbers.{plus}
+use Rattle.tables.specs.Rows.{withParam}
+use Rattle.tables.proofs.Params.{Same, param-before, param-length, param-own}
+use Rattle.frames.specs.declared.Frame.{Frame}
+use Rattle.frames.proofs.Ends.{combinator-end}
+use Rattle.done.specs.Done.{passed, binding, bindBy, boundAfter, delivered, closedOf, orderOf}
 use Rattle.lift.specs.declared.Counts.{Counts}
-use Rattle.lift.specs.Bound.{withParam, Sized}
+use Rattle.lift.specs.Bound.{Sized}
 use Rattle.lift.specs.Sheet.{Sheet, sheetOf}
-use Rattle.lift.proofs.Params.{Same, param-before, param-length, param-own}
-use Rattle.naming.specs.declared.Frame.{Frame}
-use Rattle.naming.specs.Walk.{plus, Extent}
+use Rattle.naming.specs.Walk.{Extent}
 use Rattle.naming.specs.Nodes.{Node, goOn, Wait, deliver, run}
-use Rattle.naming.specs.Frames.{Closing, passed, Passing, binding, bindBy, boundAfter, delivered}
-use Rattle.naming.proofs.Ends.{combinator-end}
+use Rattle.naming.specs.Frames.{Closing, Passing}
 use Rattle.naming.proofs.Machine.{steps-back, steps-last}
 use Rattle.steps.specs.Good.{Good}
 use Rattle.body.specs.Walks.{Ends}
-use Rattle.steps.specs.Steps.{Reached, Sound, weight, Refuses, Opened, closedOf, orderOf}
+use Rattle.steps.specs.Steps.{Sound, weight, Refuses, Opened}
 use Rattle.body.specs.declared.Body.the-variants.{Refused}
+use Rattle.steps.proofs.Named.{Reached}
 use Rattle.steps.proofs.Children.{size-least, levels-some}
 use Rattle.body.proofs.Stack.{frame-kept, no-frame, Waits, Stack, stack-kept, stack-more, after, waiting, set-below, waiting-more, lifting-more, waiting-less, lifting-less, Going, closed-size, order-length, closed-is}
 

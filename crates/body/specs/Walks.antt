@@ -9,10 +9,10 @@ use Rattle.definition.specs.Tree.{Name, Combinator}
 use Rattle.definition.specs.Size.{levels}
 use Rattle.names.specs.Name.{Held}
 use Rattle.lift.specs.declared.Counts.{Counts}
+use Rattle.frames.specs.Frames.{Stands, Standing}
 use Rattle.lift.specs.Bound.{boundFrom, Sized}
 use Rattle.lift.specs.Sheet.{Sheet, sheetOf}
 use Rattle.naming.specs.Walk.{Extent, walk}
-use Rattle.naming.specs.Frames.{Stands, Standing}
 use Rattle.naming.specs.Lifts.{Scratch}
 use Rattle.steps.specs.Good.{Good}
 use Rattle.body.specs.declared.Body.{Body}

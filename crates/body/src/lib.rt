@@ -1,15 +1,15 @@
 // The naming pass over one body: one frame for each level, in one local.
+use children::Step;
+use children::next_step;
+use done::close_node;
+use done::pass;
+use done::resume_node;
 use ends::end_of;
+use frames::combinator_past;
+use frames::open_node;
 use lift::Counts;
-use naming::combinator_past;
-use naming::open_node;
-use naming::pass;
 use steps::Child;
-use steps::Step;
-use steps::close_node;
-use steps::next_step;
 use steps::open_child;
-use steps::resume_node;
 ghost use Prim.Native.Nat.{_≤_};
 ghost use Rattle.ends.specs.Ends.{Right};
 ghost use Rattle.steps.specs.Good.{Good};

@@ -1,31 +1,17 @@
 -- Binders one by one, and the first of a name.
 -- Assumes nothing.
-use mathlib.Core.Path.{_≡_, refl, sym, ap, _∙_}
+use mathlib.Core.Path.{_≡_, refl, _∙_}
 use mathlib.Core.Bool.{Bool, true, false, cond}
 use mathlib.Core.List.{List, [], _∷_, _++_}
-use Prim.Native.Nat.{ℕ, zero, suc, _+_, _-_, _*_, _≤_, _<_, min}
+use Prim.Native.Nat.{ℕ, zero, suc, _+_, _-_, _*_, _≤_, _<_}
 use native.Mathlib.Omega.{arith}
 use native.Mathlib.Numerals.{add-one}
-use lib.ListN.{length, getD, set, List·getD-eq-default}
-use lib.Seq.{set-out}
+use lib.ListN.{getD}
 use Rattle.definition.specs.Res.{Maybe, absent, just}
 use Rattle.definition.specs.Tree.{Name}
 use Rattle.definition.specs.Names.{eqName}
 use Rattle.lookup.specs.Name.{nameAt}
 use Rattle.lift.specs.Bound.{Bound, boundAt, boundFrom, firstOf, First}
-
--- ---- tables: an entry past the end, a number that is stored
-pub past-end : (t : List ℕ) (i : ℕ) → length t ≤ i → 0 ≡ getD t i 0
-past-end t i h = sym (List·getD-eq-default t 0 {n = i} h)
-
-pub store-out : (t : List ℕ) (i x : ℕ) → length t ≤ i → t ≡ set t i (min x 65535)
-store-out t i x h = sym (set-out t i (min x 65535) h)
-
-pub store-large : (t : List ℕ) (i x : ℕ) → 65535 < x → set t i 65535 ≡ set t i (min x 65535)
-store-large t i x h = let e : min x 65535 ≡ 65535 = omega arith in rw e
-
-pub store-small : (t : List ℕ) (i x : ℕ) → x ≤ 65535 → set t i x ≡ set t i (min x 65535)
-store-small t i x h = let e : min x 65535 ≡ x = omega arith in rw e
 
 -- j binders are passed, none of the name
 abbrev pub Passed : List ℕ → List ℕ → Name → ℕ → ℕ → Type 0

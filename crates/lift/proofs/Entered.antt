@@ -19,6 +19,7 @@ use Rattle.writer.specs.Buf.{put, nameBytes}
 use Rattle.writer.proofs.Put.{length-put, getD-put-at}
 use Rattle.uses.specs.Uses.{namesIn}
 use Rattle.tables.specs.Rows.{Row, rowAt, rowsOf, namesFrom, typesFrom}
+use Rattle.tables.proofs.Params.{Same}
 use Rattle.taken.specs.Taken.{both, taken, Table, Hints, Packed, Grown, Took}
 use Rattle.lift.specs.declared.Counts.{Counts}
 use Rattle.lift.specs.declared.Lifted.{Lifted}
@@ -26,7 +27,6 @@ use Rattle.lift.specs.declared.Lifted.the-variants.{Made, Refused}
 use Rattle.lift.specs.Bound.{Bound, typeOf, bindersOf, namesSize, typesSize, Filled, Within}
 use Rattle.lift.specs.Sheet.{Sheet, callSize, headSize, entered, fits, enterWith, sheetOf, RowIn, Tables, withRow, Gives}
 use Rattle.lift.specs.Enters.{Adds, Enters}
-use Rattle.lift.proofs.Params.{Same}
 use Rattle.lift.proofs.Rows.{row-length, row-before, row-at, row-end, row-name, row-first, row-count, byte-before, rows-kept, name-taken}
 
 fits-ok : (t : Sheet) → t .bytes ≤ 16384 → t .defns ≤ 512 → fits t ≡ ok tt t

@@ -16,10 +16,10 @@ use Rattle.lookup.specs.Name.{nameAt, nameOf, placeOf}
 use Rattle.writer.specs.Buf.{put, nameBytes}
 use Rattle.writer.proofs.Put.{length-put, part-put-before, getD-put-before}
 use Rattle.tables.specs.Rows.{Row, TypeAt, namesFrom, typesFrom, rowAt, rowsOf}
+use Rattle.tables.proofs.Params.{Same, names-kept, types-kept}
 use Rattle.taken.specs.Taken.{both, row, taken, Took}
 use Rattle.lift.specs.declared.Counts.{Counts}
 use Rattle.lift.specs.Sheet.{RowIn, withRow}
-use Rattle.lift.proofs.Params.{Same, names-kept, types-kept}
 
 module _ (d : List ℕ) (i a e n f k : ℕ) where
   pub row-length : length (withRow d i a e n f k) ≡ length d

@@ -6,7 +6,7 @@ use mathlib.Core.List.{List, [], _∷_, _++_, map}
 use mathlib.Core.Path.{_≡_}
 use Prim.Native.Nat.{ℕ, zero, suc, _+_, _*_, _≤_, _<_}
 use lib.Dec.{eqb}
-use lib.ListN.{length, take, drop, getD, set}
+use lib.ListN.{length, take, drop, getD}
 use Rattle.definition.specs.Res.{Maybe, absent, just}
 use Rattle.definition.specs.Tree.{Name}
 use Rattle.definition.specs.Names.{eqName}
@@ -59,10 +59,6 @@ namesSize (n ∷ ns) = 1 + length n + namesSize ns
 unfoldable pub typesSize : List Bound → ℕ
 typesSize [] = 0
 typesSize (b ∷ bs) = b .size + typesSize bs
-
--- the table with the parameter number i
-unfoldable pub withParam : List ℕ → ℕ → ℕ → ℕ → ℕ → ℕ → List ℕ
-withParam d i place len at own = set (set (set (set d (4 * i) place) (4 * i + 1) len) (4 * i + 2) at) (4 * i + 3) own
 
 -- r is the number of the first binder of a name, or b
 pub record First (s table : List ℕ) (name : Name) (b r : ℕ) : Type 0 where

@@ -1,13 +1,16 @@
 // One lift of the naming pass: its parameters and their binders, its row, its name.
 use lookup::name_at;
 use lookup::same_name;
+use tables::fetch;
+use tables::store;
 use taken::take_name;
 use uses::name_of_use;
 ghost use mathlib.Core.Path.{_≡_};
 ghost use Prim.Native.Nat.{_≤_, _<_, _+_, _*_, _/_, _%_, min};
-ghost use lib.ListN.{length, take, getD, set};
+ghost use lib.ListN.{length, take, getD};
+ghost use Rattle.tables.specs.Rows.{withParam};
 ghost use Rattle.uses.specs.Uses.{namesIn};
-ghost use Rattle.lift.specs.Bound.{boundFrom, Sized, First, withParam, Builds};
+ghost use Rattle.lift.specs.Bound.{boundFrom, Sized, First, Builds};
 ghost use Rattle.lift.specs.Sheet.{Tables, withRow};
 ghost use Rattle.lift.specs.Enters.{Adds, Enters};
 
@@ -31,37 +34,6 @@ pub struct Counts {
 pub enum Lifted {
     Made(usize, Counts),
     Refused(u8),
-}
-
-// An entry of a table; past the end it is 0.
-fn entry(t: &[u16], i: usize) -> u16
-    ensures { λ r. ⌜ r ≡ getD (now (t .entry)) i 0 ⌝ }
-{
-    if i < t.len() {
-        return t[i];
-    }
-    0
-}
-
-fn fetch(t: &[u16], i: usize) -> usize
-    ensures { λ r. ⌜ (r ≡ getD (now (t .entry)) i 0) × (r ≤ 65535) ⌝ }
-{
-    let x = entry(t, i);
-    x as usize
-}
-
-// A number into a table, as far as the table reaches. 65,535 stands for all that are larger: no place is.
-pub fn store(t: &mut [u16], i: usize, x: usize)
-    ensures { λ _. ⌜ now (t .exit) ≡ set (now (t .entry)) i (min x 65535) ⌝ }
-{
-    if t.len() <= i {
-        return;
-    }
-    if 65535 < x {
-        t[i] = 65535;
-        return;
-    }
-    t[i] = x as u16;
 }
 
 // The number of the first binder of a name among the first b, or b.

@@ -18,12 +18,13 @@ use Rattle.lookup.proofs.Names.{stands}
 use Rattle.seek.specs.At.{byteAt, pastAt, pick}
 use Rattle.seek.specs.Here.{Here}
 use Rattle.seek.proofs.Here.{here-length, past-here, byte-here, next-here}
-use Rattle.lift.specs.Bound.{Bound, boundFrom, withParam}
+use Rattle.frames.specs.declared.Frame.{Frame}
+use Rattle.done.specs.Done.{binding, bindBy, boundAfter, delivered}
+use Rattle.lift.specs.Bound.{Bound}
 use Rattle.lifting.specs.After.{fieldAt, caseAt, shellAt}
-use Rattle.naming.specs.declared.Frame.{Frame}
-use Rattle.naming.specs.Walk.{plus, Extent, binds}
+use Rattle.naming.specs.Walk.{Extent, binds}
 use Rattle.naming.specs.Nodes.{Rest, fields, cases, one, tail, Own, Link, ahead, behind, Node, linked, Wait, for-chain, for-field, for-case, for-one, advanced, deliver}
-use Rattle.naming.specs.Frames.{RestIs, sizeRest, levelsRest, levelsLink, LinkIs, OwnIs, FrameIs, binding, bindBy, boundAfter, delivered}
+use Rattle.naming.specs.Frames.{RestIs, sizeRest, levelsRest, levelsLink, LinkIs, OwnIs, FrameIs}
 use Rattle.naming.proofs.Bound.{bound-more}
 
 -- behind what was written

@@ -3,20 +3,16 @@
 use mathlib.Core.Path.{_≡_, refl, sym, ap, _∙_}
 use mathlib.Core.Bool.{true, false}
 use mathlib.Core.List.{List, [], _∷_, _++_}
-use Prim.Native.Nat.{ℕ, zero, suc, _+_, _*_, _≤_, _<_, min}
+use Prim.Native.Nat.{ℕ, zero, suc, _+_, _*_, _≤_, _<_}
 use native.Mathlib.Omega.{arith}
 use native.Mathlib.Numerals.{add-one}
 use lib.Dec.{eqb}
-use lib.ListN.{length, getD, set}
+use lib.ListN.{length, getD}
 use Rattle.definition.specs.Tree.{Name}
 use Rattle.lookup.specs.Name.{nameAt}
-use Rattle.lift.specs.Bound.{Bound, boundAt, boundFrom, withParam}
-use Rattle.lift.proofs.Params.{Same, param-before, param-place, param-len, param-at, param-own}
-
-pub binder-put : (d : List ℕ) (j n a o z : ℕ) {d₁ d₂ d₃ d₄ : List ℕ} → d₁ ≡ set d (4 * j) (min n 65535) → d₂ ≡ set d₁ (4 * j + 1) (min a 65535) → d₃ ≡ set d₂ (4 * j + 2) (min o 65535) → d₄ ≡ set d₃ (4 * j + 3) (min z 65535) → o ≤ 1
-    → d₄ ≡ withParam d j (min n 65535) (min a 65535) o (min z 65535)
-unfolding withParam
-binder-put d j n a o z w x y v h = let o′ : min o 65535 ≡ o = omega arith in rw (v, y, x, w, o′)
+use Rattle.tables.specs.Rows.{withParam}
+use Rattle.tables.proofs.Params.{Same, param-before, param-place, param-len, param-at, param-own}
+use Rattle.lift.specs.Bound.{Bound, boundAt, boundFrom}
 
 bound-last : (s t : List ℕ) (j n : ℕ) → boundFrom s t j (suc n) ≡ boundFrom s t j n ++ (boundAt s t (j + n) ∷ [])
 unfolding boundFrom

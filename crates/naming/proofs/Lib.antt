@@ -1,5 +1,5 @@
 pub mod Machine
-pub mod Ends
+pub mod Begins
 pub mod Bound
 pub mod Back
 pub mod Opened

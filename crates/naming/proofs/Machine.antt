@@ -16,9 +16,10 @@ use Rattle.definition.specs.Size.{size}
 use Rattle.definition.specs.Collect.{anonymous}
 use Rattle.laws.proofs.Sizes.{sizeI}
 use Rattle.lifting.specs.After.{chainAt, fieldsAt, casesAt, shellAt, fieldAt, constEnd, caseAt}
+use Rattle.tables.specs.Numbers.{plus}
 use Rattle.lift.specs.Bound.{Bound}
 use Rattle.lift.specs.Sheet.{Sheet}
-use Rattle.naming.specs.Walk.{plus, Extent, Start, Step, called, starts, finish, visit, binds, walk, walkI, walkF, walkC}
+use Rattle.naming.specs.Walk.{Extent, Start, Step, called, starts, finish, visit, binds, walk, walkI, walkF, walkC}
 use Rattle.naming.specs.Nodes.{Rest, fields, cases, one, tail, Own, walked, lifted, Link, ahead, behind, Node, restOf, skip, nodeOf, close, goLink, goRest, goOn, linked, Wait, for-chain, for-field, for-case, for-one, advanced, deliver, resume, run, Opens}
 
 module _ {S A B C : Type 0} where

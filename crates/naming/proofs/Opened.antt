@@ -20,19 +20,20 @@ use Rattle.seek.specs.At.{byteAt, pastAt, numberAt, namePast, textPast, lengthP
 use Rattle.seek.specs.Here.{Here}
 use Rattle.seek.proofs.Here.{here-length, byte-here, next-here, name-here, text-here, len-here}
 use Rattle.names.specs.Name.{Held}
+use Rattle.tables.specs.Numbers.{plus}
+use Rattle.frames.specs.declared.Frame.{Frame}
+use Rattle.frames.specs.Frames.{frameAt}
+use Rattle.children.specs.declared.Next.the-variants.{Done, Chain, Label, Case}
+use Rattle.children.specs.Next.{nextField, nextOne, nextOf}
+use Rattle.done.specs.Done.{passed}
 use Rattle.lift.specs.Bound.{Bound, boundFrom}
 use Rattle.lift.specs.Sheet.{Sheet}
 use Rattle.lifting.specs.After.{chainAt, fieldAt, constEnd, caseAt, shellAt}
-use Rattle.naming.specs.declared.Frame.{Frame}
-use Rattle.naming.specs.declared.Next.{Next}
-use Rattle.naming.specs.declared.Next.the-variants.{Done, Pass, Chain, Label, Case, Anon, Item}
-use Rattle.naming.specs.Walk.{plus}
 use Rattle.naming.specs.Nodes.{Rest, fields, cases, one, tail, Own, walked, lifted, Link, ahead, behind, Node, restOf, skip, nodeOf, close, goOn, advanced, Wait, run, Opens}
 use Rattle.ends.specs.Ends.{innerEnd}
 use Rattle.ends.proofs.Ends.{inner-rest, inner-end}
-use Rattle.naming.specs.Frames.{beginAt, RestIs, sizeRest, levelsRest, levelsLink, Begins, Stands, LinkIs, OwnIs, frameAt, FrameIs, Closing, passed, Passing, Opening, NextIs}
-use Rattle.naming.specs.Next.{nextField, nextOne, nextOf}
-use Rattle.naming.proofs.Ends.{begins}
+use Rattle.naming.specs.Frames.{RestIs, sizeRest, levelsRest, levelsLink, Begins, LinkIs, OwnIs, FrameIs, Closing, Passing, Opening, NextIs}
+use Rattle.naming.proofs.Begins.{begins}
 use Rattle.naming.proofs.Back.{back-chain, back-field, back-case, back-one}
 use Rattle.naming.proofs.Machine.{opens-chain, opens-field, opens-case, opens-one, passes-const, ends-fields, ends-cases, ends-tail}
 

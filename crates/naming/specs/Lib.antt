@@ -1,5 +1,4 @@
 pub mod Walk
 pub mod Nodes
 pub mod Frames
-pub mod Next
 pub mod Lifts

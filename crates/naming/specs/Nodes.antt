@@ -13,9 +13,10 @@ use Rattle.definition.specs.Size.{size}
 use Rattle.definition.specs.Collect.{anonymous}
 use Rattle.laws.proofs.Sizes.{sizeI}
 use Rattle.lifting.specs.After.{chainAt, fieldsAt, casesAt, shellAt, fieldAt, constEnd, caseAt}
+use Rattle.tables.specs.Numbers.{plus}
 use Rattle.lift.specs.Bound.{Bound}
 use Rattle.lift.specs.Sheet.{Sheet}
-use Rattle.naming.specs.Walk.{plus, Extent, called, finish, visit, binds, walk, walkI, walkF, walkC}
+use Rattle.naming.specs.Walk.{Extent, called, finish, visit, binds, walk, walkI, walkF, walkC}
 
 -- the children still to walk, or the bytes that are left
 pub data Rest : Type 0 where

@@ -2,7 +2,7 @@
 -- It is crate lifting's `trace` with numbers where that has trees: crate walked shows it.
 use mathlib.Core.Bool.{Bool, true, false, not}
 use mathlib.Core.List.{List, [], _∷_, _++_}
-use Prim.Native.Nat.{ℕ, suc, _+_, _-_, min}
+use Prim.Native.Nat.{ℕ, suc, _+_, _-_}
 use lib.Dec.{leb}
 use lib.ListN.{length}
 use Rattle.definition.specs.Code.{leftover-macro, name-long}
@@ -14,12 +14,9 @@ use Rattle.definition.specs.Size.{size}
 use Rattle.definition.specs.Collect.{anonymous, free, leftover}
 use Rattle.laws.proofs.Sizes.{sizeI}
 use Rattle.lifting.specs.After.{chainAt, fieldsAt, casesAt, shellAt, fieldAt, constEnd, caseAt}
+use Rattle.tables.specs.Numbers.{plus}
 use Rattle.lift.specs.Bound.{Bound}
 use Rattle.lift.specs.Sheet.{Sheet, enters}
-
--- sizes after lifting are kept in 16 bits: where one is larger, 65,535 stands for it, and a lift that has it among its types is over code 10's limit
-unfoldable pub plus : ℕ → ℕ → ℕ
-plus a b = min (a + b) 65535
 
 -- what a combinator takes after lifting, chain and all, and its inner alone
 pub record Extent : Type 0 where

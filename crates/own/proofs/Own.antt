@@ -19,8 +19,9 @@ use Rattle.seek.proofs.Here.{here-length, number-here, number-past, name-here}
 use Rattle.lookup.specs.Name.{nameAt}
 use Rattle.writer.proofs.Put.{within}
 use Rattle.lookup.proofs.Names.{stands}
-use Rattle.lift.specs.Bound.{boundFrom, withParam, Sized}
-use Rattle.lift.proofs.Params.{param-before, param-own}
+use Rattle.tables.specs.Rows.{withParam}
+use Rattle.tables.proofs.Params.{param-before, param-own}
+use Rattle.lift.specs.Bound.{boundFrom, Sized}
 use Rattle.ends.specs.Ends.{innerEnd}
 use Rattle.ends.proofs.Ends.{inner-rest, inner-end}
 use Rattle.naming.proofs.Bound.{bound-more}

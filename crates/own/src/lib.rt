@@ -1,9 +1,9 @@
 // A definition's own parameters as binders.
 use ends::inner_end;
-use naming::put_binder;
 use seek::name_past;
 use seek::number;
 use seek::past;
+use tables::put_binder;
 ghost use Prim.Native.Nat.{_≤_};
 ghost use lib.ListN.{length};
 ghost use Rattle.own.specs.Own.{Params, Own};

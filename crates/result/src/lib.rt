@@ -1,6 +1,5 @@
 // The writing pass: the finished book from the expanded book and the tables that the naming pass leaves. It goes in layout order, writes each
 // body once at its final place, and cannot fail: every function is total on any bytes and any numbers.
-use ahead::entry;
 use entries::put_entry;
 use lookup::name_at;
 use marks::Walk;
@@ -9,6 +8,7 @@ use skip::skip_inner;
 use splice::param_name;
 use splice::put_called;
 use splice::put_spliced;
+use tables::entry;
 use writer::put_name;
 use writer::put_part;
 use writer::put_u16;

@@ -1,8 +1,8 @@
 // The bytes from one place of the expanded book up to another, with the range of each lift that begins on the way replaced by its call. Every
 // function is total on any bytes and any numbers.
-use ahead::entry;
 use ahead::next_lift;
 use lookup::name_at;
+use tables::entry;
 use writer::put_byte;
 use writer::put_name;
 use writer::put_part;

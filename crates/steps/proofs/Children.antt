@@ -24,14 +24,16 @@ use Rattle.lift.specs.declared.Counts.{Counts}
 use Rattle.lift.specs.Bound.{boundFrom}
 use Rattle.lift.specs.Sheet.{Sheet, sheetOf}
 use Rattle.ends.proofs.Ends.{inner-rest, inner-end}
-use Rattle.naming.specs.declared.Frame.{Frame}
+use Rattle.frames.specs.declared.Frame.{Frame}
+use Rattle.frames.specs.Frames.{combinatorEnd, Stands, frameAt}
+use Rattle.frames.proofs.Ends.{combinator-end}
 use Rattle.naming.specs.declared.Named.{Named}
 use Rattle.naming.specs.declared.Named.the-variants.{Lift, Refused}
 use Rattle.naming.specs.Walk.{Start}
 use Rattle.naming.specs.Nodes.{walked, lifted, nodeOf, run}
-use Rattle.naming.specs.Frames.{combinatorEnd, Stands, OwnIs, frameAt}
+use Rattle.naming.specs.Frames.{OwnIs}
 use Rattle.naming.specs.Lifts.{Whole, Answers, Lifts}
-use Rattle.naming.proofs.Ends.{begins, combinator-end}
+use Rattle.naming.proofs.Begins.{begins}
 use Rattle.naming.proofs.Opened.{frame-opens}
 use Rattle.naming.proofs.Machine.{steps-walked, steps-lifted, steps-refused}
 use Rattle.steps.specs.Steps.{Sound, weight, Opened, ChildIs, Comes}

@@ -1,46 +1,25 @@
--- The steps of the pass over a body: what a node does next, its child, its end.
+-- The step of the pass over a body that opens a child.
 use mathlib.Core.Path.{_≡_}
-use mathlib.Core.Bool.{true}
 use mathlib.Core.List.{List, _∷_}
 use Prim.Native.Nat.{ℕ, _+_, _-_, _*_, _≤_, _<_, min}
-use lib.Dec.{eqb}
-use lib.ListN.{length, take, set}
+use lib.ListN.{length, take}
 use Rattle.definition.specs.Code.{Code, number}
 use Rattle.definition.specs.Res.{Res, bad}
 use Rattle.definition.specs.Tree.{Name, Combinator}
 use Rattle.definition.specs.Size.{size, levels}
 use Rattle.seek.specs.At.{pastAt, pick}
 use Rattle.names.specs.Name.{Held}
+use Rattle.frames.specs.declared.Frame.{Frame}
+use Rattle.frames.specs.Frames.{combinatorEnd, Stands}
 use Rattle.lift.specs.declared.Counts.{Counts}
 use Rattle.lift.specs.Bound.{boundFrom}
 use Rattle.lift.specs.Sheet.{Sheet, sheetOf}
-use Rattle.naming.specs.Walk.{plus, Extent}
+use Rattle.naming.specs.Walk.{Extent}
 use Rattle.naming.specs.Nodes.{Node, Wait, run, Opens}
-use Rattle.naming.specs.Frames.{combinatorEnd, Stands, FrameIs, Closing, Passing, Opening}
-use Rattle.naming.specs.declared.Frame.{Frame}
+use Rattle.naming.specs.Frames.{FrameIs}
 use Rattle.steps.specs.Good.{Good}
-use Rattle.steps.specs.declared.Step.{Step}
-use Rattle.steps.specs.declared.Step.the-variants as step
 use Rattle.steps.specs.declared.Child.{Child}
 use Rattle.steps.specs.declared.Child.the-variants as comes
-use Rattle.steps.specs.declared.Closed.{Closed}
-
--- ---- what a node does next
-pub record Reached (s : List ℕ) (k : ℕ) (f : Frame) (n : Node) (path′ : List ℕ) (at len : ℕ) : Type 0 where
-  pub base : Name
-  pub opening : Opening s k f n at base
-  pub held : Held path′ len base
-  pub longer : f .len ≤ len
-  pub chain : f .chained ≡ true → at ≡ pastAt s (f .end) 1
-
-pub record Reaches (s : List ℕ) (f : Frame) (path path′ : List ℕ) (at len : ℕ) : Type 0 where
-  pub kept : take (f .len) path′ ≡ take (f .len) path
-  pub reaches : (binders : List ℕ) (k : ℕ) (n : Node) → length s ≤ 16384 → FrameIs s path binders k f n → Reached s k f n path′ at len
-
-unfoldable pub StepIs : List ℕ → Frame → List ℕ → List ℕ → Step → Type 0
-StepIs s f path path′ step.Done = (path′ ≡ path) × ((binders : List ℕ) (k : ℕ) (n : Node) → length s ≤ 16384 → FrameIs s path binders k f n → Closing f n)
-StepIs s f path path′ (step.Pass e) = (path′ ≡ path) × ((binders : List ℕ) (k : ℕ) (n : Node) → length s ≤ 16384 → FrameIs s path binders k f n → Passing s path binders k f n e)
-StepIs s f path path′ (step.Child at len) = Reaches s f path path′ at len
 
 -- ---- what every frame in use keeps
 pub record Sound (s : List ℕ) (f : Frame) : Type 0 where
@@ -85,12 +64,3 @@ pub record Comes (s : List ℕ) (at : ℕ) (path : List ℕ) (len : ℕ) (binder
       → Opens n c at base wait → boundFrom s binders 0 b ≡ n .env → 4 * b ≤ at → Good s made places hashes hints rows params number order w m
       → ChildIs s path′ binders k at len b c n wait (sheetOf s made places rows params (take m order) w) (w .lifts) (λ v. sheetOf s made′ places′ rows′ params′ (take m order) v)
       (λ v. Good s made′ places′ hashes′ hints′ rows′ params′ number′ order v m) r
-
--- ---- the end of a node
-unfoldable pub closedOf : Frame → ℕ → Closed
-closedOf f n =
-    let k = plus (f .done) (f .end - f .here) in
-    pick (eqb (f .own) 0) (record { whole = plus (plus k 1) (f .link); inner = k; finished = n }) (record { whole = f .call; inner = f .call - 1; finished = n + 1 })
-
-unfoldable pub orderOf : Frame → List ℕ → ℕ → List ℕ
-orderOf f order n = pick (eqb (f .own) 0) order (set order n (min (f .own - 1) 65535))

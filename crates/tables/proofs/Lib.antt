@@ -1,1 +1,3 @@
 pub mod Last
+pub mod Stored
+pub mod Params

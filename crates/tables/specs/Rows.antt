@@ -7,7 +7,7 @@ use mathlib.Core.Bool.{Bool, true, false, cond}
 use mathlib.Core.List.{List, [], _∷_, _++_, map}
 use Prim.Native.Nat.{ℕ, zero, suc, _+_, _*_}
 use lib.Dec.{eqb}
-use lib.ListN.{length, take, drop, getD}
+use lib.ListN.{length, take, drop, getD, set}
 use Rattle.definition.specs.Tree.{Name}
 use Rattle.lookup.specs.Name.{nameAt}
 use Rattle.lifting.specs.Records.{Ref, own, passed, Record}
@@ -41,6 +41,10 @@ namesFrom s params j (suc n) = take (getD params (4 * j + 1) 0) (drop (getD para
 unfoldable pub typesFrom : List ℕ → ℕ → ℕ → List TypeAt
 typesFrom params j zero = []
 typesFrom params j (suc n) = record { own = eqb (getD params (4 * j + 3) 0) 1; at = getD params (4 * j + 2) 0 } ∷ typesFrom params (j + 1) n
+
+-- the table with the parameter number i; that of binders has four numbers for each too
+unfoldable pub withParam : List ℕ → ℕ → ℕ → ℕ → ℕ → ℕ → List ℕ
+withParam d i place len at sort = set (set (set (set d (4 * i) place) (4 * i + 1) len) (4 * i + 2) at) (4 * i + 3) sort
 
 -- the row of lift i, and the rows of the first n lifts in walk order
 unfoldable pub rowAt : List ℕ → List ℕ → List ℕ → List ℕ → ℕ → Row

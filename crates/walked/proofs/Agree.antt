@@ -28,7 +28,8 @@ use Rattle.lifting.proofs.Book.{in-rangeAll}
 use Rattle.tables.specs.Rows.{rowOf, lastFrom}
 use Rattle.lift.specs.Bound.{Bound}
 use Rattle.lift.specs.Sheet.{Sheet, callSize, headSize, entered, fits, enterWith}
-use Rattle.naming.specs.Walk.{plus, Extent, Start, Step, starts, finish, called, visit, binds, walk, walkI, walkF, walkC}
+use Rattle.tables.specs.Numbers.{plus}
+use Rattle.naming.specs.Walk.{Extent, Start, Step, starts, finish, called, visit, binds, walk, walkI, walkF, walkC}
 use Rattle.walked.specs.Book.{ownBound, walkAll, blank, walkBook}
 use Rattle.walked.specs.Hands.{WalksAsTraced}
 use Rattle.walked.proofs.Alike.{lastAt, last-here, last-other, last-kept, Alike, Kept, Did, Makes, nothing-made, one, two, new-right, one-more, rather}

@@ -12,7 +12,8 @@ use Rattle.definition.specs.Write.{wName, wText, wSelector, wLabel, wOpen, wShu
 use Rattle.definition.specs.Size.{size}
 use Rattle.definition.specs.Macros.{innerOf}
 use Rattle.laws.proofs.Sizes.{sizeI, sizeF, sizeC, size-plain, size-chained, size-struct, size-choice, size-shell, size-field, size-constant, size-case}
-use Rattle.naming.specs.Walk.{plus, Extent, called}
+use Rattle.tables.specs.Numbers.{plus}
+use Rattle.naming.specs.Walk.{Extent, called}
 
 unfoldable pub cut : ℕ → ℕ
 cut n = min n 65535

@@ -2,7 +2,7 @@
 -- Assumes nothing.
 use native.Mathlib.Omega.{arith}
 use borrow.Author.Needs.{needs}
-use Rattle.lift.proofs.Params.{param-put}
+use Rattle.tables.proofs.Params.{param-put}
 use Rattle.lift.proofs.put_param.Statement.{statement}
 use Rattle.lift.proofs.put_param.Tie as tie
 

@@ -3,7 +3,7 @@
 use mathlib.Core.Path.{refl, sym, _∙_}
 use native.Mathlib.Omega.{arith}
 use borrow.Author.Needs.{needs}
-use Rattle.naming.proofs.Ends.{end-past, stood, follows}
+use Rattle.frames.proofs.Ends.{end-past, stood, follows}
 use Rattle.steps.proofs.Children.{whole-of, child-walked, child-refused, child-lifted}
 use Rattle.steps.proofs.open_child.Statement.{statement}
 use Rattle.steps.proofs.open_child.Tie as tie
