@@ -83,9 +83,6 @@ module _ (s : List ℕ) (n : Name) where
       abbrev pub Clear : ℕ → Type 0
       Clear j = (k : ℕ) → k < j → k < b → isNamed s n (binderAt t k) ≡ false
 
-      pub clear-none : Clear 0
-      clear-none k h g = absurd (omega arith)
-
       pub found-end : (j : ℕ) → b ≤ j → Clear j → Missing ≡ foundIn s n (bindersFrom t 0 b)
       found-end j h c = sym (found-none 0 b (λ k l g. c k (omega arith) (omega arith)))
 
