@@ -1,38 +1,40 @@
--- Binders one by one, and the first of a name.
+-- What is found of a name.
 -- Assumes nothing.
-use mathlib.Core.Path.{_≡_, refl, _∙_}
+use mathlib.Core.Path.{_≡_, refl, subst}
 use mathlib.Core.Bool.{Bool, true, false, cond}
-use mathlib.Core.List.{List, [], _∷_, _++_}
-use Prim.Native.Nat.{ℕ, zero, suc, _+_, _-_, _*_, _≤_, _<_}
+use mathlib.Core.List.{List}
+use Prim.Native.Nat.{ℕ, zero, suc, _+_, _≤_}
 use native.Mathlib.Omega.{arith}
-use native.Mathlib.Numerals.{add-one}
-use lib.ListN.{getD}
 use Rattle.definition.specs.Res.{Maybe, absent, just}
 use Rattle.definition.specs.Tree.{Name}
-use Rattle.definition.specs.Names.{eqName}
-use Rattle.lookup.specs.Name.{nameAt}
-use Rattle.lift.specs.Bound.{Bound, boundAt, boundFrom, firstOf, First}
+use Rattle.binders.specs.declared.Binder.{Binder}
+use Rattle.binders.specs.declared.Found.{Found}
+use Rattle.binders.specs.declared.Found.the-variants.{Bound as found, Missing}
+use Rattle.binders.specs.Row.{binderAt, bindersFrom, isNamed, foundIn}
+use Rattle.lift.specs.Bound.{Bound, boundOf, boundAt, boundFrom, firstOf, Sized}
 
--- j binders are passed, none of the name
-abbrev pub Passed : List ℕ → List ℕ → Name → ℕ → ℕ → Type 0
-Passed s t n b j = firstOf (boundFrom s t 0 b) n ≡ firstOf (boundFrom s t j (b - j)) n
+-- the record that is found of a name, and the binder by place that it stands for
+abbrev pub boundIn : List ℕ → Found → Maybe Bound
+boundIn s (found d) = just (boundOf s d)
+boundIn s Missing = absent
 
-module _ (s t : List ℕ) (n : Name) (b j : ℕ) where
-  pub passed-none : Passed s t n b 0
-  passed-none = let e : b - 0 ≡ b = omega arith in rw e
+bound-test : (s : List ℕ) (r : Bool) (d : Binder) (x : Found) → cond r (just (boundOf s d)) (boundIn s x) ≡ boundIn s (cond r (found d) x)
+bound-test s true d x = refl
+bound-test s false d x = refl
 
-  shown : j < b → boundFrom s t j (b - j) ≡ boundAt s t j ∷ boundFrom s t (j + 1) (b - (j + 1))
-  unfolding boundFrom
-  shown h = let e : b - j ≡ suc (b - (j + 1)) = omega arith in rw e
+pub first-found : (s t : List ℕ) (n : Name) (j m : ℕ) → firstOf (boundFrom s t j m) n ≡ boundIn s (foundIn s n (bindersFrom t j m))
+unfolding firstOf boundFrom boundAt foundIn bindersFrom
+first-found s t n j zero = refl
+first-found s t n j (suc m) = rw (first-found s t n (j + 1) m) (bound-test s (isNamed s n (binderAt t j)) (binderAt t j) (foundIn s n (bindersFrom t (j + 1) m)))
 
-  pub passed-here : j < b → Passed s t n b j → eqName (nameAt s (getD t (4 * j) 0)) n ≡ true → firstOf (boundFrom s t 0 b) n ≡ just (boundAt s t j)
-  unfolding firstOf boundAt
-  passed-here h p e = p ∙ (rw (shown h, e))
-
-  pub passed-on : j < b → Passed s t n b j → eqName (nameAt s (getD t (4 * j) 0)) n ≡ false → Passed s t n b (j + 1)
-  unfolding firstOf boundAt
-  passed-on h p e = p ∙ (rw (shown h, e))
-
-  pub passed-all : b ≤ j → Passed s t n b j → firstOf (boundFrom s t 0 b) n ≡ absent
-  unfolding firstOf boundFrom
-  passed-all h p = let e : b - j ≡ 0 = omega arith in p ∙ (rw e)
+-- it is a record of the table, so that its type has at least three bytes
+pub found-sized : (s t : List ℕ) (n : Name) (j m : ℕ) (d : Binder) → foundIn s n (bindersFrom t j m) ≡ found d → Sized t (j + m) → 3 ≤ d .size
+unfolding foundIn bindersFrom binderAt
+found-sized s t n j zero d e h = let z : _≡_ {A = ℕ} 0 1 = cc in absurd (omega arith)
+found-sized s t n j (suc m) d e h = step (isNamed s n (binderAt t j)) e (λ g. found-sized s t n (j + 1) m d g (λ i l. h i (omega arith)))
+  where
+    step : (r : Bool) → cond r (found (binderAt t j)) (foundIn s n (bindersFrom t (j + 1) m)) ≡ found d → (foundIn s n (bindersFrom t (j + 1) m) ≡ found d → 3 ≤ d .size) → 3 ≤ d .size
+    step true e go =
+        let q : binderAt t j ≡ d = cc in
+        subst (λ (x : Binder). 3 ≤ x .size) q (h j (omega arith))
+    step false e go = go e

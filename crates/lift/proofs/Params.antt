@@ -14,10 +14,11 @@ use Rattle.definition.specs.Res.{Maybe, absent, just}
 use Rattle.definition.specs.Tree.{Name}
 use Rattle.tables.specs.Rows.{namesFrom, typesFrom, withParam}
 use Rattle.tables.proofs.Params.{Same, names-last, types-last, names-kept, types-kept, param-length, param-before, param-place, param-len, param-at, param-own}
+use Rattle.binders.specs.declared.Binder.{Binder}
 use Rattle.uses.specs.Uses.{nameIn, namesIn}
 use Rattle.lift.specs.declared.Built.{Built}
 use Rattle.lift.specs.declared.Built.the-variants.{All, Missing}
-use Rattle.lift.specs.Bound.{Bound, typeOf, boundAt, firstOf, joined, bindersOf, namesSize, typesSize, Filled, Within, Builds}
+use Rattle.lift.specs.Bound.{Bound, typeOf, boundOf, firstOf, joined, bindersOf, namesSize, typesSize, Filled, Within, Builds}
 
 -- ---- one name more
 joined-none : (x : Maybe Bound) → joined x absent ≡ absent
@@ -95,41 +96,39 @@ module _ {s uses : List ℕ} {i : ℕ} {env : List Bound} {params₀ : List ℕ}
   pub filled-missing : (k : ℕ) → i < k → k ≤ length uses → firstOf env (nameIn s (getD uses i 0)) ≡ absent → bindersOf env (namesIn s (take k uses)) ≡ absent
   filled-missing k h l e = rw (uses-split s uses k i h l) (binders-missing env (namesIn s (take i uses)) (nameIn s (getD uses i 0)) (namesIn s (drop (suc i) (take k uses))) e)
 
-  pub filled-more : (binders : List ℕ) (j : ℕ) {params′ : List ℕ} {len size : ℕ} → firstOf env (nameIn s (getD uses i 0)) ≡ just (boundAt s binders j)
-      → params′ ≡ withParam params (first + i) (min (getD uses i 0 / 256) 65535) (getD uses i 0 % 256) (getD binders (4 * j + 1) 0) (getD binders (4 * j + 2) 0)
-      → len ≡ length (nameIn s (getD uses i 0)) → size ≡ getD binders (4 * j + 3) 0 → Filled s uses (i + 1) env params₀ first params′ (names + 1 + len) (types + size)
-  unfolding boundAt nameIn
-  filled-more binders j {params′} {len} {size} e w q z =
+  pub filled-more : (d : Binder) {params′ : List ℕ} {len : ℕ} → firstOf env (nameIn s (getD uses i 0)) ≡ just (boundOf s d)
+      → params′ ≡ withParam params (first + i) (min (getD uses i 0 / 256) 65535) (getD uses i 0 % 256) (d .at) (d .own)
+      → len ≡ length (nameIn s (getD uses i 0)) → Filled s uses (i + 1) env params₀ first params′ (names + 1 + len) (types + d .size)
+  unfolding nameIn
+  filled-more d {params′} {len} e w q =
       let x = getD uses i 0 in
       let p = min (x / 256) 65535 in
-      let a = getD binders (4 * j + 1) 0 in
-      let o = getD binders (4 * j + 2) 0 in
-      let same : Same (4 * (first + i)) params′ params = rw w (param-before params (first + i) p (x % 256) a o) in
+      let same : Same (4 * (first + i)) params′ params = rw w (param-before params (first + i) p (x % 256) (d .at) (d .own)) in
       let room : 4 * (first + (i + 1)) ≤ length params₀ → 4 * (first + i + 1) ≤ length params = λ h. omega (arith, f .long) in
       record {
-        of = f .of ++ (boundAt s binders j ∷ []);
-        all = rw (uses-more s uses i inside) (binders-more env (namesIn s (take i uses)) (nameIn s x) (f .of) (boundAt s binders j) (f .all) e);
+        of = f .of ++ (boundOf s d ∷ []);
+        all = rw (uses-more s uses i inside) (binders-more env (namesIn s (take i uses)) (nameIn s x) (f .of) (boundOf s d) (f .all) e);
         names-size = rw (uses-more s uses i inside, names-size-more (namesIn s (take i uses)) (nameIn s x), ← (f .names-size), q);
-        types-size = rw (types-size-more (f .of) (boundAt s binders j), ← (f .types-size), z);
+        types-size = rw (types-size-more (f .of) (boundOf s d), ← (f .types-size));
         names-in = λ l h. ap (namesFrom s params′ first) (add-one i) ∙ names-last s params′ first i ∙ (rw (
           names-kept s params′ params first i same,
           f .names-in l (omega arith),
           uses-more s uses i inside,
           w,
-          param-len params (first + i) p (x % 256) a o (room h),
-          param-place params (first + i) p (x % 256) a o (room h),
+          param-len params (first + i) p (x % 256) (d .at) (d .own) (room h),
+          param-place params (first + i) p (x % 256) (d .at) (d .own) (room h),
           cut-place s (x / 256) (x % 256) l,
         ));
         types-in = λ h. ap (typesFrom params′ first) (add-one i) ∙ types-last params′ first i ∙ (rw (
           types-kept params′ params first i same,
           f .types-in (omega arith),
-          map-append typeOf (f .of) (boundAt s binders j ∷ []),
+          map-append typeOf (f .of) (boundOf s d ∷ []),
           w,
-          param-at params (first + i) p (x % 256) a o (room h),
-          param-own params (first + i) p (x % 256) a o (room h),
+          param-at params (first + i) p (x % 256) (d .at) (d .own) (room h),
+          param-own params (first + i) p (x % 256) (d .at) (d .own) (room h),
         ));
         kept = λ k h. same k (omega arith) ∙ f .kept k h;
-        long = rw w (param-length params (first + i) p (x % 256) a o) ∙ f .long;
+        long = rw w (param-length params (first + i) p (x % 256) (d .at) (d .own)) ∙ f .long;
       }
 
 pub use-short : (s : List ℕ) (x : ℕ) {n : Name} → n ≡ nameIn s x → length n ≤ 255

@@ -1,5 +1,4 @@
--- Binders by place. `binders` has four numbers for each: the place of the name's length byte in the expanded book, the place of the type there,
--- 1 where that is a parameter's own type and 0 where it is the combinator of a Dependent field, and the size of the type as it stands after lifting.
+-- Binders by place, as their records say (crate binders).
 -- Document 01: "the definition's own parameters, then the Dependent fields passed on the way, outermost first, types as they stand after lifting".
 use mathlib.Core.Bool.{Bool, true, false, cond}
 use mathlib.Core.List.{List, [], _∷_, _++_, map}
@@ -12,6 +11,8 @@ use Rattle.definition.specs.Tree.{Name}
 use Rattle.definition.specs.Names.{eqName}
 use Rattle.lookup.specs.Name.{nameAt}
 use Rattle.tables.specs.Rows.{TypeAt, namesFrom, typesFrom}
+use Rattle.binders.specs.declared.Binder.{Binder}
+use Rattle.binders.specs.Row.{binderAt}
 use Rattle.uses.specs.Uses.{nameIn, namesIn}
 use Rattle.lift.specs.declared.Built.{Built}
 use Rattle.lift.specs.declared.Built.the-variants.{All, Missing}
@@ -24,12 +25,11 @@ pub record Bound : Type 0 where
 abbrev pub typeOf : Bound → TypeAt
 typeOf b = b .type
 
+abbrev pub boundOf : List ℕ → Binder → Bound
+boundOf s b = record { name = nameAt s (b .name); type = record { own = eqb (b .own) 1; at = b .at }; size = b .size }
+
 unfoldable pub boundAt : List ℕ → List ℕ → ℕ → Bound
-boundAt s table j = record {
-  name = nameAt s (getD table (4 * j) 0);
-  type = record { own = eqb (getD table (4 * j + 2) 0) 1; at = getD table (4 * j + 1) 0 };
-  size = getD table (4 * j + 3) 0;
-}
+boundAt s table j = boundOf s (binderAt table j)
 
 -- n of them from number j on
 unfoldable pub boundFrom : List ℕ → List ℕ → ℕ → ℕ → List Bound
@@ -59,12 +59,6 @@ namesSize (n ∷ ns) = 1 + length n + namesSize ns
 unfoldable pub typesSize : List Bound → ℕ
 typesSize [] = 0
 typesSize (b ∷ bs) = b .size + typesSize bs
-
--- r is the number of the first binder of a name, or b
-pub record First (s table : List ℕ) (name : Name) (b r : ℕ) : Type 0 where
-  pub within : r ≤ b
-  pub some : r < b → firstOf (boundFrom s table 0 b) name ≡ just (boundAt s table r)
-  pub none : r ≡ b → firstOf (boundFrom s table 0 b) name ≡ absent
 
 -- each name has its binder: `of`; the parameters stand in the table from number `first` on, as far as it reaches, and what stood before is there
 pub record Filled (s uses : List ℕ) (k : ℕ) (env : List Bound) (params : List ℕ) (first : ℕ) (params′ : List ℕ) (names types : ℕ) : Type 0 where

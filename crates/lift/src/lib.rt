@@ -1,16 +1,16 @@
 // One lift of the naming pass: its parameters and their binders, its row, its name.
-use lookup::name_at;
-use lookup::same_name;
-use tables::fetch;
+use binders::Binder;
+use binders::Found;
+use binders::find_binder;
 use tables::store;
 use taken::take_name;
 use uses::name_of_use;
 ghost use mathlib.Core.Path.{_≡_};
 ghost use Prim.Native.Nat.{_≤_, _<_, _+_, _*_, _/_, _%_, min};
-ghost use lib.ListN.{length, take, getD};
+ghost use lib.ListN.{length, take};
 ghost use Rattle.tables.specs.Rows.{withParam};
 ghost use Rattle.uses.specs.Uses.{namesIn};
-ghost use Rattle.lift.specs.Bound.{boundFrom, Sized, First, Builds};
+ghost use Rattle.lift.specs.Bound.{boundFrom, Sized, Builds};
 ghost use Rattle.lift.specs.Sheet.{Tables, withRow};
 ghost use Rattle.lift.specs.Enters.{Adds, Enters};
 
@@ -36,32 +36,15 @@ pub enum Lifted {
     Refused(u8),
 }
 
-// The number of the first binder of a name among the first b, or b.
-fn find_binder(s: &[u8], name: &[u8], binders: &[u16], b: usize) -> usize
-    requires { ⌜ b ≤ 65536 ⌝ }
-    ensures { λ r. ⌜ First (now (s .entry)) (now (binders .entry)) (now (name .entry)) b r ⌝ }
-{
-    let mut j = 0;
-    while j < b {
-        let at = fetch(binders, 4 * j);
-        let label = name_at(s, at);
-        if same_name(label, name) {
-            return j;
-        }
-        j += 1;
-    }
-    b
-}
-
-// The parameter number i, from the use that names it and the binder number j that types it.
-fn put_param(x: u32, binders: &[u16], j: usize, params: &mut [u16], i: usize)
-    requires { ⌜ (i ≤ 1048576) × (j ≤ 65536) ⌝ }
-    ensures { λ _. ⌜ now (params .exit) ≡ withParam (now (params .entry)) i (min (x / 256) 65535) (x % 256) (getD (now (binders .entry)) (4 * j + 1) 0) (getD (now (binders .entry)) (4 * j + 2) 0) ⌝ }
+// The parameter number i, from the use that names it and the binder that types it.
+fn put_param(x: u32, d: Binder, params: &mut [u16], i: usize)
+    requires { ⌜ i ≤ 1048576 ⌝ }
+    ensures { λ _. ⌜ now (params .exit) ≡ withParam (now (params .entry)) i (min (x / 256) 65535) (x % 256) (d .at) (d .own) ⌝ }
 {
     let place = (x / 256) as usize;
     let len = (x % 256) as usize;
-    let at = fetch(binders, 4 * j + 1);
-    let own = fetch(binders, 4 * j + 2);
+    let at = d.at as usize;
+    let own = d.own as usize;
     store(params, 4 * i, place);
     store(params, 4 * i + 1, len);
     store(params, 4 * i + 2, at);
@@ -87,15 +70,19 @@ fn build_param_defns(
     while i < k {
         let x = uses[i];
         let name = name_of_use(s, x);
-        let j = find_binder(s, name, binders, b);
-        if j == b {
-            return Built::Missing;
+        let found = find_binder(s, name, binders, b);
+        match found {
+            Found::Missing => {
+                return Built::Missing;
+            }
+            Found::Bound(d) => {
+                put_param(x, d, params, first + i);
+                let size = d.size as usize;
+                names = names + 1 + name.len();
+                types = types + size;
+                i += 1;
+            }
         }
-        put_param(x, binders, j, params, first + i);
-        let size = fetch(binders, 4 * j + 3);
-        names = names + 1 + name.len();
-        types = types + size;
-        i += 1;
     }
     Built::All(names, types)
 }

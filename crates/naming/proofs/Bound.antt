@@ -12,6 +12,7 @@ use Rattle.definition.specs.Tree.{Name}
 use Rattle.lookup.specs.Name.{nameAt}
 use Rattle.tables.specs.Rows.{withParam}
 use Rattle.tables.proofs.Params.{Same, param-before, param-place, param-len, param-at, param-own}
+use Rattle.binders.specs.Row.{binderAt}
 use Rattle.lift.specs.Bound.{Bound, boundAt, boundFrom}
 
 bound-last : (s t : List ℕ) (j n : ℕ) → boundFrom s t j (suc n) ≡ boundFrom s t j n ++ (boundAt s t (j + n) ∷ [])
@@ -20,7 +21,7 @@ bound-last s t j zero = let e : j + 0 ≡ j = omega arith in rw e
 bound-last s t j (suc n) = let e : j + suc n ≡ j + 1 + n = omega arith in rw e (ap (boundAt s t j ∷_) (bound-last s t (j + 1) n))
 
 pub bound-kept : (s a b : List ℕ) (j n : ℕ) → Same (4 * (j + n)) a b → boundFrom s a j n ≡ boundFrom s b j n
-unfolding boundFrom boundAt
+unfolding boundFrom boundAt binderAt
 bound-kept s a b j zero h = refl
 bound-kept s a b j (suc n) h =
     rw (h (4 * j) (omega arith), h (4 * j + 1) (omega arith), h (4 * j + 2) (omega arith), h (4 * j + 3) (omega arith), bound-kept s a b (j + 1) n (λ i l. h i (omega arith)))
@@ -28,7 +29,7 @@ bound-kept s a b j (suc n) h =
 -- one more binder behind b
 pub bound-more : (s t : List ℕ) (b name at own size : ℕ) → 4 * (b + 1) ≤ length t
     → boundFrom s (withParam t b name at own size) 0 (b + 1) ≡ boundFrom s t 0 b ++ (record { name = nameAt s name; type = record { own = eqb own 1; at = at }; size = size } ∷ [])
-unfolding boundAt
+unfolding boundAt binderAt
 bound-more s t b name at own size h =
     let w = withParam t b name at own size in
     let z : 0 + b ≡ b = omega arith in

@@ -25,7 +25,7 @@ returns-4 c = step-at _ _ _ _ _ (sym (c .before .before .before .before .before 
 
 returns-5 : tie.Need-returns-5
 unfolding StepAt
-returns-5 c = step-at _ _ _ _ _ (sym (c .before .before .before .before .before .next4 .given .1) ∙ c .before .before .before .before .before .before .before .next-of .ensures) (record { to = _; is = refl; named = c .before .before .choice-generated-name .ensures })
+returns-5 c = step-at _ (c .before .before .before .before .before .before .before .before .before .before .args .f) _ _ _ (sym (c .before .before .before .before .before .next4 .given .1) ∙ c .before .before .before .before .before .before .before .next-of .ensures) (record { to = _; is = refl; named = c .before .before .choice-generated-name .ensures })
 
 returns-6 : tie.Need-returns-6
 unfolding StepAt

@@ -1,12 +1,12 @@
 -- `lift::build_param_defns` meets its contract.
 -- Assumes nothing.
-use mathlib.Core.Path.{_≡_, ap}
-use Prim.Native.Nat.{_-_, _*_, _≤_}
+use mathlib.Core.Path.{_≡_, ap, sym, _∙_}
+use Prim.Native.Nat.{_-_, _≤_}
 use native.Mathlib.Omega.{arith}
 use lib.ListN.{length}
 use borrow.Author.Needs.{needs}
-use Rattle.uses.specs.Uses.{nameIn}
 use Rattle.lift.specs.Bound.{boundFrom, Filled, Within, Builds}
+use Rattle.lift.proofs.Binders.{first-found, found-sized}
 use Rattle.lift.proofs.Params.{filled-none, filled-missing, filled-more, use-short}
 use Rattle.lift.proofs.build_param_defns.Statement.{statement}
 use Rattle.lift.proofs.build_param_defns.Tie as tie
@@ -20,35 +20,45 @@ abbrev μ-loop : tie.MeasureT-loop
 loop-holds : tie.Need-loop-holds Inv-loop μ-loop
 loop-holds c = (omega arith, record { names-least = omega arith; names-most = omega arith; types-least = omega arith; types-most = omega arith }, filled-none _ _ _ _ _)
 
+enum-told : tie.Need-enum-told Inv-loop μ-loop
+enum-told c = search needs
+
 returns : tie.Need-returns Inv-loop μ-loop
 unfolding Builds
 returns c =
-    let l = c .before .before .before .before .before .loop in
-    let s = c .before .before .before .before .before .before .before .before .before .before in
-    filled-missing (l .inv .2) (omega (arith, s .pre .1)) (s .args .k) (c .before .before .before .before .loop-test .taken) (s .pre .1)
-    (rw (← (c .before .before .name-of-use .ensures)) (c .before .find-binder .ensures .none (c .if1 .taken)))
+    let l = c .before .before .before .before .before .before .loop in
+    let s = c .before .before .before .before .before .before .before .before .before .before .before in
+    filled-missing (l .inv .2) (omega (arith, s .pre .1)) (s .args .k) (c .before .before .before .before .before .loop-test .taken) (s .pre .1)
+    (rw (← (c .before .before .before .name-of-use .ensures)) (first-found (s .args .s .now) (s .args .binders .now) (c .before .before .before .name-of-use .result .now) 0 (s .args .b) ∙ (rw (← (c .before .before .find-binder .ensures), c .enum-told .given .1))))
+
+enum-known : tie.Need-enum-known-found Inv-loop μ-loop
+enum-known c = search needs
 
 fits : tie.Need-add-names-2 Inv-loop μ-loop
-fits c = let short = use-short _ _ (c .before .before .before .before .before .before .before .name-of-use .ensures) in omega arith
+fits c = let short = use-short _ _ (c .before .before .before .before .before .before .before .before .before .name-of-use .ensures) in omega arith
+
+cast-size : tie.Need-cast-size Inv-loop μ-loop
+cast-size c = search needs
 
 more : tie.Need-add-types Inv-loop μ-loop
-more c = omega (arith, c .fetch .ensures .1)
+more c = omega (arith, c .struct-known .given)
 
 loop-again : tie.Need-loop-again Inv-loop μ-loop
 loop-again c =
-    let l = c .before .before .before .before .before .before .before .before .before .before .loop in
-    let n = c .before .before .before .before .before .before .before .name-of-use in
-    let f = c .before .before .before .before .before .before .find-binder in
-    let s = c .before .before .before .before .before .before .before .before .before .before .before .before .before .before .before in
+    let l = c .before .before .before .before .before .before .before .before .before .before .before .before .loop in
+    let n = c .before .before .before .before .before .before .before .before .before .name-of-use in
+    let f = c .before .before .before .before .before .before .before .before .find-binder in
+    let d = c .before .before .before .before .before .before .found .given .0 .0 in
+    let s = c .before .before .before .before .before .before .before .before .before .before .before .before .before .before .before .before .before in
+    let e = sym (f .ensures) ∙ c .before .before .before .before .before .before .found .given .1 in
     let q = ap length (n .ensures) in
     let short = use-short _ _ (n .ensures) in
-    let t = c .fetch .ensures in
-    let sized = s .pre .4 (f .result) (omega (arith, f .ensures .within, c .before .before .before .before .before .if1 .left)) in (
+    let sized = found-sized _ _ _ 0 _ d e (λ j h. s .pre .4 j (omega arith)) in (
       omega arith,
-      record { names-least = omega arith; names-most = omega arith; types-least = omega arith; types-most = omega arith },
-      filled-more (l .inv .2) (omega (arith, s .pre .1)) (s .args .binders .now) (f .result)
-          (rw (← (n .ensures)) (f .ensures .some (omega (arith, f .ensures .within, c .before .before .before .before .before .if1 .left))))
-          (c .before .before .before .put-param .ensures) q (c .fetch .ensures .0),
+      record { names-least = omega arith; names-most = omega arith; types-least = omega arith; types-most = omega (arith, c .struct-known .given) },
+      filled-more (l .inv .2) (omega (arith, s .pre .1)) d
+          (rw (← (n .ensures)) (first-found (s .args .s .now) (s .args .binders .now) (n .result .now) 0 (s .args .b) ∙ (rw e)))
+          (c .before .before .before .put-param .ensures) q,
     )
 
 returns-2 : tie.Need-returns-2 Inv-loop μ-loop
@@ -69,13 +79,13 @@ build-param-defns-spec =
     (λ c. omega (arith, c .before .before .before .before .before .before .before .pre .1))
     (λ c κs. search needs)
     (λ c κs. search needs)
+    enum-told
     (λ c. search needs)
     returns
+    enum-known
     (λ c. omega arith)
-    (λ c κs. (omega arith, omega (arith, c .before .before .find-binder .ensures .within)))
-    (λ c. omega (arith, c .before .before .before .before .before .find-binder .ensures .within))
-    (λ c. omega (arith, c .before .before .before .before .before .find-binder .ensures .within))
-    (λ c κs. search needs)
+    (λ c κs. omega arith)
+    cast-size
     (λ c. omega arith)
     fits
     more
