@@ -14,6 +14,7 @@ use Rattle.definition.specs.Tree.{Definition}
 use Rattle.definition.specs.Write.{wBook}
 use Rattle.definition.specs.Lift.{liftBook}
 use Rattle.definition.specs.Answer.{expanded, elaborated, Result, all, outcome, attempt, answer, output}
+use Rattle.laws.proofs.Steps.{grouped-out}
 use Rattle.closing.specs.declared.Elaborated.{Elaborated}
 use Rattle.closing.specs.declared.Elaborated.the-variants.{Refused}
 use Rattle.opening.specs.Opens.{opened, Refuses, Expands}
@@ -24,10 +25,6 @@ elaborated-says : (b : List ℕ) → elaborated b ≡ (expanded b >>= λ ds. out
 unfolding elaborated
 elaborated-says b = refl
 
-after : {A B C : Type 0} (m : Out A) (f : A → Out B) (g : B → Out C) → (m >>= f) >>= g ≡ m >>= λ a. f a >>= g
-after (refused k) f g = refl
-after (done a) f g = refl
-
 attempt-is : (b : List ℕ) (o n : ℕ) → attempt b o n ≡ (opened b n >>= λ ds. lifted ds o)
 unfolding attempt opened lifted
 attempt-is b o n = both (leb 65536 n)
@@ -36,7 +33,7 @@ attempt-is b o n = both (leb 65536 n)
     fits r = given (leb (length (wBook (all r))) o) output-short r
 
     both : (t : Bool) → (given t work-short b >>= λ c. elaborated c >>= λ r. fits r) ≡ ((given t work-short b >>= λ c. expanded c) >>= λ ds. outcome (liftBook ds) >>= λ r. fits r)
-    both true = rw (elaborated-says b) (after (expanded b) (λ ds. outcome (liftBook ds)) (λ r. fits r))
+    both true = rw (elaborated-says b) (grouped-out (expanded b) (λ ds. outcome (liftBook ds)) (λ r. fits r))
     both false = refl
 
 module _ {b : List ℕ} {n : ℕ} where
