@@ -36,13 +36,13 @@ attempt-is b o n = both (leb 65536 n)
     both true = rw (elaborated-says b) (grouped-out (expanded b) (λ ds. outcome (liftBook ds)) (λ r. fits r))
     both false = refl
 
-module _ {b : List ℕ} {n : ℕ} where
+module _ (b : List ℕ) (n : ℕ) where
   -- codes 1 to 6
-  pub reports-code : {out : List ℕ} {code : ℕ} → Refuses b n code → Reports (attempt b (length out) n) out out (Refused code)
+  pub reports-code : {out : List ℕ} {code : ℕ} → Refuses (opened b n) code → Reports (attempt b (length out) n) out out (Refused code)
   reports-code {out} r = rw (attempt-is b (length out) n) (reports-refused (r .is) (r .numbered))
 
   -- the expanded book in the first bytes of another
-  module _ {book : List ℕ} {len : ℕ} (o : Expands b n book len) where
+  module _ {book : List ℕ} {len : ℕ} (o : Expands (opened b n) book len) where
     pub opened-book : Expanded (take len book)
     opened-book = record { of = o .left; book = o .holds; isBook = o .isBook }
 
@@ -50,7 +50,7 @@ module _ {b : List ℕ} {n : ℕ} where
     reports-lifts {out} l = rw (attempt-is b (length out) n) (reports-lifted (o .is) (o .holds) (o .isBook) l)
 
   -- the book itself, where it is its own expansion
-  module _ (o : Expands b n b (length b)) where
+  module _ (o : Expands (opened b n) b (length b)) where
     whole : take (length b) b ≡ b
     whole = take-all (length b) b (omega arith)
 
