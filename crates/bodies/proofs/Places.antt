@@ -7,7 +7,7 @@ use Prim.Native.Nat.{ℕ, suc, _+_, _≤_, _<_}
 use native.Mathlib.Omega.{arith}
 use lib.ListN.{length, drop, getD, length-drop}
 use lib.Seq.{drop-cons}
-use Rattle.pieces.specs.Splice.{everyPlace}
+use Rattle.pieces.specs.Marked.{everyPlace}
 
 module _ (test : ℕ → Bool) (marks : List ℕ) (i : ℕ) (e : everyPlace test marks ≡ everyPlace test (drop i marks)) where
   every-on : i + 1 < length marks → everyPlace test marks ≡ test (getD marks i 0) && everyPlace test (drop (i + 2) marks)

@@ -3,18 +3,16 @@
 use mathlib.Core.Path.{_≡_, refl, sym, ap, _∙_}
 use mathlib.Core.List.{List, [], _∷_}
 use mathlib.Core.Bool.{Bool, true, false, _&&_}
-use Prim.Native.Nat.{ℕ, _+_, _-_, _*_, _≤_, _<_, max}
+use Prim.Native.Nat.{ℕ, _+_, _-_, _*_, _≤_, _<_}
 use native.Mathlib.Omega.{arith}
-use lib.ListN.{length, take, length-append}
+use lib.ListN.{length, take}
 use Rattle.definition.specs.Tree.{Name, Combinator, Param, Definition, format, constant, byte-order, macro}
-use Rattle.definition.specs.Write.{wName, wList, wParam, wCombinator, wDefinition, kindOf, kindByte, sizeOf, wBook}
+use Rattle.definition.specs.Write.{wCombinator, wDefinition, kindOf, kindByte}
 use Rattle.definition.specs.Size.{size, sizeBook, levels, levelsP, levelsBook}
 use Rattle.definition.specs.Bodies.{chainsOk, everyBody}
-use Rattle.laws.specs.Book.{IsBook}
-use Rattle.laws.proofs.Splits.{s-comb}
 use Rattle.seek.specs.At.{byteAt, pastAt, numberAt, namePast}
 use Rattle.seek.specs.Here.{Here}
-use Rattle.seek.proofs.Here.{here-length, name-here}
+use Rattle.seek.proofs.Here.{name-here}
 use Rattle.writer.proofs.Put.{take-written}
 use Rattle.marks.specs.declared.Walk.{Walk}
 use Rattle.marks.specs.Steps.{walk}
@@ -22,16 +20,12 @@ use Rattle.calls.specs.Walk.{combinatorAt}
 use Rattle.calls.specs.Walked.{Walked}
 use Rattle.pieces.specs.Pieces.{pieces, places}
 use Rattle.calls.proofs.Link.{walked}
-use Rattle.pieces.proofs.Room.{room-enough}
+use Rattle.pieces.proofs.Room.{size-here, room-enough}
 use Rattle.contents.specs.Listed.{Listed}
 use Rattle.contents.specs.Params.{ParamsPast}
 use Rattle.contents.proofs.Listed.{listed-kind, listed-size, listed-body, listed-deep, listed-next, book-listed}
 use Rattle.bodies.specs.Tested.{FormatTested, DefinitionTested, BodiesLeft, BodiesTested}
 use Rattle.pieces.proofs.Bools.{and-true}
-
-size-here : {s : List ℕ} {p : ℕ} (c : Combinator) (z : List ℕ) → Here s p (wCombinator c z) → p + size c ≤ length s
-unfolding size
-size-here {s} {p} c z h = omega (arith, simp length-append at (here-length (rw (s-comb c [] z) at h)))
 
 -- a format: the walk over its body leaves the marks of its calls
 module _ {s : List ℕ} (at : ℕ) {params body : ℕ} (e : params ≡ namePast s at) (p : ParamsPast s params body) (m₁ m₂ : List ℕ) (w : Walk)

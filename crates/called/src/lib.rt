@@ -6,7 +6,7 @@ use seek::past;
 use taken::find_name;
 use taken::take_source_name;
 ghost use mathlib.Core.Path.{_≡_};
-ghost use Rattle.pieces.specs.Splice.{everyPlace};
+ghost use Rattle.pieces.specs.Marked.{everyPlace};
 ghost use Rattle.called.specs.Known.{Takes, Named, Rows, knownAt};
 
 // The definition at a place gets row n if it is a format or a constant; the number of rows then.

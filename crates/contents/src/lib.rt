@@ -1,9 +1,8 @@
 // The definitions that a book's contents list, by position over validated bytes: what stands before a format's body.
-use marks::Walk;
 use seek::name_past;
 use seek::number;
 use seek::past;
-use skip::skip_inner;
+use skip::skip_over;
 ghost use Rattle.contents.specs.Params.{ParamPast, ParamsPast};
 
 // The place behind a parameter: a name and a type.
@@ -11,17 +10,7 @@ fn param_past(book: &[u8], at: usize, marks: &mut [u16]) -> usize
     ensures { λ r. ⌜ ParamPast (now (book .entry)) at r ⌝ }
 {
     let p = name_past(book, at);
-    let w = skip_inner(
-        book,
-        Walk {
-            at: p,
-            n: 0,
-            left: 64,
-            plain: true,
-        },
-        64,
-        marks,
-    );
+    let w = skip_over(book, p, marks);
     w.at
 }
 

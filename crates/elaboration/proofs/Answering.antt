@@ -14,6 +14,7 @@ use Rattle.definition.specs.Tree.{Definition}
 use Rattle.definition.specs.Write.{wBook}
 use Rattle.definition.specs.Lift.{liftBook}
 use Rattle.definition.specs.Answer.{expanded, elaborated, Result, all, outcome, attempt, answer, output}
+use Rattle.laws.proofs.Steps.{grouped-out}
 use Rattle.closing.specs.declared.Elaborated.{Elaborated}
 use Rattle.closing.specs.declared.Elaborated.the-variants.{Refused}
 use Rattle.opening.specs.Opens.{opened, Refuses, Expands}
@@ -24,10 +25,6 @@ elaborated-says : (b : List ℕ) → elaborated b ≡ (expanded b >>= λ ds. out
 unfolding elaborated
 elaborated-says b = refl
 
-after : {A B C : Type 0} (m : Out A) (f : A → Out B) (g : B → Out C) → (m >>= f) >>= g ≡ m >>= λ a. f a >>= g
-after (refused k) f g = refl
-after (done a) f g = refl
-
 attempt-is : (b : List ℕ) (o n : ℕ) → attempt b o n ≡ (opened b n >>= λ ds. lifted ds o)
 unfolding attempt opened lifted
 attempt-is b o n = both (leb 65536 n)
@@ -36,16 +33,16 @@ attempt-is b o n = both (leb 65536 n)
     fits r = given (leb (length (wBook (all r))) o) output-short r
 
     both : (t : Bool) → (given t work-short b >>= λ c. elaborated c >>= λ r. fits r) ≡ ((given t work-short b >>= λ c. expanded c) >>= λ ds. outcome (liftBook ds) >>= λ r. fits r)
-    both true = rw (elaborated-says b) (after (expanded b) (λ ds. outcome (liftBook ds)) (λ r. fits r))
+    both true = rw (elaborated-says b) (grouped-out (expanded b) (λ ds. outcome (liftBook ds)) (λ r. fits r))
     both false = refl
 
-module _ {b : List ℕ} {n : ℕ} where
+module _ (b : List ℕ) (n : ℕ) where
   -- codes 1 to 6
-  pub reports-code : {out : List ℕ} {code : ℕ} → Refuses b n code → Reports (attempt b (length out) n) out out (Refused code)
+  pub reports-code : {out : List ℕ} {code : ℕ} → Refuses (opened b n) code → Reports (attempt b (length out) n) out out (Refused code)
   reports-code {out} r = rw (attempt-is b (length out) n) (reports-refused (r .is) (r .numbered))
 
   -- the expanded book in the first bytes of another
-  module _ {book : List ℕ} {len : ℕ} (o : Expands b n book len) where
+  module _ {book : List ℕ} {len : ℕ} (o : Expands (opened b n) book len) where
     pub opened-book : Expanded (take len book)
     opened-book = record { of = o .left; book = o .holds; isBook = o .isBook }
 
@@ -53,7 +50,7 @@ module _ {b : List ℕ} {n : ℕ} where
     reports-lifts {out} l = rw (attempt-is b (length out) n) (reports-lifted (o .is) (o .holds) (o .isBook) l)
 
   -- the book itself, where it is its own expansion
-  module _ (o : Expands b n b (length b)) where
+  module _ (o : Expands (opened b n) b (length b)) where
     whole : take (length b) b ≡ b
     whole = take-all (length b) b (omega arith)
 

@@ -1,6 +1,5 @@
 // Where the inner at a place ends: by walking over it, or by a table that remembers.
-use marks::Walk;
-use skip::skip_inner;
+use skip::skip_over;
 ghost use mathlib.Core.Path.{_≡_};
 ghost use Rattle.ends.specs.Ends.{innerEnd, Right, Stood};
 
@@ -9,13 +8,7 @@ pub fn inner_end(s: &[u8], at: usize) -> usize
     ensures { λ r. ⌜ r ≡ innerEnd (now (s .entry)) at ⌝ }
 {
     let mut none = [0u16; 1];
-    let w = Walk {
-        at,
-        n: 0,
-        left: 64,
-        plain: true,
-    };
-    let u = skip_inner(s, w, 64, &mut none);
+    let u = skip_over(s, at, &mut none);
     u.at
 }
 

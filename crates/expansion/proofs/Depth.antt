@@ -18,7 +18,7 @@ use Rattle.laws.proofs.Steps.{Yields, stops, yields, next, where-true}
 use Rattle.pieces.specs.Pieces.{Piece, raw, pieces, piecesI, piecesF, piecesC}
 use Rattle.pieces.proofs.Expanded.{All}
 use Rattle.pieces.proofs.Deeper.{grown}
-use Rattle.substitution.proofs.Opening.{inner-deep}
+use Rattle.replaced.proofs.Opening.{inner-deep}
 use Rattle.expansion.specs.Deep.{DeepM, DeepP}
 
 -- an instance has at most 64 levels, where the body has

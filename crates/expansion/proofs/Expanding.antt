@@ -21,9 +21,9 @@ use Rattle.laws.proofs.Splits.{s-inner}
 use Rattle.pieces.proofs.Expanded.{onto}
 use Rattle.known.specs.declared.Found.{Found}
 use Rattle.known.specs.declared.Found.the-variants.{At, Unknown}
-use Rattle.substitution.specs.Instance.{Areas}
+use Rattle.substitution.specs.Turned.{Areas}
 use Rattle.known.specs.Table.{Rows, Finds, FindsMacro}
-use Rattle.substitution.specs.Call.{Puts, Called}
+use Rattle.replaced.specs.Call.{Puts, Called}
 use Rattle.expansion.specs.Expand.{IsCall, a-call, a-macro, Replaced, Becomes, MacroOf, front, Expanding}
 use Rattle.substitution.proofs.Stands.{part-on, inner-here, step-here, call-tag, macro-tag, macro-name}
 use Rattle.expansion.proofs.Next.{Next, next-of, front-none, front-front, puts-stays, puts-over, puts-most, puts-front}

@@ -18,11 +18,11 @@ use Rattle.pieces.specs.Pieces.{Piece, raw, call, macro-call, places, written, 
 use Rattle.laws.proofs.Splits.{s-inner}
 use Rattle.pieces.proofs.Expanded.{onto}
 use Rattle.expansion.specs.Deep.{DeepP}
-use Rattle.substitution.specs.Call.{Puts}
+use Rattle.replaced.specs.Call.{Puts}
 use Rattle.expansion.specs.Expand.{IsCall, a-call, a-macro, front}
 use Rattle.substitution.proofs.Copied.{drop-two}
 use Rattle.substitution.proofs.Stands.{step-here}
-use Rattle.pieces.proofs.Spliced.{part-here}
+use Rattle.pieces.proofs.Marked.{part-here}
 
 pub front-none : (t : Out (List ℕ)) → front [] t ≡ t
 front-none (refused k) = refl

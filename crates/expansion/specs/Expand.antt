@@ -10,8 +10,9 @@ use Rattle.definition.specs.Macros.{Macro, instance, innerOf, expandI}
 use Rattle.seek.specs.Here.{Here}
 use Rattle.writer.specs.Buf.{part}
 use Rattle.pieces.specs.Pieces.{Piece, places, written, expanded}
-use Rattle.substitution.specs.Instance.{Areas}
-use Rattle.substitution.specs.Call.{Defined, Puts}
+use Rattle.substitution.specs.Turned.{Areas}
+use Rattle.instance.specs.Paired.{Defined}
+use Rattle.replaced.specs.Call.{Puts}
 use Rattle.known.specs.Table.{Rows}
 use Rattle.expansion.specs.Deep.{DeepP}
 use Rattle.known.specs.declared.Found.{Found}

@@ -2,9 +2,9 @@
 use known::Found;
 use known::find_macro;
 use lookup::name_at;
+use replaced::expand_call;
 use seek::byte;
 use seek::past;
-use substitution::call::expand_call;
 use writer::put_part;
 ghost use Rattle.expansion.specs.Expand.{MacroOf, Expanding};
 

@@ -20,7 +20,7 @@ use Rattle.names.specs.Name.{Held, Child}
 use Rattle.taken.specs.Taken.{Store, taken, Table, Found}
 use Rattle.fresh.specs.Free.{Tells, FirstFree}
 use Rattle.names.proofs.Held.{held-whole, grown}
-use Rattle.names.proofs.Decimal.{decimal-small, decimal-large}
+use Rattle.segments.proofs.Decimal.{decimal-small, decimal-large}
 use Rattle.taken.proofs.Rows.{found-not, found-is, long-free}
 
 -- ---- a larger number has no fewer digits

@@ -23,7 +23,7 @@ use Rattle.taken.proofs.Rows.{hash-ne}
 use Rattle.known.specs.declared.Found.{Found}
 use Rattle.known.specs.declared.Found.the-variants.{At, Unknown}
 use Rattle.contents.specs.Listed.{Listed}
-use Rattle.substitution.specs.Call.{Defined}
+use Rattle.instance.specs.Paired.{Defined}
 use Rattle.known.specs.Table.{Row, Rows, SameRow, Known, Finds, isFound, FindsMacro, Taken, Tabling, Tabled}
 use Rattle.contents.proofs.Listed.{listed-kind, listed-size, listed-body, listed-deep, listed-next, book-listed}
 

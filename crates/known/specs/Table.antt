@@ -15,7 +15,7 @@ use Rattle.nested.specs.Nested.{isMacro}
 use Rattle.seek.specs.Here.{Here}
 use Rattle.taken.specs.Taken.{hashOf}
 use Rattle.contents.specs.Listed.{Listed}
-use Rattle.substitution.specs.Call.{Defined}
+use Rattle.instance.specs.Paired.{Defined}
 use Rattle.known.specs.declared.Found.{Found}
 use Rattle.known.specs.declared.Found.the-variants.{At, Unknown}
 

@@ -91,7 +91,7 @@ pub sorted-has-members : SortedHasMembers
 sorted-has-members ns n = (λ h. elem-in n ns (sym (elem-sorted n ns) ∙ in-elem n (sorted ns) h), λ h. elem-in n (sorted ns) (elem-sorted n ns ∙ in-elem n ns h))
 
 -- what ascends names each once
-passes : {a b c : Name} → Less a b → Less b c → Less a c
+pub passes : {a b c : Name} → Less a b → Less b c → Less a c
 passes ends (smaller q) = ends
 passes ends (equal q) = ends
 passes (smaller p) (smaller q) = smaller (lt-trans p q)
@@ -99,7 +99,7 @@ passes (smaller p) (equal q) = smaller p
 passes (equal p) (smaller q) = smaller q
 passes (equal p) (equal q) = equal (passes p q)
 
-irreflexive : (a : Name) → Less a a → ⊥
+pub irreflexive : (a : Name) → Less a a → ⊥
 irreflexive (x ∷ a) (smaller p) = omega arith
 irreflexive (x ∷ a) (equal p) = irreflexive a p
 

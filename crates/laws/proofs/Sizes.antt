@@ -1,10 +1,10 @@
 -- Sizes add up.
 use mathlib.Core.Path.{_≡_, ap, _∙_}
 use mathlib.Core.List.{List, [], _∷_, _++_, map}
-use Prim.Native.Nat.{_≤_, ℕ, _+_, _*_}
+use Prim.Native.Nat.{_≤_, _<_, ℕ, _+_, _*_}
 use native.Mathlib.Omega.{arith}
 use lib.ListN.{length, length-append}
-use Rattle.definition.specs.Tree.{Name, Text, Shell, Selector, CaseKind, FieldKind, Combinator, plain, chained, Inner, struct, choice, shell, Fields, field, const, Cases, case, Param, Definition, format}
+use Rattle.definition.specs.Tree.{Name, Text, Shell, wrap, vec, option, array, Selector, CaseKind, enums, ints, arrays, FieldKind, Combinator, plain, chained, Inner, leaf, struct, choice, shell, bytes, invocation, macro-invocation, Fields, field, const, Cases, case, Param, Definition, format}
 use Rattle.definition.specs.Write.{wU16, wName, wText, wAll, wList, wSelector, caseByte, wLabel, wOpen, wShut, countC, wCombinator, wInner, wFields, wCases, wParam, wDefinition, sizeOf, wEntries, wParts, entryOf, wBook}
 use Rattle.definition.specs.Size.{size, sizeBook}
 use Rattle.laws.proofs.Splits.{Splits, s-name, s-text, s-list, s-selector, s-label, s-open, s-comb, s-inner, s-param, s-definition}
@@ -54,6 +54,34 @@ size-constant l x f = omega (arith, adds (wName l) (s-name l) (wText x (wFields 
 pub size-case : (l : List ℕ) (c : Combinator) (f : Cases) (k : CaseKind) → sizeC (case l c f) k ≡ length (wLabel k l []) + size c + sizeC f k
 unfolding size sizeC wCombinator
 size-case l c f k = omega (arith, adds (wLabel k l) (s-label k l) (wCombinator c (wCases f k [])), adds (wCombinator c) (s-comb c) (wCases f k []))
+
+-- each takes a byte at least
+pub size-some : (c : Combinator) → 0 < size c
+size-some (plain i) = omega (arith, size-plain i)
+size-some (chained i c) = omega (arith, size-chained i c)
+
+pub open-some : (x : Shell) → 0 < length (wOpen x [])
+unfolding wOpen
+open-some (wrap x y) = omega arith
+open-some vec = omega arith
+open-some option = omega arith
+open-some (array l) = omega arith
+
+pub label-some : (k : CaseKind) (l : List ℕ) → 0 < length (wLabel k l [])
+unfolding wLabel wName wText wU16
+label-some enums l = omega arith
+label-some ints l = omega arith
+label-some arrays l = omega arith
+
+pub sizeI-some : (i : Inner) → 0 < sizeI i
+unfolding sizeI wCombinator wOpen
+sizeI-some (leaf k x) = omega arith
+sizeI-some (struct f) = omega arith
+sizeI-some (choice s k f) = omega arith
+sizeI-some (shell x c) = omega (arith, size-shell x c, open-some x)
+sizeI-some (bytes l) = omega arith
+sizeI-some (invocation n a) = omega arith
+sizeI-some (macro-invocation n a) = omega arith
 
 -- a format's size apart from its body
 unfoldable pub head : Name → List Param → ℕ

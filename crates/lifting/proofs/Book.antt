@@ -11,7 +11,7 @@ use Rattle.definition.specs.Tree.{Param, Definition, format, constant, byte-ord
 use Rattle.definition.specs.Write.{wAll, wDefinition, sizeOf}
 use Rattle.definition.specs.Lift.{full, State, walkAll, start, liftBook}
 use Rattle.laws.proofs.Splits.{s-definition}
-use Rattle.laws.proofs.Sizes.{adds, head, size-format}
+use Rattle.laws.proofs.Sizes.{adds, head, size-format, size-some}
 use Rattle.laws.proofs.Measure.{measures}
 use Rattle.lifting.specs.Records.{Record, find}
 use Rattle.lifting.specs.After.{typeOf, outD, liftsD, outAll, liftsAll, firstAt, Lift, Stands, Found, AllFound}
@@ -19,7 +19,7 @@ use Rattle.lifting.specs.Trace.{Trace, treeHead, ownBinders, paramsAt, t
 use Rattle.lifting.specs.Laws.{Traced}
 use Rattle.lifting.proofs.Both.{Both, refusals, values, then, first-then}
 use Rattle.lifting.proofs.Found.{later-self, at-or-none}
-use Rattle.lifting.proofs.Ranges.{Between, none, wider, both, apart, in-range, size-some}
+use Rattle.lifting.proofs.Ranges.{Between, none, wider, both, apart, in-range}
 use Rattle.lifting.proofs.Agree.{Matches, paramOf, Means, New, Makes, nothing-made, one, two, new-left, new-right, walk-both}
 
 -- the bytes of the bodies

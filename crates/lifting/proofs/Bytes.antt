@@ -12,11 +12,11 @@ use Rattle.definition.specs.Write.{wU16, wName, wText, wSelector, caseByte, wLa
 use Rattle.definition.specs.Size.{size}
 use Rattle.definition.specs.Collect.{anonymous}
 use Rattle.laws.proofs.Splits.{Splits, s-name, s-selector, s-label, s-open, s-shut, s-inner}
-use Rattle.laws.proofs.Sizes.{adds, sizeI, sizeF, sizeC, size-plain, size-chained, size-struct, size-choice, size-shell, size-field, size-constant, size-case}
+use Rattle.laws.proofs.Sizes.{adds, sizeI, sizeF, sizeC, size-plain, size-chained, size-struct, size-choice, size-shell, size-field, size-constant, size-case, open-some, sizeI-some, size-some}
 use Rattle.lifting.specs.Records.{Record, find}
 use Rattle.lifting.specs.After.{chainAt, fieldsAt, casesAt, shellAt, fieldAt, constEnd, caseAt, replaced, out, outI, outF, outC, itself, lifts, Stands, Found}
 use Rattle.lifting.proofs.Found.{stands-either, found-left, found-right}
-use Rattle.lifting.proofs.Ranges.{in-range, open-some, sizeI-some, size-some}
+use Rattle.lifting.proofs.Ranges.{in-range}
 use Rattle.lifting.proofs.Calls.{Goes, Opens, calls, goes-on, raw-goes, raw-opens}
 use Rattle.lifting.proofs.Parts.{wStruct, wChoice, s-choice, wField, s-field, wConst, s-const, Part, Whole, WholeI, WholeF, WholeC, Raw, of-plain, of-chained, of-struct, of-choice, of-shell, of-field, of-const, of-case}
 

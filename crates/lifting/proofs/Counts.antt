@@ -1,21 +1,15 @@
 -- What a lift adds to code 10's numbers: bounds for every table of the naming pass.
 use mathlib.Core.Path.{_≡_, refl, _∙_}
-use mathlib.Core.Bool.{Bool, true, false, cond, _&&_, _||_}
+use mathlib.Core.Bool.{Bool, true, false, cond, _||_}
 use mathlib.Core.List.{List, [], _∷_, _++_, map}
 use Prim.Native.Nat.{ℕ, _+_, _*_, _≤_}
 use native.Mathlib.Omega.{arith}
-use lib.Dec.{leb}
-use borrow.Author.Tests.{leb-true}
 use lib.ListN.{length, length-append}
-use Rattle.definition.specs.Code.{result-long}
-use Rattle.definition.specs.Res.{ok, require}
 use Rattle.definition.specs.Tree.{Name}
 use Rattle.definition.specs.Names.{eqName, elem}
-use Rattle.laws.proofs.Tests.{both-true}
-use Rattle.laws.proofs.Steps.{no-ok}
 use Rattle.lifting.specs.Records.{Ref, Record}
 use Rattle.lifting.specs.Calls.{paramRoom, byteHead, namesRoom, callRoom}
-use Rattle.lifting.specs.Trace.{Trace, enter, finish, fits}
+use Rattle.lifting.specs.Trace.{Trace, enter}
 use Rattle.lifting.specs.Laws.{namesBack, Taken, takes, Counted}
 use Rattle.lifting.proofs.Measured.{size-call}
 
@@ -41,19 +35,6 @@ counted-enter s b n r t k e = record {
   bytes = omega (arith, enter-bytes s r t, params-least s (t .records) (r .params) (r .types) e, takes-snoc (t .records) r, k .bytes);
   defns = simp length-append (omega (arith, k .defns));
 }
-
-pub counted-finish : (b n p : ℕ) (t : Trace) → Counted b n t → Counted b n (finish p t)
-unfolding finish
-counted-finish b n p t k = record { bytes = k .bytes; defns = k .defns }
-
--- what passes the test of 10
-pub fits-within : (t v : Trace) → fits t ≡ ok tt v → (t ≡ v) × (t .bytes ≤ 16384) × (t .defns ≤ 512)
-unfolding fits
-fits-within t v e = of (leb (t .bytes) 16384 && leb (t .defns) 512) refl e
-  where
-    of : (b : Bool) → leb (t .bytes) 16384 && leb (t .defns) 512 ≡ b → require b result-long t ≡ ok tt v → (t ≡ v) × (t .bytes ≤ 16384) × (t .defns ≤ 512)
-    of true h k = let w = both-true (leb (t .bytes) 16384) (leb (t .defns) 512) h in (cc, leb-true (t .bytes) 16384 (w .0), leb-true (t .defns) 512 (w .1))
-    of false h k = no-ok k
 
 -- the names taken
 names-snoc : (rs : List Record) (r : Record) (ns : List Name) → namesBack (rs ++ (r ∷ [])) ns ≡ r .name ∷ namesBack rs ns

@@ -12,23 +12,12 @@ use Rattle.definition.specs.Tree.{Name, CaseKind, Combinator, plain, chained, I
 use Rattle.definition.specs.Names.{sorted, segment, child, caseSegment, shellSegment, fresh}
 use Rattle.definition.specs.Size.{size, levels}
 use Rattle.definition.specs.Collect.{anonymous, free, leftover}
-use Rattle.laws.proofs.Sizes.{sizeI, sizeF, sizeC, size-plain, size-chained, size-struct, size-choice, size-shell, size-field, size-constant, size-case}
+use Rattle.laws.proofs.Steps.{grouped, follows}
+use Rattle.laws.proofs.Sizes.{sizeI, sizeF, sizeC, size-plain, size-chained, size-struct, size-choice, size-shell, size-field, size-constant, size-case, open-some, label-some, sizeI-some}
 use Rattle.lifting.specs.Records.{Record}
 use Rattle.lifting.specs.After.{chainAt, fieldsAt, casesAt, shellAt, fieldAt, constEnd, caseAt}
 use Rattle.lifting.specs.Trace.{Trace, Binder, refs, enter, finish, fits, bindRef, Tracing, lifting, traceBy, trace, traceI, traceF, traceC}
 use Rattle.lifting.specs.Frames.{Todo, whole, within, fields, cases, done, Frame, next, closed, entering, goInto, move, step, run, steps, stepsI, stepsF, stepsC, depth, Shallower}
-use Rattle.lifting.proofs.Ranges.{open-some, label-some, sizeI-some}
-
-module _ {S A B C : Type 0} where
-  assoc : (m : Res S A) (f : A × S → Res S B) (g : B × S → Res S C) → (m >>= f) >>= g ≡ m >>= λ x. f x >>= g
-  assoc (bad k s) f g = refl
-  assoc (ok a s) f g = refl
-
-module _ {S A B : Type 0} where
-  -- what follows may be written otherwise
-  follows : (m : Res S A) (f g : A × S → Res S B) → ((a : A) (s : S) → f (a, s) ≡ g (a, s)) → m >>= f ≡ m >>= g
-  follows (bad k s) f g e = refl
-  follows (ok a s) f g e = e a s
 
 module _ (headOf : List Record → Record → ℕ) where
   -- a lift is entering, the walk inside, and finishing
@@ -36,10 +25,10 @@ module _ (headOf : List Record → Record → ℕ) where
       → lifting headOf c p trail base env t ≡ entering headOf c p base env t >>= λ (n, t). trail n env t >>= λ (u, t). ok tt (finish p t)
   unfolding lifting entering
   lifting-enters c p trail base env t = sym (
-      assoc (require (leb (length (fresh base (t .taken))) 255) name-long t) _ _ ∙ follows (require (leb (length (fresh base (t .taken))) 255) name-long t) _ _ λ u t.
-      assoc (require (not (leftover c)) leftover-macro t) _ _ ∙ follows (require (not (leftover c)) leftover-macro t) _ _ λ u t.
-      assoc (refs env (sorted (free c)) t) _ _ ∙ follows (refs env (sorted (free c)) t) _ _ λ rs t.
-      assoc (fits (enter headOf _ t)) _ _)
+      grouped (require (leb (length (fresh base (t .taken))) 255) name-long t) _ _ ∙ follows (require (leb (length (fresh base (t .taken))) 255) name-long t) _ _ λ u t.
+      grouped (require (not (leftover c)) leftover-macro t) _ _ ∙ follows (require (not (leftover c)) leftover-macro t) _ _ λ u t.
+      grouped (refs env (sorted (free c)) t) _ _ ∙ follows (refs env (sorted (free c)) t) _ _ λ rs t.
+      grouped (fits (enter headOf _ t)) _ _)
 
   -- a node's frame on top of others
   abbrev on-top : Todo → Name → List Binder → Maybe ℕ → List Frame → List Frame
@@ -50,8 +39,8 @@ module _ (headOf : List Record → Record → ℕ) where
         → goInto headOf a c p base env fs t >>= (λ (fs, t). run headOf (steps c + k) fs t) ≡ traceBy headOf a c p (λ n e t. trace headOf c p n e t) base env t >>= λ (u, t). run headOf k fs t
     unfolding goInto traceBy closed
     goes true base env fs t k = rw (lifting-enters c p (λ n e t. trace headOf c p n e t) base env t) (
-        assoc (entering headOf c p base env t) _ _
-        ∙ (follows (entering headOf c p base env t) _ _ (λ n t. ih n env (just p) fs t k ∙ sym (assoc (trace headOf c p n env t) _ _)) ∙ sym (assoc (entering headOf c p base env t) _ _)))
+        grouped (entering headOf c p base env t) _ _
+        ∙ (follows (entering headOf c p base env t) _ _ (λ n t. ih n env (just p) fs t k ∙ sym (grouped (trace headOf c p n env t) _ _)) ∙ sym (grouped (entering headOf c p base env t) _ _)))
     goes false base env fs t k = ih base env absent fs t k
 
   mutual
@@ -65,7 +54,7 @@ module _ (headOf : List Record → Record → ℕ) where
         let q = chainAt p i in
         rw e (goes c q (λ n env cl fs t k. run-node c q n env cl fs t k) (anonymous c) n env (on-top (within i p) n env cl fs) t (stepsI i + k)
         ∙ (follows (traceBy headOf (anonymous c) c q (λ n e t. trace headOf c q n e t) n env t) _ _ (λ u t. run-inner i p n env cl fs t k)
-        ∙ sym (assoc (traceBy headOf (anonymous c) c q (λ n e t. trace headOf c q n e t) n env t) _ _)))
+        ∙ sym (grouped (traceBy headOf (anonymous c) c q (λ n e t. trace headOf c q n e t) n env t) _ _)))
 
     run-inner : (i : Inner) (p : ℕ) (n : Name) (env : List Binder) (cl : Maybe ℕ) (fs : List Frame) (t : Trace) (k : ℕ)
         → run headOf (stepsI i + k) (on-top (within i p) n env cl fs) t ≡ traceI headOf i p n env t >>= λ (u, t). run headOf k fs (closed cl t)
@@ -88,7 +77,7 @@ module _ (headOf : List Record → Record → ℕ) where
         let q = fieldAt p l in
         rw e (goes c q (λ n env cl fs t k. run-node c q n env cl fs t k) (anonymous c) (child n (segment l)) env (on-top (fields f (q + size c)) n (bindRef a l c q env) cl fs) t (stepsF f + k)
         ∙ (follows (traceBy headOf (anonymous c) c q (λ n e t. trace headOf c q n e t) (child n (segment l)) env t) _ _ (λ u t. run-fields f (q + size c) n (bindRef a l c q env) cl fs t k)
-        ∙ sym (assoc (traceBy headOf (anonymous c) c q (λ n e t. trace headOf c q n e t) (child n (segment l)) env t) _ _)))
+        ∙ sym (grouped (traceBy headOf (anonymous c) c q (λ n e t. trace headOf c q n e t) (child n (segment l)) env t) _ _)))
     run-fields (const l x f) p n env cl fs t k = let e : suc (stepsF f) + k ≡ suc (stepsF f + k) = omega arith in rw e (run-fields f (constEnd p l x) n env cl fs t k)
 
     run-cases : (f : Cases) (a : CaseKind) (i p : ℕ) (n : Name) (env : List Binder) (cl : Maybe ℕ) (fs : List Frame) (t : Trace) (k : ℕ)
@@ -99,7 +88,7 @@ module _ (headOf : List Record → Record → ℕ) where
         let q = caseAt p a l in
         rw e (goes c q (λ n env cl fs t k. run-node c q n env cl fs t k) (anonymous c) (child n (caseSegment a l i)) env (on-top (cases f a (suc i) (q + size c)) n env cl fs) t (stepsC f + k)
         ∙ (follows (traceBy headOf (anonymous c) c q (λ n e t. trace headOf c q n e t) (child n (caseSegment a l i)) env t) _ _ (λ u t. run-cases f a (suc i) (q + size c) n env cl fs t k)
-        ∙ sym (assoc (traceBy headOf (anonymous c) c q (λ n e t. trace headOf c q n e t) (child n (caseSegment a l i)) env t) _ _)))
+        ∙ sym (grouped (traceBy headOf (anonymous c) c q (λ n e t. trace headOf c q n e t) (child n (caseSegment a l i)) env t) _ _)))
 
   -- one frame and nothing above it
   pub run-body : (c : Combinator) (p : ℕ) (n : Name) (env : List Binder) (t : Trace) → run headOf (steps c) (on-top (whole c p) n env absent []) t ≡ trace headOf c p n env t

@@ -16,7 +16,7 @@ use Rattle.definition.specs.Size.{size}
 use Rattle.definition.specs.Collect.{anonymous, free, leftover}
 use Rattle.definition.specs.Lift.{State, bind}
 use Rattle.laws.proofs.Splits.{Splits, s-name, s-all, s-selector, s-label, s-open, s-comb, s-inner, s-definition}
-use Rattle.laws.proofs.Sizes.{adds, sizeI, sizeF, sizeC, head, size-plain, size-chained, size-struct, size-choice, size-shell, size-field, size-constant, size-case, size-format}
+use Rattle.laws.proofs.Sizes.{adds, sizeI, sizeF, sizeC, head, size-plain, size-chained, size-struct, size-choice, size-shell, size-field, size-constant, size-case, size-format, open-some, sizeI-some, size-some}
 use Rattle.laws.proofs.Steps.{Gives, refusal, value}
 use Rattle.lifting.specs.Records.{Ref, own, passed, Record, find, call}
 use Rattle.lifting.specs.After.{chainAt, fieldsAt, casesAt, shellAt, fieldAt, constEnd, caseAt, Lift, liftsK, typeOf, paramsOf, firstAt, Stands, AllFound}
@@ -24,7 +24,7 @@ use Rattle.lifting.specs.Calls.{paramRoom, byteHead, namesRoom, callRoom
 use Rattle.lifting.specs.Trace.{Trace, Binder, refs, enter, finish, fits, bindRef, Tracing, lifting, traceBy, trace, traceI, traceF, traceC, ownBinders, paramsAt, treeHead, traceAll, begin, traceBook}
 use Rattle.lifting.proofs.Both.{alike}
 use Rattle.lifting.proofs.Found.{later-self, later-one, find-other}
-use Rattle.lifting.proofs.Ranges.{Between, open-some, sizeI-some, size-some, in-range, in-rangeK}
+use Rattle.lifting.proofs.Ranges.{Between, in-range, in-rangeK}
 use Rattle.lifting.proofs.Parts.{wStruct, wChoice, s-choice, wField, s-field, wConst, s-const, first-none, none-under, none-over, Part, Kid, split}
 use Rattle.lifting.proofs.Refs.{AllRefs, AllBinders, WellTyped, Dep, refs-hold, bind-holds}
 use Rattle.lifting.proofs.Standing.{limit, Stood, ref-bytes}

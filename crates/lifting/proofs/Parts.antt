@@ -12,11 +12,11 @@ use Rattle.definition.specs.Write.{wU16, wName, wText, wSelector, caseByte, wLa
 use Rattle.definition.specs.Size.{size}
 use Rattle.definition.specs.Collect.{anonymous}
 use Rattle.laws.proofs.Splits.{Splits, s-name, s-text, s-selector, s-label, s-open, s-comb, s-inner}
-use Rattle.laws.proofs.Sizes.{adds, sizeI, sizeF, sizeC, size-plain, size-chained, size-struct, size-choice, size-shell, size-field, size-constant, size-case}
+use Rattle.laws.proofs.Sizes.{adds, sizeI, sizeF, sizeC, size-plain, size-chained, size-struct, size-choice, size-shell, size-field, size-constant, size-case, open-some, sizeI-some}
 use Rattle.lifting.specs.Records.{Record, find}
 use Rattle.lifting.specs.After.{chainAt, fieldsAt, casesAt, shellAt, fieldAt, constEnd, caseAt, Lift, itself, lifts, liftsI, liftsF, liftsC, Stands, AllFound}
 use Rattle.lifting.proofs.Found.{stands-either, found-left, found-right}
-use Rattle.lifting.proofs.Ranges.{Between, open-some, sizeI-some, in-rangeI, in-rangeF, in-rangeC, in-rangeK}
+use Rattle.lifting.proofs.Ranges.{Between, in-rangeI, in-rangeF, in-rangeC, in-rangeK}
 
 -- two lists of lifts make up one
 pub record Union (ls a b : List Lift) : Type 0 where

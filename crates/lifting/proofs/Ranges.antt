@@ -5,12 +5,11 @@ use mathlib.Core.Bool.{Bool, true, false}
 use mathlib.Core.List.{List, [], _++_}
 use Prim.Native.Nat.{ℕ, _+_, _≤_, _<_}
 use native.Mathlib.Omega.{arith}
-use lib.ListN.{length}
-use Rattle.definition.specs.Tree.{Shell, wrap, vec, option, array, CaseKind, enums, ints, arrays, Combinator, plain, chained, Inner, leaf, struct, choice, shell, bytes, invocation, macro-invocation, Fields, no-field, field, const, Cases, no-case, case}
+use Rattle.definition.specs.Tree.{CaseKind, Combinator, plain, chained, Inner, leaf, struct, choice, shell, bytes, invocation, macro-invocation, Fields, no-field, field, const, Cases, no-case, case}
 use Rattle.definition.specs.Collect.{anonymous}
-use Rattle.definition.specs.Write.{wU16, wName, wText, wLabel, wOpen, wCombinator}
 use Rattle.definition.specs.Size.{size}
-use Rattle.laws.proofs.Sizes.{sizeI, sizeF, sizeC, size-plain, size-chained, size-struct, size-choice, size-shell, size-field, size-constant, size-case}
+pub use Rattle.laws.proofs.Sizes.{size-some, sizeI-some}
+use Rattle.laws.proofs.Sizes.{open-some, sizeI, sizeF, sizeC, size-plain, size-chained, size-struct, size-choice, size-shell, size-field, size-constant, size-case}
 use Rattle.lifting.specs.After.{chainAt, fieldsAt, casesAt, shellAt, fieldAt, constEnd, caseAt, Lift, itself, lifts, liftsI, liftsF, liftsC, Stands}
 use Rattle.lifting.proofs.Found.{stands-either}
 
@@ -35,33 +34,6 @@ both {a} {b} {l} {m} v w = record { range = λ x h. of x (stands-either x l m h)
 pub apart : {a b c d : ℕ} {l m : List Lift} → Between a b l → Between c d m → (b ≤ c) ⊎ (d ≤ a) → (x : ℕ) → Stands x l → Stands x m → ⊥
 apart v w (inl e) x h k = let p = v .range x h in let q = w .range x k in omega arith
 apart v w (inr e) x h k = let p = v .range x h in let q = w .range x k in omega arith
-
-pub size-some : (c : Combinator) → 0 < size c
-size-some (plain i) = omega (arith, size-plain i)
-size-some (chained i c) = omega (arith, size-chained i c)
-
-pub open-some : (x : Shell) → 0 < length (wOpen x [])
-unfolding wOpen
-open-some (wrap x y) = omega arith
-open-some vec = omega arith
-open-some option = omega arith
-open-some (array l) = omega arith
-
-pub label-some : (k : CaseKind) (l : List ℕ) → 0 < length (wLabel k l [])
-unfolding wLabel wName wText wU16
-label-some enums l = omega arith
-label-some ints l = omega arith
-label-some arrays l = omega arith
-
-pub sizeI-some : (i : Inner) → 0 < sizeI i
-unfolding sizeI wCombinator wOpen
-sizeI-some (leaf k x) = omega arith
-sizeI-some (struct f) = omega arith
-sizeI-some (choice s k f) = omega arith
-sizeI-some (shell x c) = omega (arith, size-shell x c, open-some x)
-sizeI-some (bytes l) = omega arith
-sizeI-some (invocation n a) = omega arith
-sizeI-some (macro-invocation n a) = omega arith
 
 -- a child: the lifts out of it, and itself
 kid-range : (c : Combinator) (p : ℕ) → Between (p + 1) (p + size c) (lifts c p) → Between p (p + size c) (lifts c p ++ itself (anonymous c) c p)

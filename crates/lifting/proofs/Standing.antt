@@ -12,12 +12,12 @@ use Rattle.definition.specs.Macros.{innerOf}
 use Rattle.definition.specs.Size.{size}
 use Rattle.definition.specs.Collect.{anonymous}
 use Rattle.laws.proofs.Splits.{s-inner}
-use Rattle.laws.proofs.Sizes.{sizeI}
+use Rattle.laws.proofs.Sizes.{sizeI, sizeI-some, size-some}
 use Rattle.lifting.specs.Records.{Ref, own, passed, Record, find, call}
 use Rattle.lifting.specs.After.{chainAt, fieldsAt, casesAt, shellAt, fieldAt, constEnd, caseAt, replaced, out, outI, Lift, itself, lifts, liftsI, liftsF, liftsC, liftsK, typeOf, paramsOf, madeBy, definitionOf, Found}
 use Rattle.lifting.specs.Calls.{withCalls, refAt, refEnd, typeBytes, refBytes, paramBytes, liftedBytes}
 use Rattle.lifting.proofs.Found.{found-right}
-use Rattle.lifting.proofs.Ranges.{in-range, sizeI-some, size-some}
+use Rattle.lifting.proofs.Ranges.{in-range}
 use Rattle.lifting.proofs.Calls.{ends, goes-on}
 use Rattle.lifting.proofs.Parts.{Part, Whole, WholeI, WholeF, WholeC, Kid, Raw, of-plain, of-chained, of-struct, of-choice, of-shell, of-field, of-const, of-case}
 use Rattle.lifting.proofs.Bytes.{kid-whole, raw, bytes-of, bytes-ofI}

@@ -11,13 +11,13 @@ use Rattle.definition.specs.Tree.{Name, Combinator, Param, Definition, isFormat
 use Rattle.definition.specs.Write.{wU16, wName, wAll, wList, wCombinator, wInner, wParam, wDefinition, kindOf, sizeOf, wEntries, wParts, entryOf, wBook}
 use Rattle.definition.specs.Size.{size}
 use Rattle.laws.proofs.Splits.{Splits, s-u16, s-name, s-all, s-list, s-param, s-definition}
-use Rattle.laws.proofs.Sizes.{adds, sizeI, head, size-format}
+use Rattle.laws.proofs.Sizes.{adds, sizeI, head, size-format, size-some}
 use Rattle.laws.proofs.Steps.{Gives, value, then, gave}
 use Rattle.lifting.specs.Records.{Ref, Record, orElse, find}
 use Rattle.lifting.specs.After.{Lift, madeBy, definitionOf, outD, liftsD, outAll, liftsAll, firstAt, AllFound}
 use Rattle.lifting.specs.Calls.{withCalls, liftedBytes, keptBytes, entriesOf, joined, bookOf, resultBytes}
 use Rattle.lifting.specs.Trace.{Trace, Binder, ownBinders, paramsAt, treeHead, traceAll, begin, traceBook}
-use Rattle.lifting.proofs.Ranges.{in-range, size-some}
+use Rattle.lifting.proofs.Ranges.{in-range}
 use Rattle.lifting.proofs.Calls.{ends, goes-on}
 use Rattle.lifting.proofs.Parts.{appended, first-none, under, over, none-under, none-over, Part, Whole, Raw, split}
 use Rattle.lifting.proofs.Bytes.{raw, goes-at, bytes-of}
@@ -35,6 +35,16 @@ pub head-length : (n : Name) (ps : List Param) → length (wHead n ps []) ≡ he
 unfolding head
 head-length n ps = adds (wName n) (s-name n) (wList wParam ps [])
 
+pub found-typed : (Q : Ref → Type 0) (all : List Record) (x : ℕ) (r : Record) → AllTyped Q all → find all x ≡ just r → WellTyped Q r
+unfolding find
+found-typed Q [] x r a e = let z : _≡_ {A = ℕ} 0 1 = cc in absurd (omega arith)
+found-typed Q (y ∷ all) x r a e = of (find all x) (eqb (y .at) x) e (λ k. found-typed Q all x r (a .1) k)
+  where
+    of : (m : Maybe Record) (b : Bool) → orElse m (cond b (just y) absent) ≡ just r → (m ≡ just r → WellTyped Q r) → WellTyped Q r
+    of (just o) b k go = go k
+    of absent true k go = let h : y ≡ r = cc in rw h at (a .0)
+    of absent false k go = let z : _≡_ {A = ℕ} 0 1 = cc in absurd (omega arith)
+
 module _ (s : List ℕ) (rs : List Record) where
   abbrev pub WholeD : Definition → ℕ → Type 0
   WholeD d p = Part s rs (wDefinition d) p p (p + sizeOf d) (liftsD d p)
@@ -42,7 +52,7 @@ module _ (s : List ℕ) (rs : List Record) where
   abbrev pub WholeAll : List Definition → ℕ → Type 0
   WholeAll ds p = Part s rs (wAll wDefinition ds) p p (p + bodies ds) (liftsAll ds p)
 
-  of-cons : (d : Definition) (ds : List Definition) (p : ℕ) → WholeAll (d ∷ ds) p → WholeD d p × WholeAll ds (p + sizeOf d)
+  pub of-cons : (d : Definition) (ds : List Definition) (p : ℕ) → WholeAll (d ∷ ds) p → WholeD d p × WholeAll ds (p + sizeOf d)
   unfolding wAll liftsAll sizeOf
   of-cons d ds p t = split s rs (wDefinition d) (wAll wDefinition ds) (s-definition d) (p + sizeOf d) (p + sizeOf d + bodies ds) t (omega (arith, bodies-cons d ds)) refl (omega arith) (omega arith) (appended _ _) (under (in-rangeD d p) (omega arith)) (over (in-rangeAll ds (p + sizeOf d)) (omega arith))
 
@@ -83,7 +93,7 @@ module _ (s : List ℕ) (rs : List Record) where
   inside-D (byte-order x) p t = tt
   inside-D (macro n ps c) p t = tt
 
-  inside-all : (ds : List Definition) (p : ℕ) → WholeAll ds p → AllWhole s rs (liftsAll ds p)
+  pub inside-all : (ds : List Definition) (p : ℕ) → WholeAll ds p → AllWhole s rs (liftsAll ds p)
   unfolding liftsAll
   inside-all [] p t = tt
   inside-all (d ∷ ds) p t = let q = of-cons d ds p t in all-whole s rs (liftsD d p) (liftsAll ds (p + sizeOf d)) (inside-D d p (q .0)) (inside-all ds (p + sizeOf d) (q .1))
@@ -115,7 +125,7 @@ module _ (s : List ℕ) (rs : List Record) where
 
   -- what types the parameters stands in the book
   module _ (headOf : List Record → Record → ℕ) where
-    traceAll-types : (ds : List Definition) (p : ℕ) (t : Trace) → WholeAll ds p → AllTyped (Stood s rs) (t .records) → Gives (Typing (Stood s rs)) (traceAll headOf ds p t)
+    pub traceAll-types : (ds : List Definition) (p : ℕ) (t : Trace) → WholeAll ds p → AllTyped (Stood s rs) (t .records) → Gives (Typing (Stood s rs)) (traceAll headOf ds p t)
     unfolding traceAll
     traceAll-types [] p t w a = value a
     traceAll-types (format n ps c ∷ ds) p t w a =
@@ -126,16 +136,6 @@ module _ (s : List ℕ) (rs : List Record) where
     traceAll-types (constant n x ∷ ds) p t w a = traceAll-types ds (p + sizeOf (constant n x)) t (of-cons (constant n x) ds p w .1) a
     traceAll-types (byte-order x ∷ ds) p t w a = traceAll-types ds (p + sizeOf (byte-order x)) t (of-cons (byte-order x) ds p w .1) a
     traceAll-types (macro n ps c ∷ ds) p t w a = traceAll-types ds (p + sizeOf (macro n ps c)) t (of-cons (macro n ps c) ds p w .1) a
-
-  found-typed : (Q : Ref → Type 0) (all : List Record) (x : ℕ) (r : Record) → AllTyped Q all → find all x ≡ just r → WellTyped Q r
-  unfolding find
-  found-typed Q [] x r a e = let z : _≡_ {A = ℕ} 0 1 = cc in absurd (omega arith)
-  found-typed Q (y ∷ all) x r a e = of (find all x) (eqb (y .at) x) e (λ k. found-typed Q all x r (a .1) k)
-    where
-      of : (m : Maybe Record) (b : Bool) → orElse m (cond b (just y) absent) ≡ just r → (m ≡ just r → WellTyped Q r) → WellTyped Q r
-      of (just o) b k go = go k
-      of absent true k go = let h : y ≡ r = cc in rw h at (a .0)
-      of absent false k go = let z : _≡_ {A = ℕ} 0 1 = cc in absurd (omega arith)
 
   lifted-all : (ls : List Lift) → AllFound rs ls → AllWhole s rs ls → AllTyped (Stood s rs) rs
       → map (λ d. wDefinition d []) (map (definitionOf rs) ls) ≡ map (λ x. liftedBytes s rs (find rs x)) (map (λ l. l .at) ls)

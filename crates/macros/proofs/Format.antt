@@ -34,13 +34,12 @@ use Rattle.calls.proofs.Link.{walked}
 use Rattle.expansion.specs.Deep.{DeepM}
 use Rattle.known.specs.Table.{Rows}
 use Rattle.contents.specs.Params.{ParamsPast}
-use Rattle.substitution.specs.Call.{Puts}
+use Rattle.replaced.specs.Call.{Puts}
 use Rattle.expansion.specs.Expand.{front, Expanding}
 use Rattle.macros.specs.Left.{shallow, expandOne, Whole, Formatted}
-use Rattle.pieces.proofs.Spliced.{part-here}
-use Rattle.pieces.proofs.Room.{room-enough}
+use Rattle.pieces.proofs.Marked.{part-here}
+use Rattle.pieces.proofs.Room.{size-here, room-enough}
 use Rattle.expansion.proofs.Depth.{expand-deep, pieces-deep}
-use Rattle.substitution.proofs.Turns.{size-here}
 use Rattle.expansion.proofs.Next.{front-none}
 
 -- the table tells how deep the macros are

@@ -24,10 +24,10 @@ use Rattle.writer.specs.Buf.{put, part, Wrote}
 use Rattle.writer.proofs.Put.{put-nil, put-put, put-past, put-fits, length-put, within}
 use Rattle.writer.proofs.Wrote.{fitted, place-fits, place-is, same-length}
 use Rattle.contents.specs.Listed.{Listed}
-use Rattle.substitution.specs.Call.{Puts}
+use Rattle.replaced.specs.Call.{Puts}
 use Rattle.kept.specs.Kept.{keptOf}
 use Rattle.macros.specs.Left.{shallow, expandOne, andOne, shallowAll, Whole, Formatted, Kept, WritesBy, Writes, Listing, Booked}
-use Rattle.pieces.proofs.Spliced.{part-here}
+use Rattle.pieces.proofs.Marked.{part-here}
 use Rattle.contents.proofs.Listed.{past-is, listed-kind, listed-size, listed-body, listed-deep, listed-next, entries-size, book-listed}
 
 -- one definition

@@ -15,8 +15,8 @@ use Rattle.laws.specs.Book.{IsBook}
 use Rattle.seek.specs.Here.{Here}
 use Rattle.writer.specs.Buf.{put}
 use Rattle.contents.specs.Listed.{Listed}
-use Rattle.substitution.specs.Instance.{Areas}
-use Rattle.substitution.specs.Call.{Puts}
+use Rattle.substitution.specs.Turned.{Areas}
+use Rattle.replaced.specs.Call.{Puts}
 use Rattle.known.specs.Table.{Rows}
 use Rattle.kept.specs.Kept.{keptOf}
 

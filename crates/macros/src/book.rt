@@ -8,7 +8,7 @@ use seek::byte;
 use seek::name_past;
 use seek::number;
 use seek::past;
-use substitution::walk_over;
+use skip::walk_over;
 use writer::put_part;
 ghost use Rattle.macros.specs.Left.{Formatted, Kept, Booked};
 

@@ -1,23 +1,12 @@
--- The first marks, and the two of a call.
+-- The two marks of a call.
 -- Assumes nothing.
-use mathlib.Core.Path.{_≡_, sym, ap, _∙_}
-use mathlib.Core.Logic.{⊎-elim}
+use mathlib.Core.Path.{_≡_, ap}
 use mathlib.Core.List.{List, [], _∷_}
-use Prim.Native.Nat.{ℕ, _%_, _≤_, _<_, min}
-use native.Mathlib.Omega.{arith}
-use lib.ListN.{length, take}
-use lib.Seq.{take-all}
+use Prim.Native.Nat.{ℕ, _%_}
 use Rattle.writer.specs.Buf.{Wrote}
-use Rattle.writer.proofs.Put.{within}
 use Rattle.writer.proofs.Wrote.{glue}
 use Rattle.marks.specs.declared.Walk.{Walk}
 use Rattle.marks.specs.Steps.{walk, markAt}
-
-pub take-least : (l : List ℕ) (n e : ℕ) → e ≡ min n (length l) → take e l ≡ take n l
-take-least l n e h = ⊎-elim
-    (λ (k : n ≤ length l). let m : e ≡ n = omega arith in rw m)
-    (λ (k : length l < n). take-all e l (omega arith) ∙ sym (take-all n l (omega arith)))
-    (within n (length l))
 
 -- two numbers, one after the other
 pub marked : (w : Walk) (at end : ℕ) {m m₁ m₂ : List ℕ} {n₁ n₂ : ℕ} → Wrote m (w .n) (at % 65536 ∷ []) m₁ n₁ → Wrote m₁ n₁ (end % 65536 ∷ []) m₂ n₂

@@ -1,4 +1,3 @@
 pub mod Level
-pub mod Levels
 pub mod Stands
 pub mod Measured

@@ -10,12 +10,12 @@ use Rattle.definition.specs.Write.{wU16, wName, wText, wLen, wList, wSelector, 
 use Rattle.definition.specs.Size.{levels, levelsI, levelsF, levelsC, levelsA}
 use Rattle.laws.proofs.Sizes.{adds, sizeI}
 use Rattle.laws.proofs.Splits.{s-inner}
+use Rattle.laws.proofs.Levels.{fewI}
 use Rattle.seek.specs.At.{pastAt, namePast, textPast, lengthPast, selectorPast, labelPast}
 use Rattle.seek.specs.Here.{Here}
 use Rattle.seek.proofs.Here.{here-length, byte-here, next-here, number-here, number-past, name-here, text-here, list-here, len-here, selector-here, label-here}
 use Rattle.marks.specs.Steps.{textOrLength}
 use Rattle.measured.specs.Measure.{State, Step, times, many, fieldBy, fieldAt, wrapBy, caseBy, caseAt, choiceBy, behindBy, innerBy, tailBy, combinatorBy, argumentBy, combinatorAt, argumentAt, innerAt}
-use Rattle.measured.proofs.Levels.{fewI}
 
 module _ (s : List ℕ) where
   -- one step, where it is known what stands there

@@ -1,4 +1,1 @@
-pub mod Table
-pub mod Segment
 pub mod Held
-pub mod Decimal

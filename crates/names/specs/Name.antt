@@ -2,18 +2,12 @@
 -- its end says that the name is too long.
 -- Assumes nothing.
 use mathlib.Core.Path.{_≡_}
-use mathlib.Core.List.{List, [], _∷_}
-use mathlib.Core.Bool.{cond}
+use mathlib.Core.List.{List, _∷_}
 use Prim.Native.Nat.{ℕ, suc, min}
-use lib.Dec.{eqb}
 use lib.ListN.{length, take}
 use Rattle.definition.specs.Tree.{Name}
 use Rattle.definition.specs.Names.{child}
 use Rattle.writer.specs.Buf.{Wrote}
-
--- what an entry of the table stands for: 0 for none
-unfoldable pub kept : ℕ → List ℕ
-kept x = cond (eqb x 0) [] (x ∷ [])
 
 -- d and a place hold a name: as far as d reaches, and the place is the name's length, or one past d's end where the name is longer
 pub record Held (d : List ℕ) (at : ℕ) (name : Name) : Type 0 where

@@ -1,6 +1,6 @@
 -- A settled list: no pass changes it, and the nested mode answers for it as the plain one does.
 -- Assumes nothing.
-use mathlib.Core.Path.{_≡_, refl, ap}
+use mathlib.Core.Path.{_≡_, refl, sym, ap}
 use mathlib.Core.List.{List, [], _∷_}
 use mathlib.Core.Bool.{Bool, true, false, not, _||_}
 use Prim.Native.Nat.{ℕ}
@@ -19,6 +19,7 @@ use Rattle.definition.specs.Lift.{liftBook}
 use Rattle.definition.specs.Answer.{source, expanded, Result, all, outcome, elaborated, attempt, answered, answer, filled, output}
 use Rattle.laws.specs.Lists.{NoMacro}
 use Rattle.laws.proofs.Tests.{both-true, not-both, not-true}
+use Rattle.laws.proofs.Steps.{grouped-out}
 use Rattle.nested.specs.Nested.{everyMacroCall, everyMacroCallI, everyMacroCallF, everyMacroCallC, isMacro, settled, pass, again, nestedList, expandedNested, attemptNested, answerNested, outputNested}
 use Rattle.nested.specs.Laws.{SettledStays, SettledIsPlain}
 use Rattle.nested.proofs.Passes.{now}
@@ -99,12 +100,8 @@ module _ (book : List ℕ) (h : (ds es : List Definition) → source book ≡ do
       fits : Result → Out Result
       fits r = given (leb (length (wBook (all r))) o) output-short r
 
-      of-list : (v : Out (List Definition)) → (v >>= λ ds. outcome (liftBook ds) >>= λ r. fits r) ≡ ((v >>= λ ds. outcome (liftBook ds)) >>= λ r. fits r)
-      of-list (refused k) = refl
-      of-list (done ds) = refl
-
       of-work : (b : Bool) → (given b work-short book >>= λ c. expandedNested c >>= λ ds. outcome (liftBook ds) >>= λ r. fits r) ≡ (given b work-short book >>= λ c. elaborated c >>= λ r. fits r)
-      of-work true = rw same-list (of-list (expanded book))
+      of-work true = rw same-list (sym (grouped-out (expanded book) (λ ds. outcome (liftBook ds)) (λ r. fits r)))
       of-work false = refl
 
 pub settled-is-plain : SettledIsPlain

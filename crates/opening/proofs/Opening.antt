@@ -77,7 +77,7 @@ module _ (b : List ℕ) (n : ℕ) where
       unfolding verdict
       begins-bad {v} {f} e g = judged (bookOf 6 b) refl (sym e ∙ g)
         where
-          judged : (m : Res (List ℕ) (List Definition)) → bookOf 6 b ≡ m → verdict (length b) m ≡ Judged f → Refuses b n (f .code)
+          judged : (m : Res (List ℕ) (List Definition)) → bookOf 6 b ≡ m → verdict (length b) m ≡ Judged f → Refuses (opened b n) (f .code)
           judged (bad k z) q t = record { reason = k; is = bad-is k z q; numbered = cc }
           judged (ok ds z) q t = absurd (let x : _≡_ {A = ℕ} 0 1 = cc in omega arith)
 
@@ -118,7 +118,7 @@ module _ (b : List ℕ) (n size : ℕ) (out : List ℕ) (p : Passes b n) (small 
   unfolding number pass
   opens-6 t = record { by = λ h. grown opened-pass (only-six (macros (p .source) []) (p .source)) (sym (passed h .0) ∙ t) }
     where
-      grown : {y : Out (List Definition)} → opened b n ≡ y → Grows y → answerOf y ≡ Grown → Refuses b n 6
+      grown : {y : Out (List Definition)} → opened b n ≡ y → Grows y → answerOf y ≡ Grown → Refuses (opened b n) 6
       grown o six q = record { reason = macro-growth; is = o; numbered = refl }
       grown o (none es) q = absurd (let z : _≡_ {A = ℕ} 0 1 = cc in omega arith)
 
@@ -126,7 +126,7 @@ module _ (b : List ℕ) (n size : ℕ) (out : List ℕ) (p : Passes b n) (small 
   unfolding sizeBook
   opens-book len t = record { by = λ h. written (pass (p .source) (p .source)) opened-pass (sym t ∙ passed h .0) (passed h .1) }
     where
-      written : (y : Out (List Definition)) → opened b n ≡ y → Whole len ≡ answerOf y → leaves y area out → Expands b n out len
+      written : (y : Out (List Definition)) → opened b n ≡ y → Whole len ≡ answerOf y → leaves y area out → Expands (opened b n) out len
       written (refused k) o q s = absurd (let z : _≡_ {A = ℕ} 0 1 = cc in omega arith)
       written (done es) o q s =
           let i = expanded-is-book b small es (sym (opened-is b n (p .wide)) ∙ o) .0 in

@@ -20,16 +20,16 @@ use Rattle.opening.specs.declared.Opened.the-variants.{Book, Refused}
 unfoldable pub opened : List ℕ → ℕ → Out (List Definition)
 opened book workLength = given (leb 65536 workLength) work-short book >>= λ b. expanded b
 
--- a code
-pub record Refuses (book : List ℕ) (workLength : ℕ) (code : ℕ) : Type 0 where
+-- whichever way the list m is made: a code
+pub record Refuses (m : Out (List Definition)) (code : ℕ) : Type 0 where
   pub reason : Code
-  pub is : opened book workLength ≡ refused reason
+  pub is : m ≡ refused reason
   pub numbered : code ≡ number reason
 
--- the expanded book stands in the first bytes of the output
-pub record Expands (book : List ℕ) (workLength : ℕ) (out : List ℕ) (len : ℕ) : Type 0 where
+-- its book stands in the first bytes of the output
+pub record Expands (m : Out (List Definition)) (out : List ℕ) (len : ℕ) : Type 0 where
   pub left : List Definition
-  pub is : opened book workLength ≡ done left
+  pub is : m ≡ done left
   pub isBook : IsBook left
   pub holds : take len out ≡ wBook left
   pub fits : len ≤ 16384
@@ -44,13 +44,13 @@ pub record Sound (book : List ℕ) (workLength : ℕ) : Type 0 where
 
 -- a book without macros is its own expansion
 abbrev pub Begins : List ℕ → ℕ → Begun → Type 0
-Begins book workLength begun.Plain = Sound book workLength × Expands book workLength book (length book)
+Begins book workLength begun.Plain = Sound book workLength × Expands (opened book workLength) book (length book)
 Begins book workLength begun.Macros = Sound book workLength
-Begins book workLength (begun.Refused code) = Refuses book workLength code
+Begins book workLength (begun.Refused code) = Refuses (opened book workLength) code
 
-abbrev pub OpensBy : List ℕ → ℕ → List ℕ → Opened → Type 0
-OpensBy book workLength out (Book len) = Expands book workLength out len
-OpensBy book workLength out (Refused code) = Refuses book workLength code
+abbrev pub OpensBy : Out (List Definition) → List ℕ → Opened → Type 0
+OpensBy m out (Book len) = Expands m out len
+OpensBy m out (Refused code) = Refuses m code
 
 pub record Opens (book : List ℕ) (workLength outLength : ℕ) (out : List ℕ) (r : Opened) : Type 0 where
-  pub by : outLength ≡ 16384 → OpensBy book workLength out r
+  pub by : outLength ≡ 16384 → OpensBy (opened book workLength) out r

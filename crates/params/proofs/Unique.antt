@@ -5,7 +5,6 @@ use mathlib.Core.Logic.{_⊎_, inl, inr, ⊎-elim}
 use mathlib.Core.List.{List, [], _∷_}
 use mathlib.Core.Bool.{true, false, cond}
 use native.Mathlib.Omega.{arith}
-use native.Mathlib.Nat.{lt-trans}
 use lib.Dec.{eqb}
 use borrow.Author.Tests.{eqb-true, eqb-false, ltb-false, eq-eqb}
 use Rattle.definition.specs.Tree.{Name}
@@ -13,6 +12,7 @@ use Rattle.definition.specs.Names.{eqName, elem, before}
 use Rattle.laws.specs.Laws.{Less, ends, smaller, equal, Ascending}
 use Rattle.laws.proofs.Tests.{yes-no, not-both}
 use Rattle.laws.proofs.Members.{eqName-true, eqName-refl}
+use Rattle.laws.proofs.Order.{passes, irreflexive}
 
 -- of two names that differ the one that the other is not before
 pub less-of : (a b : Name) → eqName a b ≡ false → before b a ≡ false → Less a b
@@ -24,18 +24,6 @@ less-of (x ∷ a) (y ∷ b) e f = ⊎-elim
     (λ (p : eqb y x ≡ true). let q = eqb-true y x p in rw q (equal (less-of a b (rw (q, eq-eqb x x refl) at e) (rw p at f))))
     (λ (p : eqb y x ≡ false). smaller (omega (arith, eqb-false y x p, ltb-false y x (rw p at f))))
     (yes-no (eqb y x))
-
-passes : {a b c : Name} → Less a b → Less b c → Less a c
-passes ends (smaller q) = ends
-passes ends (equal q) = ends
-passes (smaller p) (smaller q) = smaller (lt-trans p q)
-passes (smaller p) (equal q) = smaller p
-passes (equal p) (smaller q) = smaller q
-passes (equal p) (equal q) = equal (passes p q)
-
-irreflexive : (a : Name) → Less a a → ⊥
-irreflexive (x ∷ a) (smaller p) = omega arith
-irreflexive (x ∷ a) (equal p) = irreflexive a p
 
 -- a member is the first, or behind it
 one-of : (x y : Name) (b : List Name) → elem x (y ∷ b) ≡ true → (x ≡ y) ⊎ (elem x b ≡ true)

@@ -1,13 +1,12 @@
 -- One pass after the other, from what a pass and the test for known calls say.
 -- Assumes nothing.
 use mathlib.Core.Path.{_≡_, refl, sym, ap, _∙_}
-use mathlib.Core.Logic.{⊎-elim}
-use mathlib.Core.List.{List, [], _++_}
+use mathlib.Core.List.{List, []}
 use mathlib.Core.Bool.{Bool, true, false}
-use Prim.Native.Nat.{ℕ, zero, suc, _+_, _-_, _≤_, _<_, min}
+use Prim.Native.Nat.{ℕ, zero, suc, _+_, _-_, _≤_, _<_}
 use native.Mathlib.Omega.{arith}
 use lib.ListN.{length, take, drop}
-use lib.Seq.{take-all, take-append-seam}
+use lib.Seq.{take-append-seam}
 use Rattle.definition.specs.Code.{macro-growth, macro-left}
 use Rattle.definition.specs.Out.{Out, refused, done, _>>=_}
 use Rattle.definition.specs.Tree.{Definition}
@@ -21,20 +20,14 @@ use Rattle.laws.proofs.OnlySix.{Grows, six, none, only-six}
 use Rattle.laws.proofs.ExpandGood.{macros-good, pass-good}
 use Rattle.nested.specs.Nested.{settled, pass, until, again}
 use Rattle.writer.specs.Buf.{put, part, Wrote}
-use Rattle.writer.proofs.Put.{within, length-put, take-written}
+use Rattle.writer.proofs.Put.{length-put, take-written}
 use Rattle.macros.specs.declared.Expanded.{Expanded}
 use Rattle.macros.specs.declared.Expanded.the-variants.{Book as Whole, Grown as Over}
 use Rattle.macros.specs.Pass.{pass as passOf, answerOf, leaves, Passed}
 use Rattle.settled.specs.Settles.{Settles}
 use Rattle.passes.specs.declared.Passes.{Passes}
 use Rattle.passes.specs.declared.Passes.the-variants.{Book, Grown, Left}
-use Rattle.passes.specs.Repeats.{Stands, PassedBack, AgainBy, Again}
-
-pub take-least : (l : List ℕ) (n e : ℕ) → e ≡ min n (length l) → take e l ≡ take n l
-take-least l n e h = ⊎-elim
-    (λ (k : n ≤ length l). let m : e ≡ n = omega arith in rw m)
-    (λ (k : length l < n). take-all e l (omega arith) ∙ sym (take-all n l (omega arith)))
-    (within n (length l))
+use Rattle.passes.specs.Repeats.{Stands, PassedBack, Again}
 
 -- the pass on trees
 pass-is : (ms ds : List Definition) → passOf ms ds ≡ pass (macros ms []) ds

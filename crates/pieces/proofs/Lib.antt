@@ -1,6 +1,6 @@
 pub mod Bools
 pub mod Written
 pub mod Expanded
-pub mod Spliced
+pub mod Marked
 pub mod Deeper
 pub mod Room

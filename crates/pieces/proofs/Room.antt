@@ -1,4 +1,4 @@
--- How much room the marks of a combinator take: half as many numbers as it has bytes are enough.
+-- How much room a combinator takes, and its marks: half as many numbers as it has bytes are enough.
 -- Assumes nothing.
 use mathlib.Core.Path.{_≡_, ap, _∙_}
 use mathlib.Core.List.{List, [], _∷_}
@@ -6,11 +6,17 @@ use Prim.Native.Nat.{ℕ, _+_, _*_, _≤_}
 use native.Mathlib.Omega.{arith}
 use lib.ListN.{length, length-append}
 use Rattle.definition.specs.Tree.{Name, Combinator, Inner, invocation, macro-invocation, Inners}
-use Rattle.definition.specs.Write.{wU16, wName, wList, wInner}
+use Rattle.definition.specs.Write.{wU16, wName, wList, wInner, wCombinator}
 use Rattle.definition.specs.Size.{size}
+use Rattle.seek.specs.Here.{Here}
+use Rattle.seek.proofs.Here.{here-length}
 use Rattle.pieces.specs.Pieces.{Piece, raw, call, macro-call, pieces, places, written}
-use Rattle.laws.proofs.Splits.{s-inner}
+use Rattle.laws.proofs.Splits.{s-comb, s-inner}
 use Rattle.pieces.proofs.Written.{written-is}
+
+pub size-here : {s : List ℕ} {p : ℕ} (c : Combinator) (z : List ℕ) → Here s p (wCombinator c z) → p + size c ≤ length s
+unfolding size
+size-here {s} {p} c z h = omega (arith, simp length-append at (here-length (rw (s-comb c [] z) at h)))
 
 -- a tag, a name's length and a count
 call-long : (n : Name) (a : List Name) → 4 ≤ length (wInner (invocation n a) [])

@@ -2,7 +2,7 @@
 -- Assumes nothing.
 use mathlib.Core.Path.{_≡_, refl, ap, sym, _∙_}
 use mathlib.Core.List.{List, [], _∷_, _++_}
-use mathlib.Core.Bool.{Bool, _&&_}
+use mathlib.Core.Bool.{Bool, true, _&&_}
 use Prim.Native.Nat.{ℕ, suc}
 use Rattle.definition.specs.Tree.{Name, CaseKind, Combinator, plain, chained, Inner, leaf, struct, choice, shell, bytes, invocation, macro-invocation, Fields, no-field, field, const, Cases, no-case, case}
 use Rattle.definition.specs.Write.{wU16, wText, caseByte, wShut, countF, countC, wCombinator, wInner, wFields, wCases}
@@ -89,11 +89,11 @@ module _ (test : Name → Bool) where
   mutual
     unfolding everyInvocation pieces every
 
-    pub every-is : (c : Combinator) (ps : List Piece) → every test (pieces c ps) ≡ everyInvocation c test && every test ps
+    pub every-is : (c : Combinator) (ps : List Piece) → every test (λ n. true) (pieces c ps) ≡ everyInvocation c test && every test (λ n. true) ps
     every-is (plain i) ps = every-isI i (raw (0 ∷ []) ∷ ps)
-    every-is (chained i c) ps = every-isI i (raw (1 ∷ []) ∷ pieces c ps) ∙ rw (every-is c ps) (sym (and-assoc (everyInvocationI i test) (everyInvocation c test) (every test ps)))
+    every-is (chained i c) ps = every-isI i (raw (1 ∷ []) ∷ pieces c ps) ∙ rw (every-is c ps) (sym (and-assoc (everyInvocationI i test) (everyInvocation c test) (every test (λ n. true) ps)))
 
-    pub every-isI : (i : Inner) (ps : List Piece) → every test (piecesI i ps) ≡ everyInvocationI i test && every test ps
+    pub every-isI : (i : Inner) (ps : List Piece) → every test (λ n. true) (piecesI i ps) ≡ everyInvocationI i test && every test (λ n. true) ps
     every-isI (leaf k x) ps = refl
     every-isI (struct f) ps = every-isF f ps
     every-isI (choice s k f) ps = every-isC f k ps
@@ -102,11 +102,11 @@ module _ (test : Name → Bool) where
     every-isI (invocation n a) ps = refl
     every-isI (macro-invocation n a) ps = refl
 
-    pub every-isF : (f : Fields) (ps : List Piece) → every test (piecesF f ps) ≡ everyInvocationF f test && every test ps
+    pub every-isF : (f : Fields) (ps : List Piece) → every test (λ n. true) (piecesF f ps) ≡ everyInvocationF f test && every test (λ n. true) ps
     every-isF no-field ps = refl
-    every-isF (field k l c f) ps = every-is c (piecesF f ps) ∙ rw (every-isF f ps) (sym (and-assoc (everyInvocation c test) (everyInvocationF f test) (every test ps)))
+    every-isF (field k l c f) ps = every-is c (piecesF f ps) ∙ rw (every-isF f ps) (sym (and-assoc (everyInvocation c test) (everyInvocationF f test) (every test (λ n. true) ps)))
     every-isF (const l x f) ps = every-isF f ps
 
-    pub every-isC : (f : Cases) (k : CaseKind) (ps : List Piece) → every test (piecesC f k ps) ≡ everyInvocationC f test && every test ps
+    pub every-isC : (f : Cases) (k : CaseKind) (ps : List Piece) → every test (λ n. true) (piecesC f k ps) ≡ everyInvocationC f test && every test (λ n. true) ps
     every-isC no-case k ps = refl
-    every-isC (case l c f) k ps = every-is c (piecesC f k ps) ∙ rw (every-isC f k ps) (sym (and-assoc (everyInvocation c test) (everyInvocationC f test) (every test ps)))
+    every-isC (case l c f) k ps = every-is c (piecesC f k ps) ∙ rw (every-isC f k ps) (sym (and-assoc (everyInvocation c test) (everyInvocationC f test) (every test (λ n. true) ps)))

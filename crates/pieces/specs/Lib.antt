@@ -1,2 +1,2 @@
 pub mod Pieces
-pub mod Splice
+pub mod Marked

@@ -76,9 +76,9 @@ rewritten f g (macro-call n a ∷ ps) r = do
 abbrev pub expanded : List Macro → List Piece → List ℕ → Out (List ℕ)
 expanded ms ps r = rewritten (λ n a. done (invocation n a)) (expandMacro ms) ps r
 
--- every called name passes a test
-unfoldable pub every : (Name → Bool) → List Piece → Bool
-every test [] = true
-every test (raw b ∷ ps) = every test ps
-every test (call n a ∷ ps) = test n && every test ps
-every test (macro-call n a ∷ ps) = every test ps
+-- every called name passes a test, one for calls and one for macro calls
+unfoldable pub every : (Name → Bool) → (Name → Bool) → List Piece → Bool
+every f g [] = true
+every f g (raw b ∷ ps) = every f g ps
+every f g (call n a ∷ ps) = f n && every f g ps
+every f g (macro-call n a ∷ ps) = g n && every f g ps

@@ -1,16 +1,17 @@
 // The premise test over an expanded book, on validated bytes: document 01's "Premise test and listing".
 use called::all_known;
 use called::take_names;
-use calls::combinator;
 use contents::params_past;
-use marks::Walk;
 use marks::first_marks;
 use seek::byte;
 use seek::name_past;
 use seek::number;
 use seek::past;
-ghost use Rattle.called.specs.Known.{Rows};
-ghost use Rattle.premise.specs.Holds.{DefinitionHolds, FormatHolds, BodiesHold, Holds};
+use skip::walk_over;
+ghost use lib.ListN.{length};
+ghost use Rattle.bodies.specs.Tested.{FormatTested, DefinitionTested, BodiesTested};
+ghost use Rattle.called.specs.Known.{Rows, rowNames};
+ghost use Rattle.premise.specs.Holds.{passes, Holds};
 
 // The format at a place: its body, behind its name and its parameters.
 fn format_holds(
@@ -22,21 +23,11 @@ fn format_holds(
     marks: &mut [u16],
 ) -> bool
     requires { ⌜ Rows (now s) (now places) (now hashes) n ⌝ }
-    ensures { λ r. ⌜ FormatHolds (now (s .entry)) at (now (places .entry)) n (now (marks .entry)) r ⌝ }
+    ensures { λ r. ⌜ FormatTested (now (s .entry)) at (passes (rowNames (now (s .entry)) (now (places .entry)) n)) (length (now (marks .entry))) r ⌝ }
 {
     let params = name_past(s, at);
     let body = params_past(s, params, marks);
-    let w = combinator(
-        s,
-        Walk {
-            at: body,
-            n: 0,
-            left: 64,
-            plain: true,
-        },
-        64,
-        marks,
-    );
+    let w = walk_over(s, body, 64, marks);
     let plain = w.plain;
     let count = w.n;
     if plain {
@@ -56,7 +47,7 @@ fn definition_holds(
     marks: &mut [u16],
 ) -> bool
     requires { ⌜ Rows (now s) (now places) (now hashes) n ⌝ }
-    ensures { λ r. ⌜ DefinitionHolds (now (s .entry)) kind at (now (places .entry)) n (now (marks .entry)) r ⌝ }
+    ensures { λ r. ⌜ DefinitionTested (now (s .entry)) kind at (passes (rowNames (now (s .entry)) (now (places .entry)) n)) (length (now (marks .entry))) r ⌝ }
 {
     if kind == 1 {
         return format_holds(s, at, places, hashes, n, marks);
@@ -67,7 +58,7 @@ fn definition_holds(
 // Every format's body, with the names that may be called in a table.
 fn bodies_hold(s: &[u8], places: &[u16], hashes: &[u16], n: usize, marks: &mut [u16]) -> bool
     requires { ⌜ Rows (now s) (now places) (now hashes) n ⌝ }
-    ensures { λ r. ⌜ BodiesHold (now (s .entry)) (now (places .entry)) n (now (marks .entry)) r ⌝ }
+    ensures { λ r. ⌜ BodiesTested (now (s .entry)) (passes (rowNames (now (s .entry)) (now (places .entry)) n)) (length (now (marks .entry))) r ⌝ }
 {
     let mut left = number(s, 0) as usize;
     let mut entry = past(s, 0, 2);

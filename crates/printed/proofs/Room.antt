@@ -16,9 +16,8 @@ use Rattle.definition.specs.Answer.{Result, all}
 use Rattle.definition.specs.Listing.{hex, shownByte, shownBytes, shown, count, wFormat, wLifted, line, lines, listed}
 use Rattle.laws.specs.Book.{IsBook}
 use Rattle.laws.proofs.Splits.{s-param}
-use Rattle.laws.proofs.Sizes.{adds, head, size-format, room, room-append, size-book}
+use Rattle.laws.proofs.Sizes.{adds, head, size-format, room, room-append, size-book, size-some}
 use Rattle.laws.proofs.Steps.{Yields, stops, yields}
-use Rattle.lifting.proofs.Ranges.{size-some}
 
 byte-room : (b : ℕ) → length (shownByte b) ≤ 3
 unfolding shownByte

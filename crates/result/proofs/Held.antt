@@ -12,7 +12,7 @@ use Rattle.definition.specs.Tree.{Name, Combinator, plain, chained, Inner, invo
 use Rattle.definition.specs.Write.{wU16, wName, wAll, wList, wCombinator, wInner}
 use Rattle.definition.specs.Macros.{innerOf}
 use Rattle.laws.proofs.Splits.{s-inner}
-use Rattle.laws.proofs.Sizes.{adds, sizeI}
+use Rattle.laws.proofs.Sizes.{adds, sizeI, sizeI-some}
 use Rattle.writer.specs.Buf.{part, nameBytes}
 use Rattle.writer.proofs.Put.{part-none, part-more}
 use Rattle.marks.specs.Steps.{walk}
@@ -21,7 +21,7 @@ use Rattle.tables.specs.Rows.{typeAt, rowOf}
 use Rattle.lifting.specs.Records.{Ref, own, passed, Record, find, call}
 use Rattle.lifting.specs.Calls as by-records
 use Rattle.lifting.specs.Calls.{going, withCalls, refAt, refEnd, refBytes, paramBytes}
-use Rattle.lifting.proofs.Ranges.{sizeI-some}
+use Rattle.laws.proofs.Levels.{fewI}
 use Rattle.lifting.proofs.Calls.{calls-end, calls-copy, calls-stretch}
 use Rattle.lifting.proofs.Refs.{AllRefs}
 use Rattle.lifting.proofs.Standing.{Stood}
@@ -30,7 +30,6 @@ use Rattle.splice.specs.Model as by-numbers
 use Rattle.splice.specs.Model.{Tables, namesBytes, calledBytes, callBytes, goes, onFrom, spliced}
 use Rattle.result.specs.Model.{innerEnd, passedBytes, paramsBytes}
 use Rattle.result.specs.Held.{Numbers}
-use Rattle.measured.proofs.Levels.{fewI}
 
 -- "a name 255"
 abbrev pub Short : List Name → Type 0

@@ -16,7 +16,7 @@ use Rattle.definition.specs.Write.{wU16, wAll, wCombinator, wDefinition, kindOf
 use Rattle.definition.specs.Size.{size, sizeBook}
 use Rattle.laws.specs.Book.{GoodP, GoodD, GoodAll, IsBook}
 use Rattle.laws.proofs.Splits.{s-comb}
-use Rattle.laws.proofs.Sizes.{adds, size-book, size-bodies}
+use Rattle.laws.proofs.Sizes.{adds, size-book, size-bodies, size-some}
 use Rattle.laws.proofs.Steps.{gave}
 use Rattle.seek.specs.At.{numberAt}
 use Rattle.seek.specs.Here.{Here}
@@ -28,11 +28,10 @@ use Rattle.lifting.specs.After.{Lift, paramsOf, madeBy, Stands, Found, definiti
 use Rattle.lifting.specs.Calls as by-records
 use Rattle.lifting.specs.Calls.{withCalls, entriesOf, joined, bookOf}
 use Rattle.lifting.specs.Trace.{Trace, treeHead, begin, traceBook, traced}
-use Rattle.lifting.proofs.Ranges.{size-some}
 use Rattle.lifting.proofs.Refs.{WellTyped, AllTyped}
 use Rattle.lifting.proofs.Standing.{Stood, AllWhole}
 use Rattle.lifting.proofs.Book.{bodies, bodies-cons, elaborated-by, was-traced}
-use Rattle.lifting.proofs.Written.{WholeAll, bodies-stand, written}
+use Rattle.lifting.proofs.Written.{WholeAll, of-cons, inside-all, traceAll-types, found-typed, bodies-stand, written}
 use Rattle.result.specs.Model as model
 use Rattle.entries.specs.Entry.{entryBytes}
 use Rattle.splice.specs.Model.{Tables, row}
@@ -40,7 +39,7 @@ use Rattle.result.specs.Model.{Piece, entries, keptFrom, liftedFrom, boo
 use Rattle.result.specs.Held.{Agrees, Held, Writes}
 use Rattle.result.specs.Adds.{Filled}
 use Rattle.result.proofs.Held.{Short, Known, Knows, room, spliced-goes, lifted-are}
-use Rattle.result.proofs.Bodies.{body-some, of-cons, first-clear, inside-all, types-stood, found-typed}
+use Rattle.result.proofs.Bodies.{body-some, first-clear}
 
 -- kinds and bytes as definitions of a book
 unfoldable pub piecesOf : List Kind → List (List ℕ) → List Piece
@@ -206,7 +205,7 @@ result-written t order n ds z w e good held =
     let rs = w .records in
     let k = was-traced ds w e in
     let all : WholeAll s rs ds (firstAt ds) = record { rest = z; stands = rw (held .book) (bodies-stand ds z); clear = λ x i j h. k .only x h; found = k .found } in
-    let a = gave (types-stood s rs treeHead ds (firstAt ds) (begin ds) all tt) e in
+    let a = gave (traceAll-types s rs treeHead ds (firstAt ds) (begin ds) all tt) e in
     let h = book-here t ds z (held .book) in
     let agree : (p : ℕ) → p < length s → Knows t (find rs p) (getD (t .number) p 0) = λ p b. knows t rs (short-of ds w (Stood s rs) k a good) p (getD (t .number) p 0) (find rs p) refl (held .numbered p b) in
     let ks = map kindOf ds in

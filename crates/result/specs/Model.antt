@@ -1,6 +1,6 @@
 -- What the writing pass writes, from the expanded book and the tables of the naming pass: total on any bytes and any numbers.
 -- That it is document 01's result where the tables are those of the book is shown in proofs/Result.antt.
-use mathlib.Core.Bool.{Bool, true, false}
+use mathlib.Core.Bool.{true}
 use mathlib.Core.List.{List, [], _∷_, _++_}
 use Prim.Native.Nat.{ℕ, zero, suc, _+_, _*_, _-_, _%_}
 use lib.Dec.{eqb}
@@ -9,16 +9,12 @@ use Rattle.definition.specs.Tree.{Name}
 use Rattle.definition.specs.Write.{wU16}
 use Rattle.writer.specs.Buf.{part, nameBytes}
 use Rattle.entries.specs.Entry.{entryBytes}
-use Rattle.seek.specs.At.{byteAt, numberAt}
+use Rattle.seek.specs.At.{byteAt, numberAt, pick}
 use Rattle.marks.specs.Steps.{walk}
 use Rattle.calls.specs.Walk.{skipAt}
 use Rattle.tables.specs.Rows.{TypeAt, Row}
 use Rattle.splice.specs.Model.{row, calledBytes, spliced}
 pub use Rattle.splice.specs.Model.{Tables, tables}
-
-abbrev pub pick : {A : Type 0} → Bool → A → A → A
-pick true a b = a
-pick false a b = b
 
 -- where an inner ends. It has fewer levels than bytes
 unfoldable pub innerEnd : List ℕ → ℕ → ℕ

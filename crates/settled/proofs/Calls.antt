@@ -3,27 +3,25 @@
 use mathlib.Core.Path.{_≡_, refl, sym, ap, _∙_}
 use mathlib.Core.List.{List, [], _∷_}
 use mathlib.Core.Bool.{Bool, true, false, not, _&&_}
-use Prim.Native.Nat.{ℕ, _+_}
-use lib.Dec.{eqb}
-use lib.ListN.{length}
+use Prim.Native.Nat.{ℕ}
 use borrow.Author.Tests.{eq-eqb, ne-eqb}
 use Rattle.definition.specs.Tree.{Name, CaseKind, Combinator, plain, chained, Inner, leaf, struct, choice, shell, bytes, invocation, macro-invocation, Fields, no-field, field, const, Cases, no-case, case, Inners}
-use Rattle.definition.specs.Write.{wName, wU16, wList, wShut, wCombinator, wInner, wInners, countA}
+use Rattle.definition.specs.Write.{wU16, wShut, wCombinator, wInner, wInners, countA}
 use Rattle.definition.specs.Macros.{Macro}
 use Rattle.nested.specs.Nested.{everyMacroCall, everyMacroCallI, everyMacroCallF, everyMacroCallC, isMacro}
-use Rattle.laws.proofs.Splits.{s-inner}
 use Rattle.seek.specs.At.{byteAt, pastAt}
 use Rattle.seek.specs.Here.{Here}
-use Rattle.seek.proofs.Here.{byte-here, next-here, behind}
+use Rattle.seek.proofs.Here.{byte-here, next-here}
 use Rattle.lookup.specs.Name.{nameAt}
 use Rattle.lookup.proofs.Names.{stands}
-use Rattle.pieces.specs.Pieces.{Piece, raw, call, macro-call, pieces, piecesI, piecesF, piecesC, places, written}
-use Rattle.pieces.specs.Splice.{everyPlace}
+use Rattle.pieces.specs.Pieces.{Piece, raw, pieces, piecesI, piecesF, piecesC, places, written, every}
+use Rattle.pieces.specs.Marked.{everyPlace}
+use Rattle.pieces.proofs.Marked.{every-place}
 use Rattle.pieces.proofs.Written.{written-is}
 use Rattle.pieces.proofs.Bools.{and-true, and-assoc}
 use Rattle.known.specs.declared.Found.the-variants.{At, Unknown}
 use Rattle.known.specs.Table.{FindsMacro}
-use Rattle.settled.specs.Calls.{everyMacro, unknownAt}
+use Rattle.settled.specs.Calls.{unknownAt}
 use Rattle.settled.specs.Settles.{UnknownAt, calm}
 
 -- the call at a place
@@ -47,13 +45,13 @@ module _ {lib pl hs : List ℕ} {rows : ℕ} {book : List ℕ} {at tag : ℕ} (e
 -- the trees
 module _ (test : Name → Bool) where
   mutual
-    unfolding everyMacroCall pieces everyMacro
+    unfolding everyMacroCall pieces every
 
-    every-is : (c : Combinator) (ps : List Piece) → everyMacro test (pieces c ps) ≡ everyMacroCall c test && everyMacro test ps
+    every-is : (c : Combinator) (ps : List Piece) → every (λ n. true) test (pieces c ps) ≡ everyMacroCall c test && every (λ n. true) test ps
     every-is (plain i) ps = every-isI i (raw (0 ∷ []) ∷ ps)
-    every-is (chained i c) ps = every-isI i (raw (1 ∷ []) ∷ pieces c ps) ∙ rw (every-is c ps) (sym (and-assoc (everyMacroCallI i test) (everyMacroCall c test) (everyMacro test ps)))
+    every-is (chained i c) ps = every-isI i (raw (1 ∷ []) ∷ pieces c ps) ∙ rw (every-is c ps) (sym (and-assoc (everyMacroCallI i test) (everyMacroCall c test) (every (λ n. true) test ps)))
 
-    every-isI : (i : Inner) (ps : List Piece) → everyMacro test (piecesI i ps) ≡ everyMacroCallI i test && everyMacro test ps
+    every-isI : (i : Inner) (ps : List Piece) → every (λ n. true) test (piecesI i ps) ≡ everyMacroCallI i test && every (λ n. true) test ps
     every-isI (leaf k x) ps = refl
     every-isI (struct f) ps = every-isF f ps
     every-isI (choice s k f) ps = every-isC f k ps
@@ -62,14 +60,14 @@ module _ (test : Name → Bool) where
     every-isI (invocation n a) ps = refl
     every-isI (macro-invocation n a) ps = refl
 
-    every-isF : (f : Fields) (ps : List Piece) → everyMacro test (piecesF f ps) ≡ everyMacroCallF f test && everyMacro test ps
+    every-isF : (f : Fields) (ps : List Piece) → every (λ n. true) test (piecesF f ps) ≡ everyMacroCallF f test && every (λ n. true) test ps
     every-isF no-field ps = refl
-    every-isF (field k l c f) ps = every-is c (piecesF f ps) ∙ rw (every-isF f ps) (sym (and-assoc (everyMacroCall c test) (everyMacroCallF f test) (everyMacro test ps)))
+    every-isF (field k l c f) ps = every-is c (piecesF f ps) ∙ rw (every-isF f ps) (sym (and-assoc (everyMacroCall c test) (everyMacroCallF f test) (every (λ n. true) test ps)))
     every-isF (const l x f) ps = every-isF f ps
 
-    every-isC : (f : Cases) (k : CaseKind) (ps : List Piece) → everyMacro test (piecesC f k ps) ≡ everyMacroCallC f test && everyMacro test ps
+    every-isC : (f : Cases) (k : CaseKind) (ps : List Piece) → every (λ n. true) test (piecesC f k ps) ≡ everyMacroCallC f test && every (λ n. true) test ps
     every-isC no-case k ps = refl
-    every-isC (case l c f) k ps = every-is c (piecesC f k ps) ∙ rw (every-isC f k ps) (sym (and-assoc (everyMacroCall c test) (everyMacroCallC f test) (everyMacro test ps)))
+    every-isC (case l c f) k ps = every-is c (piecesC f k ps) ∙ rw (every-isC f k ps) (sym (and-assoc (everyMacroCall c test) (everyMacroCallC f test) (every (λ n. true) test ps)))
 
 -- the bytes
 module _ (ms : List Macro) (s : List ℕ) where
@@ -81,18 +79,7 @@ module _ (ms : List Macro) (s : List ℕ) where
   unfolding unknownAt wInner
   macro-tests p n a z h = rw (byte-here h, stands s (pastAt s p 1) n (wU16 (countA a) (wInners a z)) (next-here h .is))
 
-  every-place : (ps : List Piece) (p : ℕ) (z : List ℕ) → Here s p (written invocation ps z) → everyPlace (unknownAt ms s) (places p ps) ≡ everyMacro (λ n. not (isMacro ms n)) ps
-  unfolding written places everyPlace everyMacro
-  every-place [] p z e = refl
-  every-place (raw b ∷ ps) p z e = every-place ps (p + length b) z (behind b e)
-  every-place (call n a ∷ ps) p z e =
-      let y : List ℕ = wInner (invocation n a) [] in
-      rw (call-passes p n a (written invocation ps z) e, every-place ps (p + length y) z (behind y (rw (← (s-inner (invocation n a) [] (written invocation ps z))) e)))
-  every-place (macro-call n a ∷ ps) p z e =
-      let y : List ℕ = wInner (macro-invocation n a) [] in
-      rw (macro-tests p n a (written invocation ps z) e, every-place ps (p + length y) z (behind y (rw (← (s-inner (macro-invocation n a) [] (written invocation ps z))) e)))
-
   -- "no known macro call stands where the pass reaches", by marks
   pub calm-by : (c : Combinator) (p : ℕ) (z : List ℕ) → Here s p (wCombinator c z) → everyPlace (unknownAt ms s) (places p (pieces c [])) ≡ calm ms c
-  unfolding written everyMacro calm
-  calm-by c p z e = every-place (pieces c []) p z (rw (written-is c [] z) e) ∙ every-is (λ n. not (isMacro ms n)) c [] ∙ and-true (everyMacroCall c (λ n. not (isMacro ms n)))
+  unfolding written every calm
+  calm-by c p z e = every-place s (unknownAt ms s) (λ n. true) (λ n. not (isMacro ms n)) call-passes macro-tests (pieces c []) p z (rw (written-is c [] z) e) ∙ every-is (λ n. not (isMacro ms n)) c [] ∙ and-true (everyMacroCall c (λ n. not (isMacro ms n)))

@@ -11,7 +11,7 @@ use Rattle.seek.specs.At.{byteAt, pastAt, numberAt, namePast}
 use Rattle.marks.specs.declared.Walk.{Walk}
 use Rattle.marks.specs.Steps.{walk}
 use Rattle.calls.specs.Walk.{combinatorAt}
-use Rattle.pieces.specs.Splice.{everyPlace}
+use Rattle.pieces.specs.Marked.{everyPlace}
 use Rattle.contents.specs.Params.{ParamsPast}
 use Rattle.bodies.specs.Tested.{BodiesLeft}
 use Rattle.bodies.proofs.Places.{every-next, every-stop, every-end}

@@ -9,7 +9,7 @@ use Rattle.definition.specs.Write.{wBook}
 use Rattle.definition.specs.Macros.{Macro, macros}
 use Rattle.nested.specs.Nested.{everyMacroCall, isMacro, settled}
 use Rattle.laws.specs.Book.{IsBook}
-use Rattle.pieces.specs.Splice.{everyPlace}
+use Rattle.pieces.specs.Marked.{everyPlace}
 use Rattle.bodies.specs.Tested.{FormatTested, DefinitionTested, BodiesTested}
 use Rattle.known.specs.Table.{Rows}
 use Rattle.settled.specs.Calls.{unknownAt}

@@ -9,7 +9,7 @@ use seek::byte;
 use seek::name_past;
 use seek::number;
 use seek::past;
-use substitution::walk_over;
+use skip::walk_over;
 ghost use Rattle.settled.specs.Settles.{UnknownAt, AllUnknown, FormatSettles, DefinitionSettles, BodiesSettle, Settles};
 
 // Whether the call at a place is none of a known macro.

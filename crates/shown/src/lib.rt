@@ -1,5 +1,5 @@
 // Names and numbers as the listing prints them.
-use names::put_decimal;
+use segments::put_decimal;
 use writer::put_byte;
 use writer::put_bytes;
 ghost use mathlib.Core.Path.{_≡_};

@@ -2,4 +2,3 @@ pub mod Copied
 pub mod Stands
 mod Subst
 pub mod Turns
-pub mod Opening

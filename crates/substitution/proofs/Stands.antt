@@ -2,7 +2,7 @@
 -- Assumes nothing.
 use mathlib.Core.Path.{_≡_, ap, _∙_}
 use mathlib.Core.List.{List, [], _++_}
-use Prim.Native.Nat.{ℕ, _+_, _-_, _≤_, min}
+use Prim.Native.Nat.{ℕ, _+_, _≤_, min}
 use native.Mathlib.Omega.{arith}
 use lib.ListN.{length, length-append}
 use Rattle.definition.specs.Tree.{Name, Inner, Inners, invocation, macro-invocation}
@@ -15,7 +15,7 @@ use Rattle.lookup.proofs.Names.{stands}
 use Rattle.writer.specs.Buf.{part}
 use Rattle.writer.proofs.Put.{part-split}
 use Rattle.laws.proofs.Splits.{s-inner}
-use Rattle.pieces.proofs.Spliced.{part-here}
+use Rattle.pieces.proofs.Marked.{part-here}
 
 module _ {s : List ℕ} {p : ℕ} where
   pub step-here : (b : List ℕ) {z : List ℕ} → Here s p (b ++ z) → Here s (p + length b) z

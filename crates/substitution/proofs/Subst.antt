@@ -11,13 +11,14 @@ use Rattle.definition.specs.Names.{eqName}
 use Rattle.definition.specs.Write.{wInner, wCombinator}
 use Rattle.definition.specs.Size.{size}
 use Rattle.definition.specs.Macros.{same, subst}
+use Rattle.seek.specs.At.{pick}
 use Rattle.seek.specs.Here.{Here}
 use Rattle.writer.specs.Buf.{part}
 use Rattle.writer.proofs.Put.{part-none}
 use Rattle.pieces.specs.Pieces.{Piece, raw, call, macro-call, pieces, places, written, replaced}
 use Rattle.laws.proofs.Splits.{s-inner}
 use Rattle.pieces.proofs.Written.{written-is, subst-is}
-use Rattle.substitution.specs.Substituted.{pick, callsName, substituted}
+use Rattle.substitution.specs.Substituted.{callsName, substituted}
 use Rattle.substitution.proofs.Stands.{step-here, inner-here, part-on, call-tag, macro-tag, call-name}
 
 module _ (s : List ℕ) (p : Name) (y : Inner) (to : ℕ) where

@@ -1,3 +1,2 @@
 pub mod Substituted
-pub mod Instance
-pub mod Call
+pub mod Turned

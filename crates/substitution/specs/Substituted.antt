@@ -1,18 +1,14 @@
 -- Substitution by position: the bytes between calls are copied, and in the place of each Invocation of the parameter's name goes the argument.
 -- It mirrors the code; that it is the definition's substitution is shown in proofs/Subst.antt.
 use mathlib.Core.List.{List, [], _∷_, _++_}
-use mathlib.Core.Bool.{Bool, true, false}
+use mathlib.Core.Bool.{Bool, false}
 use Prim.Native.Nat.{ℕ}
 use lib.Dec.{eqb}
 use Rattle.definition.specs.Tree.{Name}
 use Rattle.definition.specs.Names.{eqName}
-use Rattle.seek.specs.At.{byteAt, pastAt}
+use Rattle.seek.specs.At.{byteAt, pastAt, pick}
 use Rattle.lookup.specs.Name.{nameAt}
 use Rattle.writer.specs.Buf.{part}
-
-abbrev pub pick : {A : Type 0} → Bool → A → A → A
-pick true a b = a
-pick false a b = b
 
 -- rule 4: "an Invocation whose name is the parameter"
 unfoldable pub callsName : List ℕ → ℕ → Name → Bool

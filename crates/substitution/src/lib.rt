@@ -1,27 +1,22 @@
-// Substitution on validated bytes, and a macro's instance at a call of it: document 01's "Macro rules", 3 and 4.
-pub mod call;
-
+// Substitution of one parameter on validated bytes: document 01's "Macro rules", 4.
 use areas::first_area;
 use areas::put_across;
 use areas::put_back;
-use calls::combinator;
 use lookup::name_at;
 use lookup::same_name;
-use marks::Walk;
 use marks::first_marks;
 use seek::byte;
 use seek::name_past;
 use seek::past;
-use skip::skip_inner;
+use skip::skip_over;
+use skip::walk_over;
 use writer::least;
 use writer::put_bytes;
 ghost use mathlib.Core.Path.{_≡_};
-ghost use mathlib.Core.Bool.{true, false};
+ghost use mathlib.Core.Bool.{false};
 ghost use Rattle.writer.specs.Buf.{part, Wrote};
 ghost use Rattle.areas.specs.First.{first};
-ghost use Rattle.marks.specs.Steps.{walk};
-ghost use Rattle.calls.specs.Walk.{combinatorAt, skipAt};
-ghost use Rattle.substitution.specs.Instance.{Turned, Instanced};
+ghost use Rattle.substitution.specs.Turned.{Turned};
 ghost use Rattle.substitution.specs.Substituted.{callsName, substituted};
 
 // Whether what stands at a place is an Invocation of this name.
@@ -84,40 +79,6 @@ fn between(s: &[u8], a: usize, e: usize) -> &[u8]
     &s[a..end]
 }
 
-// Over the combinator at a place, with so many levels left; its calls go to the marks from the first on.
-pub fn walk_over(s: &[u8], at: usize, levels: usize, marks: &mut [u16]) -> Walk
-    ensures { λ r. ⌜ (r ≡ combinatorAt levels (now (s .entry)) (walk at 0 levels true) (now (marks .entry)) .0) × (now (marks .exit) ≡ combinatorAt levels (now (s .entry)) (walk at 0 levels true) (now (marks .entry)) .1) ⌝ }
-{
-    combinator(
-        s,
-        Walk {
-            at,
-            n: 0,
-            left: levels,
-            plain: true,
-        },
-        levels,
-        marks,
-    )
-}
-
-// Over the inner at a place, with nothing recorded.
-fn skip_over(s: &[u8], at: usize, marks: &mut [u16]) -> Walk
-    ensures { λ r. ⌜ (r ≡ skipAt 64 (now (s .entry)) (walk at 0 64 true) (now (marks .entry)) .0) × (now (marks .exit) ≡ skipAt 64 (now (s .entry)) (walk at 0 64 true) (now (marks .entry)) .1) ⌝ }
-{
-    skip_inner(
-        s,
-        Walk {
-            at,
-            n: 0,
-            left: 64,
-            plain: true,
-        },
-        64,
-        marks,
-    )
-}
-
 fn stopped(t: Turn) -> Turn
     ensures { λ r. ⌜ r .good ≡ false ⌝ }
 {
@@ -131,7 +92,13 @@ fn stopped(t: Turn) -> Turn
 }
 
 // One parameter's turn: the combinator in the first area is made anew in the second, and goes back to the first. Over 16,384 bytes or 64 levels it is not good.
-fn substitute_next(macros: &[u8], book: &[u8], t: Turn, areas: &mut [u8], marks: &mut [u16]) -> Turn
+pub fn substitute_next(
+    macros: &[u8],
+    book: &[u8],
+    t: Turn,
+    areas: &mut [u8],
+    marks: &mut [u16],
+) -> Turn
     ensures { λ r. ⌜ Turned (now (macros .entry)) (now (book .entry)) (now (areas .entry)) (now (marks .entry)) t (now (areas .exit)) (now (marks .exit)) r ⌝ }
 {
     let param = t.param;
@@ -161,30 +128,4 @@ fn substitute_next(macros: &[u8], book: &[u8], t: Turn, areas: &mut [u8], marks:
         n: w.n,
         good: 65 <= left,
     }
-}
-
-// One parameter after the other, for so many pairs of a parameter and an argument.
-fn instance(
-    macros: &[u8],
-    book: &[u8],
-    t: Turn,
-    pairs: usize,
-    areas: &mut [u8],
-    marks: &mut [u16],
-) -> Turn
-    requires { ⌜ t .good ≡ true ⌝ }
-    ensures { λ r. ⌜ Instanced (now (macros .entry)) (now (book .entry)) (now (areas .entry)) (now (marks .entry)) t pairs (now (areas .exit)) (now (marks .exit)) r ⌝ }
-{
-    let mut here = t;
-    let mut left = pairs;
-    while 0 < left {
-        here = substitute_next(macros, book, here, areas, marks);
-        let good = here.good;
-        if good {
-            left -= 1;
-        } else {
-            return here;
-        }
-    }
-    here
 }

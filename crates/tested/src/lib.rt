@@ -2,7 +2,7 @@
 use opening::Opened;
 use opening::open_book;
 use premise::holds;
-use writer::zero_range;
+use zeroing::zero_range;
 ghost use mathlib.Core.Path.{_≡_};
 ghost use lib.ListN.{length};
 ghost use Rattle.definition.specs.Answer.{zeroed};

@@ -12,7 +12,7 @@ use borrow.Author.Tests.{leb-true, leb-false}
 use native.Mathlib.Numerals.{add-one}
 use native.Mathlib.Omega.{arith}
 use lib.ListN.{length, take, drop, getD, set, length-append, length-take, length-drop, take-append-drop, List·getD-append, drop-of-length-le}
-use lib.Seq.{set-split, take-at, drop-at, length-take-le, drop-drop, take-append-le, take-append-add, getD-drop, getD-take, getD-append-add, take-suc, take-add, take-length, take-all, take-nil, take-take}
+use lib.Seq.{set-split, take-at, drop-at, length-take-le, drop-drop, take-append-le, take-append-add, getD-drop, getD-take, getD-append-add, take-suc, take-add, take-all, take-nil, take-take}
 use Rattle.writer.specs.Buf.{put, part}
 
 pub length-put : (d : List ℕ) (at : ℕ) (p : List ℕ) → length (put d at p) ≡ length d
@@ -167,15 +167,7 @@ part-split a i e l h k =
     let f : a + (i - a) ≡ i = omega arith in
     rw (n, take-add) (rw (drop-drop, f))
 
-pub part-all : (l : List ℕ) → part 0 (length l) l ≡ l
-unfolding part
-part-all l = let n : length l - 0 ≡ length l = omega arith in rw n (take-length l)
-
--- a part that starts past the end, or is none, and one that is cut by the end
-pub part-empty : (a e : ℕ) (l : List ℕ) → length l ≤ a → part a e l ≡ []
-unfolding part
-part-empty a e l h = rw (drop-of-length-le l {i = a} h) (take-nil (e - a))
-
+-- a part that is none, and one that is cut by the end
 pub part-back : (a e : ℕ) (l : List ℕ) → e ≤ a → part a e l ≡ []
 unfolding part
 part-back a e l h = let z : e - a ≡ 0 = omega arith in rw z
@@ -194,6 +186,13 @@ module _ (a e : ℕ) (l : List ℕ) (end : ℕ) (k : end ≡ min e (length l)) w
 
   pub part-short : end ≤ a → part a e l ≡ []
   part-short h = part-clip ∙ (let z : end - a ≡ 0 = omega arith in rw z)
+
+-- so many of a list, or all
+pub take-least : (l : List ℕ) (n e : ℕ) → e ≡ min n (length l) → take e l ≡ take n l
+take-least l n e h = ⊎-elim
+    (λ (k : n ≤ length l). let m : e ≡ n = omega arith in rw m)
+    (λ (k : length l < n). take-all e l (omega arith) ∙ sym (take-all n l (omega arith)))
+    (within n (length l))
 
 -- of a part that lies before a write
 pub part-put-before : (a n : ℕ) (d : List ℕ) (at : ℕ) (p : List ℕ) → a + n ≤ at → take n (drop a (put d at p)) ≡ take n (drop a d)

@@ -2,12 +2,11 @@
 -- Assumes nothing.
 use mathlib.Core.Path.{_≡_, sym, ap, _∙_}
 use mathlib.Core.Logic.{⊎-elim}
-use mathlib.Core.List.{List, [], _∷_, _++_, append-nil}
-use Prim.Native.Nat.{ℕ, suc, _+_, _-_, _≤_, _<_, min, _%_}
+use mathlib.Core.List.{List, [], _∷_, _++_}
+use Prim.Native.Nat.{ℕ, suc, _+_, _-_, _≤_, _<_, min}
 use native.Mathlib.Omega.{arith}
 use lib.ListN.{length, set, take, drop, length-append, length-take, take-append-drop}
-use Rattle.definition.specs.Write.{wName}
-use Rattle.writer.specs.Buf.{put, after, Wrote, nameBytes}
+use Rattle.writer.specs.Buf.{put, after, Wrote}
 use Rattle.writer.proofs.Put.{length-put, put-nil, put-past, put-put, put-cut, put-first, within}
 
 -- the place after a write, in numbers
@@ -68,8 +67,3 @@ wrote-cut d at p d′ h k e =
       place = omega arith;
       holds = e ∙ sym (put-cut d at (take n p) (drop n p) m) ∙ ap (put d at) (take-append-drop n p);
     }
-
--- the bytes are the definition's, where a name is one
-pub name-bytes : (n : List ℕ) → length n ≤ 255 → nameBytes n ≡ wName n []
-unfolding nameBytes wName
-name-bytes n h = let e : length n % 256 ≡ length n = omega arith in rw e (ap (λ (l : List ℕ). length n ∷ l) (sym (append-nil n)))

@@ -5,7 +5,7 @@
 use mathlib.Core.List.{List, _∷_, _++_}
 use mathlib.Core.Path.{_≡_}
 use Prim.Native.Nat.{ℕ, suc, _+_, _-_, _%_, min}
-use lib.ListN.{length, take, drop, replicate}
+use lib.ListN.{length, take, drop}
 
 -- d with the elements of p from place at on, as far as d reaches; the rest as before
 unfoldable pub put : List ℕ → ℕ → List ℕ → List ℕ
@@ -18,9 +18,6 @@ after d at p = min (suc (length d)) (at + length p)
 -- the elements from place a up to place e
 unfoldable pub part : ℕ → ℕ → List ℕ → List ℕ
 part a e l = take (e - a) (drop a l)
-
-abbrev pub zeros : ℕ → List ℕ
-zeros n = replicate n 0
 
 -- p was written into d at a place: what d holds then, and the place after
 pub record Wrote (d : List ℕ) (at : ℕ) (p : List ℕ) (d′ : List ℕ) (r : ℕ) : Type 0 where

@@ -5,7 +5,7 @@ ghost use Prim.Native.Nat.{_+_, _-_, _%_, _/_, _≤_, min};
 ghost use mathlib.Core.List.{[], _∷_};
 ghost use lib.ListN.{length, take};
 ghost use Rattle.definition.specs.Write.{wU16};
-ghost use Rattle.writer.specs.Buf.{put, part, zeros, Wrote, nameBytes};
+ghost use Rattle.writer.specs.Buf.{put, part, Wrote, nameBytes};
 
 // One byte.
 pub fn put_byte(x: u8, dst: &mut [u8], at: usize) -> usize
@@ -91,16 +91,4 @@ pub fn put_name(name: &[u8], dst: &mut [u8], at: usize) -> usize
     let n = name.len();
     let first = put_byte((n % 256) as u8, dst, at);
     put_bytes(name, dst, first)
-}
-
-// Zero from place a up to place e, as far as dst reaches.
-pub fn zero_range(dst: &mut [u8], a: usize, e: usize)
-    ensures { λ _. ⌜ now (dst .exit) ≡ put (now (dst .entry)) a (zeros (e - a)) ⌝ }
-{
-    let end = least(e, dst.len());
-    let mut i = a;
-    while i < end {
-        dst[i] = 0;
-        i += 1;
-    }
 }

@@ -4,7 +4,7 @@ use borrow.Author.Needs.{needs}
 use borrow.Author.Tests.{not-true, not-false}
 use Rattle.bodies.proofs.Places.{every-next, every-stop, every-end}
 use Rattle.called.specs.Known.{knownAt}
-use Rattle.pieces.specs.Splice.{everyPlace}
+use Rattle.pieces.specs.Marked.{everyPlace}
 use lib.ListN.{length, drop}
 use Prim.Native.Nat.{_-_, _≤_}
 use mathlib.Core.Path.{_≡_, refl}

@@ -6,20 +6,20 @@ use Rattle.contents.proofs.param_past.Statement.{statement}
 use Rattle.contents.proofs.param_past.Tie as tie
 use Rattle.contents.proofs.param_past.Reads as reads
 use Rattle.contents.proofs.param_past.Lts as lts
-use Rattle.skip.proofs.skip_inner.Reads as skip-inner-reads
+use Rattle.skip.proofs.skip_over.Reads as skip-over-reads
 use Rattle.seek.proofs.name_past.Reads as name-past-reads
 
 name-past-requires : tie.Need-name-past-requires
 name-past-requires c κs = search needs
 
-skip-inner-requires : tie.Need-skip-inner-requires
-skip-inner-requires c κs = search needs
+skip-over-requires : tie.Need-skip-over-requires
+skip-over-requires c κs = search needs
 
 same-length : tie.Need-same-length
 same-length c = search needs
 
 returns : tie.Need-returns
-returns c = param-past _ (c .before .before .before .before .name-past .ensures) _ (c .before .before .skip-inner .ensures .0)
+returns c = param-past _ (c .before .before .before .before .name-past .ensures) _ (c .before .before .skip-over .ensures .0)
 
 pub param-past-spec : {M : Type 1} → statement M
-param-past-spec = tie.close (tie.spec name-past-requires skip-inner-requires same-length returns)
+param-past-spec = tie.close (tie.spec name-past-requires skip-over-requires same-length returns)

@@ -20,7 +20,7 @@ enum-told : tie.Need-enum-told
 enum-told c = search needs
 
 lift-book-requires : tie.Need-lift-book-requires
-lift-book-requires c κs = plain-book ((rw (c .before .enum-told .given .1) at (c .before .before .before .begin .ensures)) .1)
+lift-book-requires c κs = plain-book _ _ ((rw (c .before .enum-told .given .1) at (c .before .before .before .begin .ensures)) .1)
 
 enum-told-2 : tie.Need-enum-told-2
 enum-told-2 c = search needs
@@ -29,13 +29,13 @@ attempt-expanded-requires : tie.Need-attempt-expanded-requires
 attempt-expanded-requires c κs = rw (c .before .before .enum-told2 .given .1) at (c .before .before .before .before .begin .ensures)
 
 returns : tie.Need-returns
-returns c = reports-code (rw (c .before .begun .given .1) at (c .before .before .before .begin .ensures))
+returns c = reports-code _ _ (rw (c .before .begun .given .1) at (c .before .before .before .begin .ensures))
 
 same-length : tie.Need-same-length
 same-length c = search needs
 
 returns-2 : tie.Need-returns-2
-returns-2 c = reports-plain ((rw (c .before .before .before .before .enum-told .given .1) at (c .before .before .before .before .before .before .begin .ensures)) .1) (c .before .before .lift-book .ensures)
+returns-2 c = reports-plain _ _ ((rw (c .before .before .before .before .enum-told .given .1) at (c .before .before .before .before .before .before .begin .ensures)) .1) (c .before .before .lift-book .ensures)
 
 same-length-2 : tie.Need-same-length-2
 same-length-2 c = search needs

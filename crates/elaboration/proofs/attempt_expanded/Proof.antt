@@ -31,13 +31,13 @@ slice-aggregate-lift-book : tie.Need-slice-aggregate-lift-book
 slice-aggregate-lift-book c = simp length-take (omega (arith, ((rw (c .before .before .opened2 .given .1) at (c .before .before .before .before .before .before .before .expand-book .ensures)) .by (length-replicate {0} {A = ℕ} 16384 0)) .fits, (length-replicate {0} {A = ℕ} 16384 0), c .before .before .before .before .expanded2 .given))
 
 lift-book-requires : tie.Need-lift-book-requires
-lift-book-requires c κs = opened-book ((rw (c .before .before .before .opened2 .given .1) at (c .before .before .before .before .before .before .before .before .expand-book .ensures)) .by (length-replicate {0} {A = ℕ} 16384 0))
+lift-book-requires c κs = opened-book _ _ ((rw (c .before .before .before .opened2 .given .1) at (c .before .before .before .before .before .before .before .before .expand-book .ensures)) .by (length-replicate {0} {A = ℕ} 16384 0))
 
 same-length : tie.Need-same-length
 same-length c = search needs
 
 returns : tie.Need-returns
-returns c = reports-code ((rw (c .before .opened .given .1) at (c .before .before .before .before .before .before .expand-book .ensures)) .by (length-replicate {0} {A = ℕ} 16384 0))
+returns c = reports-code _ _ ((rw (c .before .opened .given .1) at (c .before .before .before .before .before .before .expand-book .ensures)) .by (length-replicate {0} {A = ℕ} 16384 0))
 
 same-length-2 : tie.Need-same-length-2
 same-length-2 c = search needs
@@ -46,7 +46,7 @@ same-length-3 : tie.Need-same-length-3
 same-length-3 c = search needs
 
 returns-2 : tie.Need-returns-2
-returns-2 c = reports-lifts ((rw (c .before .before .before .before .before .before .opened2 .given .1) at (c .before .before .before .before .before .before .before .before .before .before .before .expand-book .ensures)) .by (length-replicate {0} {A = ℕ} 16384 0)) (c .before .before .lift-book .ensures)
+returns-2 c = reports-lifts _ _ ((rw (c .before .before .before .before .before .before .opened2 .given .1) at (c .before .before .before .before .before .before .before .before .before .before .before .expand-book .ensures)) .by (length-replicate {0} {A = ℕ} 16384 0)) (c .before .before .lift-book .ensures)
 
 pub attempt-expanded-spec : {M : Type 1} → statement M
 attempt-expanded-spec =

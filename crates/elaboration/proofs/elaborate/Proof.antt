@@ -3,13 +3,13 @@
 use borrow.Author.Needs.{needs}
 use mathlib.Core.Path.{refl}
 use Rattle.elaboration.proofs.Answering.{answers-it, fills-it}
-use Rattle.closing.proofs.Reporting.{all-zero}
+use Rattle.zeroing.proofs.Zero.{all-zero}
 use Rattle.elaboration.proofs.elaborate.Statement.{statement}
 use Rattle.elaboration.proofs.elaborate.Tie as tie
 use Rattle.elaboration.proofs.elaborate.Reads as reads
 use Rattle.elaboration.proofs.elaborate.Lts as lts
 use Rattle.elaboration.proofs.attempt.Reads as attempt-reads
-use Rattle.writer.proofs.zero_range.Reads as zero-range-reads
+use Rattle.zeroing.proofs.zero_range.Reads as zero-range-reads
 
 attempt-requires : tie.Need-attempt-requires
 attempt-requires c κs = search needs

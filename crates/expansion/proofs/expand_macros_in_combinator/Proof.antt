@@ -10,7 +10,7 @@ use Rattle.expansion.proofs.expand_macros_in_combinator.Statement.{stat
 use Rattle.expansion.proofs.expand_macros_in_combinator.Tie as tie
 use Rattle.expansion.proofs.expand_macros_in_combinator.Reads as reads
 use Rattle.expansion.proofs.expand_macros_in_combinator.Lts as lts
-use Rattle.substitution.proofs.call.expand_call.Reads as expand-call-reads
+use Rattle.replaced.proofs.expand_call.Reads as expand-call-reads
 use Rattle.expansion.proofs.macro_of.Reads as macro-of-reads
 use Rattle.writer.proofs.put_part.Reads as put-part-reads
 

@@ -2,7 +2,7 @@
 -- Assumes nothing.
 use native.Mathlib.Omega.{arith}
 use lib.ListN.{length-take}
-use Rattle.marks.proofs.Marks.{take-least}
+use Rattle.writer.proofs.Put.{take-least}
 use borrow.Author.Needs.{needs}
 use Rattle.marks.proofs.first_marks.Statement.{statement}
 use Rattle.marks.proofs.first_marks.Tie as tie

@@ -2,7 +2,7 @@
 -- Assumes nothing.
 use native.Mathlib.Omega.{arith}
 use lib.ListN.{length-take}
-use Rattle.passes.proofs.Repeating.{take-least}
+use Rattle.writer.proofs.Put.{take-least}
 use borrow.Author.Needs.{needs}
 use Rattle.passes.proofs.first_bytes.Statement.{statement}
 use Rattle.passes.proofs.first_bytes.Tie as tie

@@ -1,9 +1,11 @@
 -- `premise::bodies_hold` meets its contract.
 -- Assumes nothing.
 use borrow.Author.Needs.{needs}
-use Rattle.premise.proofs.Bodies.{left-none, left-out, left-step, bodies-hold}
+use Rattle.bodies.specs.Tested.{BodiesLeft}
+use Rattle.bodies.proofs.Tested.{left-none, left-out, left-step, bodies-tested}
+use Rattle.called.specs.Known.{rowNames}
 use borrow.Author.Tests.{not-true, not-false}
-use Rattle.premise.specs.Holds.{BodiesLeft}
+use Rattle.premise.specs.Holds.{passes}
 use lib.ListN.{length}
 use mathlib.Core.Bool.{Bool}
 use mathlib.Core.Path.{_≡_, refl, _∙_}
@@ -18,7 +20,7 @@ use Rattle.seek.proofs.number.Reads as number-reads
 use Rattle.seek.proofs.past.Reads as past-reads
 
 abbrev Inv-loop : tie.InvT-loop
-Inv-loop s places hashes n marks₀ left₀ entry₀ at₀ marks left entry at = (length marks ≡ length marks₀) × ((r : Bool) → BodiesLeft s places n (length marks₀) entry at left r → BodiesLeft s places n (length marks₀) entry₀ at₀ left₀ r)
+Inv-loop s places hashes n marks₀ left₀ entry₀ at₀ marks left entry at = (length marks ≡ length marks₀) × ((r : Bool) → BodiesLeft s (passes (rowNames s places n)) (length marks₀) entry at left r → BodiesLeft s (passes (rowNames s places n)) (length marks₀) entry₀ at₀ left₀ r)
 
 abbrev μ-loop : tie.MeasureT-loop
 μ-loop s places hashes n marks₀ left₀ entry₀ at₀ marks left entry at = left
@@ -69,7 +71,7 @@ same-length : tie.Need-same-length Inv-loop μ-loop
 same-length c = search needs
 
 returns : tie.Need-returns Inv-loop μ-loop
-returns c = bodies-hold (c .before .before .before .before .before .before .before .before .before .before .before .before .before .before .number .ensures) (c .before .before .before .before .before .before .before .before .before .before .before .before .before .past .ensures) (c .before .before .before .before .before .before .before .before .before .before .before .before .past2 .ensures) (c .before .before .before .before .before .before .before .before .before .before .before .loop .inv .1 _ (left-out (c .before .before .before .before .before .before .before .before .before .before .loop-test .taken) (c .before .before .before .before .before .before .before .before .before .byte .ensures) (c .before .before .before .before .before .before .before .number2 .ensures ∙ rw (c .before .before .before .before .before .before .before .before .past3 .ensures)) (c .before .before .before .before .before .before .before .before .before .before .before .loop .inv .0) (c .before .before .before .definition-holds .ensures) (not-true _ (c .if1 .taken))))
+returns c = bodies-tested (c .before .before .before .before .before .before .before .before .before .before .before .before .before .before .number .ensures) (c .before .before .before .before .before .before .before .before .before .before .before .before .before .past .ensures) (c .before .before .before .before .before .before .before .before .before .before .before .before .past2 .ensures) (c .before .before .before .before .before .before .before .before .before .before .before .loop .inv .1 _ (left-out (c .before .before .before .before .before .before .before .before .before .before .loop-test .taken) (c .before .before .before .before .before .before .before .before .before .byte .ensures) (c .before .before .before .before .before .before .before .number2 .ensures ∙ rw (c .before .before .before .before .before .before .before .before .past3 .ensures)) (c .before .before .before .before .before .before .before .before .before .before .before .loop .inv .0) (c .before .before .before .definition-holds .ensures) (not-true _ (c .if1 .taken))))
 
 loop-less : tie.Need-loop-less Inv-loop μ-loop
 loop-less c = search needs
@@ -83,7 +85,7 @@ same-length-2 : tie.Need-same-length-2 Inv-loop μ-loop
 same-length-2 c = search needs
 
 returns-2 : tie.Need-returns-2 Inv-loop μ-loop
-returns-2 c = bodies-hold (c .before .before .before .before .number .ensures) (c .before .before .before .past .ensures) (c .before .before .past2 .ensures) (c .before .loop .inv .1 _ (left-none (omega arith)))
+returns-2 c = bodies-tested (c .before .before .before .before .number .ensures) (c .before .before .before .past .ensures) (c .before .before .past2 .ensures) (c .before .loop .inv .1 _ (left-none (omega arith)))
 
 pub bodies-hold-spec : {M : Type 1} → statement M
 bodies-hold-spec =

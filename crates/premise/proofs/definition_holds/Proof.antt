@@ -1,7 +1,7 @@
 -- `premise::definition_holds` meets its contract.
 -- Assumes nothing.
 use borrow.Author.Needs.{needs}
-use Rattle.premise.proofs.Bodies.{definition-format, definition-other}
+use Rattle.bodies.proofs.Tested.{definition-format, definition-other}
 use Rattle.premise.proofs.definition_holds.Statement.{statement}
 use Rattle.premise.proofs.definition_holds.Tie as tie
 use Rattle.premise.proofs.definition_holds.Reads as reads

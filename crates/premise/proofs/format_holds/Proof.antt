@@ -6,7 +6,7 @@ use Rattle.premise.proofs.format_holds.Statement.{statement}
 use Rattle.premise.proofs.format_holds.Tie as tie
 use Rattle.premise.proofs.format_holds.Reads as reads
 use Rattle.premise.proofs.format_holds.Lts as lts
-use Rattle.calls.proofs.combinator.Reads as combinator-reads
+use Rattle.skip.proofs.walk_over.Reads as walk-over-reads
 use Rattle.contents.proofs.params_past.Reads as params-past-reads
 use Rattle.called.proofs.all_known.Reads as all-known-reads
 use Rattle.marks.proofs.first_marks.Reads as first-marks-reads
@@ -18,8 +18,8 @@ name-past-requires c κs = search needs
 params-past-requires : tie.Need-params-past-requires
 params-past-requires c κs = search needs
 
-combinator-requires : tie.Need-combinator-requires
-combinator-requires c κs = search needs
+walk-over-requires : tie.Need-walk-over-requires
+walk-over-requires c κs = search needs
 
 first-marks-requires : tie.Need-first-marks-requires
 first-marks-requires c κs = search needs
@@ -31,13 +31,13 @@ same-length : tie.Need-same-length
 same-length c = search needs
 
 returns : tie.Need-returns
-returns c = format-calls _ (c .before .before .before .before .before .before .before .before .before .before .before .before .name-past .ensures) (c .before .before .before .before .before .before .before .before .before .before .params-past .ensures) _ _ _ (c .before .before .before .before .before .before .combinator .ensures .0) (c .before .before .before .before .before .before .combinator .ensures .1) (c .before .before .before .before .before .before .before .before .before .marks .given) (c .before .before .before .if1 .taken) (c .before .first-marks .ensures) (c .all-known .ensures)
+returns c = format-calls _ (c .before .before .before .before .before .before .before .before .before .before .before .before .name-past .ensures) (c .before .before .before .before .before .before .before .before .before .before .params-past .ensures) _ _ _ (c .before .before .before .before .before .before .walk-over .ensures .0) (c .before .before .before .before .before .before .walk-over .ensures .1) _ _ (c .before .before .before .before .before .before .before .before .before .marks .given) (c .before .before .before .if1 .taken) (c .before .first-marks .ensures) (c .all-known .ensures)
 
 same-length-2 : tie.Need-same-length-2
 same-length-2 c = search needs
 
 returns-2 : tie.Need-returns-2
-returns-2 c = format-chains _ (c .before .before .before .before .before .before .before .before .before .name-past .ensures) (c .before .before .before .before .before .before .before .params-past .ensures) _ _ _ (c .before .before .before .combinator .ensures .0) (c .before .before .before .combinator .ensures .1) (c .before .before .before .before .before .before .marks .given) (c .if1 .left)
+returns-2 c = format-chains _ (c .before .before .before .before .before .before .before .before .before .name-past .ensures) (c .before .before .before .before .before .before .before .params-past .ensures) _ _ _ (c .before .before .before .walk-over .ensures .0) (c .before .before .before .walk-over .ensures .1) _ _ (c .before .before .before .before .before .before .marks .given) (c .if1 .left)
 
 pub format-holds-spec : {M : Type 1} → statement M
 format-holds-spec =
@@ -45,7 +45,7 @@ format-holds-spec =
     (tie.spec
     name-past-requires
     params-past-requires
-    combinator-requires
+    walk-over-requires
     first-marks-requires
     all-known-requires
     same-length

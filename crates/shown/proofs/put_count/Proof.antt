@@ -7,7 +7,7 @@ use Rattle.shown.proofs.put_count.Statement.{statement}
 use Rattle.shown.proofs.put_count.Tie as tie
 use Rattle.shown.proofs.put_count.Reads as reads
 use Rattle.shown.proofs.put_count.Lts as lts
-use Rattle.names.proofs.put_decimal.Reads as put-decimal-reads
+use Rattle.segments.proofs.put_decimal.Reads as put-decimal-reads
 use Rattle.writer.proofs.put_byte.Reads as put-byte-reads
 
 put-byte-requires : tie.Need-put-byte-requires

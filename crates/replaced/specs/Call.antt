@@ -1,0 +1,39 @@
+-- What an instance of a macro says of the trees that stand in the bytes: its call, its inner.
+use mathlib.Core.Path.{_≡_}
+use mathlib.Core.List.{List, []}
+use mathlib.Core.Bool.{true}
+use Prim.Native.Nat.{ℕ, suc, _≤_}
+use lib.ListN.{length}
+use Rattle.definition.specs.Out.{Out, refused, done, _>>=_}
+use Rattle.definition.specs.Tree.{Name, Inners, macro-invocation}
+use Rattle.definition.specs.Write.{wName, wAll, wInner, wInners}
+use Rattle.definition.specs.Size.{levelsA}
+use Rattle.definition.specs.Macros.{Macro, instance, innerOf}
+use Rattle.seek.specs.Here.{Here}
+use Rattle.writer.specs.Buf.{Wrote}
+use Rattle.areas.specs.First.{first}
+use Rattle.substitution.specs.declared.Turn.{Turn}
+use Rattle.substitution.specs.Turned.{Areas, Holds}
+use Rattle.instance.specs.Paired.{Defined}
+
+-- a write, or code 6: then the place after is past the end
+abbrev pub Puts : List ℕ → ℕ → Out (List ℕ) → List ℕ → ℕ → Type 0
+Puts d at (refused k) d′ r = r ≡ suc (length d)
+Puts d at (done l) d′ r = Wrote d at l d′ r
+
+-- a macro and a call of it before the first turn: the body stands in the first area
+pub record Open (macros book areas marks : List ℕ) (t : Turn) (m : Macro) (xs : Inners) (z : List ℕ) : Type 0 where
+  pub behind : List ℕ
+  pub params : Here macros (t .param) (wAll wName (m .params) behind)
+  pub args : Here book (t .arg) (wInners xs z)
+  pub holds : Holds (first areas) marks (t .len) (t .n) (m .body)
+
+pub record Opened (macros : List ℕ) (def : ℕ) (book : List ℕ) (call : ℕ) (areas marks areas′ marks′ : List ℕ) (t : Turn) : Type 0 where
+  pub good : t .good ≡ true
+  pub says : length macros ≤ 16384 → length areas ≡ 32768 → length marks ≡ 8192 → (m : Macro) → Defined macros def m → (n : Name) (xs : Inners) (z : List ℕ) → Here book call (wInner (macro-invocation n xs) z)
+      → Open macros book areas′ marks′ t m xs z
+
+-- rule 3: "replaced by the macro body's inner"
+pub record Called (macros : List ℕ) (def : ℕ) (book : List ℕ) (call : ℕ) (areas marks out : List ℕ) (o : ℕ) (out′ : List ℕ) (r : ℕ) : Type 0 where
+  pub says : Areas macros book areas marks → (m : Macro) → Defined macros def m → (n : Name) (xs : Inners) (z : List ℕ) → Here book call (wInner (macro-invocation n xs) z) → levelsA xs ≤ 64
+      → Puts out o (instance (m .params) xs (m .body) >>= λ c. done (wInner (innerOf c) [])) out′ r

@@ -1,0 +1,3 @@
+mod Table
+mod Segment
+pub mod Decimal
