@@ -11,7 +11,6 @@ use lib.ListN.{length, getD, set, length-set}
 use lib.Seq.{getD-set-same, getD-set-other}
 use Rattle.definition.specs.Tree.{Name}
 use Rattle.binders.specs.declared.Binder.{Binder}
-use Rattle.binders.specs.declared.Found.{Found}
 use Rattle.binders.specs.declared.Found.the-variants.{Bound, Missing}
 use Rattle.binders.specs.Row.{noBinder, binderAt, bindersFrom, isNamed, firstIn, foundIn, Window}
 

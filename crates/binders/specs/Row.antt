@@ -1,7 +1,7 @@
 -- Binders as a row of records. A table has four numbers for each: the place of the name's length byte in the expanded book, the place of the
 -- type there, 1 where that is a parameter's own type and 0 where it is the combinator of a Dependent field, and the size of the type after lifting.
 -- Document 01: "the definition's own parameters, then the Dependent fields passed on the way, outermost first".
-use mathlib.Core.Bool.{Bool, true, false, cond}
+use mathlib.Core.Bool.{Bool, cond}
 use mathlib.Core.List.{List, [], _∷_}
 use mathlib.Core.Path.{_≡_}
 use Prim.Native.Nat.{ℕ, zero, suc, _+_, _*_, _<_}

@@ -17,6 +17,7 @@ pub struct Binder {
     pub size: u16,
 }
 
+// The first binder of a name, or that there is none.
 pub enum Found {
     Bound(Binder),
     Missing,
@@ -95,7 +96,7 @@ fn first_in_window(s: &[u8], name: &[u8], window: [Binder; 8]) -> usize
     first_named(s, name, &window)
 }
 
-// "A parameter's type is that of the first binder of that name": the first of a name among the first b.
+// The first binder of a name among the first b: "A parameter's type is that of the first binder of that name".
 pub fn find_binder(s: &[u8], name: &[u8], binders: &[u16], b: usize) -> Found
     requires { ⌜ b ≤ 65536 ⌝ }
     ensures { λ r. ⌜ r ≡ foundIn (now (s .entry)) (now (name .entry)) (bindersFrom (now (binders .entry)) 0 b) ⌝ }

@@ -3,7 +3,6 @@
 use mathlib.Core.Path.{refl}
 use Prim.Native.Nat.{_-_}
 use native.Mathlib.Omega.{arith}
-use borrow.Author.Needs.{needs}
 use Rattle.binders.proofs.Windows.{Filling, filling-more, filled, filled-all}
 use Rattle.binders.proofs.window_from.Statement.{statement}
 use Rattle.binders.proofs.window_from.Tie as tie
