@@ -1,4 +1,4 @@
-// Numbers as tables keep them, in 16 bits: 65,535 stands for all that are larger. No place is so large.
+// Numbers as tables keep them, in 16 bits.
 ghost use mathlib.Core.Path.{_≡_};
 ghost use Prim.Native.Nat.{_≤_, min};
 ghost use lib.ListN.{getD, set};
@@ -15,7 +15,7 @@ pub fn entry(table: &[u16], at: usize) -> u16
     0
 }
 
-// The same number, to count with.
+// The number at a place of a table, 0 past its end, as a size or a count.
 pub fn fetch(t: &[u16], i: usize) -> usize
     ensures { λ r. ⌜ (r ≡ getD (now (t .entry)) i 0) × (r ≤ 65535) ⌝ }
 {
@@ -23,7 +23,7 @@ pub fn fetch(t: &[u16], i: usize) -> usize
     x as usize
 }
 
-// A number into a table, as far as the table reaches.
+// A number into a table, as far as the table reaches. 65,535 stands for all that are larger: no place is.
 pub fn store(t: &mut [u16], i: usize, x: usize)
     ensures { λ _. ⌜ now (t .exit) ≡ set (now (t .entry)) i (min x 65535) ⌝ }
 {
