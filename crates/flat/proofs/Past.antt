@@ -15,7 +15,7 @@ use Rattle.definition.specs.Collect.{anonymousLeaf}
 use Rattle.laws.proofs.Splits.{s-text, s-inner}
 use Rattle.laws.proofs.Sizes.{adds, sizeI}
 use Rattle.lifting.proofs.Ranges.{sizeI-some}
-use Rattle.seek.specs.At.{byteAt, pastAt, namePast, textPast, selectorPast, labelPast, pick}
+use Rattle.seek.specs.At.{pastAt, namePast, textPast, selectorPast, labelPast, pick}
 use Rattle.seek.specs.Here.{Here}
 use Rattle.seek.proofs.Here.{here-length, byte-here, next-here, number-here, number-past, name-here, text-here, list-here, len-here, selector-here, label-here}
 use Rattle.marks.specs.Steps.{textOrLength}

@@ -1,18 +1,18 @@
 -- The bodies of formats, one after the other; and the copy.
 -- Assumes nothing.
 use mathlib.Core.Path.{_≡_, refl, sym, _∙_}
-use mathlib.Core.List.{List, _++_}
-use mathlib.Core.Bool.{Bool, true, false}
+use mathlib.Core.List.{List}
+use mathlib.Core.Bool.{Bool, true}
 use Prim.Native.Nat.{ℕ, _+_, _≤_}
 use native.Mathlib.Omega.{arith}
-use lib.ListN.{length, take, drop}
+use lib.ListN.{length}
 use borrow.Author.Tests.{le-leb}
 use Rattle.definition.specs.Write.{wDefinition, wCombinator}
 use Rattle.seek.specs.At.{namePast}
 use Rattle.seek.proofs.Here.{name-here}
 use Rattle.contents.specs.Params.{ParamsPast}
 use Rattle.bodies.specs.Tested.{FormatTested, BodiesTested}
-use Rattle.writer.specs.Buf.{put, Wrote}
+use Rattle.writer.specs.Buf.{Wrote}
 use Rattle.writer.proofs.Put.{put-fits}
 use Rattle.flat.specs.Flat.{flat}
 use Rattle.flat.specs.Past.{flatAt}
