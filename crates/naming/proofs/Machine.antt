@@ -15,28 +15,13 @@ use Rattle.definition.specs.Write.{wName, wText, wSelector, wLabel, wOpen, wShu
 use Rattle.definition.specs.Size.{size}
 use Rattle.definition.specs.Collect.{anonymous}
 use Rattle.laws.proofs.Sizes.{sizeI}
+use Rattle.laws.proofs.Steps.{grouped, follows}
 use Rattle.lifting.specs.After.{chainAt, fieldsAt, casesAt, shellAt, fieldAt, constEnd, caseAt}
 use Rattle.tables.specs.Numbers.{plus}
 use Rattle.lift.specs.Bound.{Bound}
 use Rattle.lift.specs.Sheet.{Sheet}
 use Rattle.naming.specs.Walk.{Extent, Start, Step, called, starts, finish, visit, binds, walk, walkI, walkF, walkC}
 use Rattle.naming.specs.Nodes.{Rest, fields, cases, one, tail, Own, walked, lifted, Link, ahead, behind, Node, restOf, skip, nodeOf, close, goLink, goRest, goOn, linked, Wait, for-chain, for-field, for-case, for-one, advanced, deliver, resume, run, Opens}
-
-module _ {S A B C : Type 0} where
-  pub bind-assoc : (m : Res S A) (f : A × S → Res S B) (g : B × S → Res S C) → (m >>= f) >>= g ≡ m >>= (λ x. f x >>= g)
-  bind-assoc (bad k s) f g = refl
-  bind-assoc (ok a s) f g = refl
-
-module _ {S A B : Type 0} where
-  pub bind-same : (m : Res S A) (f g : A × S → Res S B) → ((a : A) (s : S) → f (a, s) ≡ g (a, s)) → m >>= f ≡ m >>= g
-  bind-same (bad k s) f g h = refl
-  bind-same (ok a s) f g h = h a s
-
-  pub bind-ok : (m : Res S A) (f : A × S → Res S B) {a : A} {s : S} → m ≡ ok a s → m >>= f ≡ f (a, s)
-  bind-ok m f e = rw e
-
-  pub bind-bad : (m : Res S A) (f : A × S → Res S B) {k : Code} {s : S} → m ≡ bad k s → m >>= f ≡ bad k s
-  bind-bad m f e = rw e
 
 -- an inner goes on from where its rest begins
 rest-is : (i : Inner) (p : ℕ) (name : Name) (env : List Bound) (t : Sheet) → goRest (restOf i) (skip i) (p + skip i) name env t ≡ walkI i p name env t
@@ -54,16 +39,16 @@ pub walked-is : (c : Combinator) (p : ℕ) (name : Name) (env : List Bound) (t :
 unfolding goOn nodeOf goLink close walk
 walked-is (plain i) p name env t = rw (rest-is i p name env t)
 walked-is (chained i c) p name env t =
-    bind-assoc (visit (anonymous c) c (chainAt p i) (walk c (chainAt p i)) name env t) _ _
-    ∙ bind-same (visit (anonymous c) c (chainAt p i) (walk c (chainAt p i)) name env t) _ _ λ z u. rw (rest-is i p name env u)
+    grouped (visit (anonymous c) c (chainAt p i) (walk c (chainAt p i)) name env t) _ _
+    ∙ follows (visit (anonymous c) c (chainAt p i) (walk c (chainAt p i)) name env t) _ _ λ z u. rw (rest-is i p name env u)
 
 lifted-is : (c : Combinator) (p : ℕ) (name : Name) (env : List Bound) (i call : ℕ) (t : Sheet) → goOn (nodeOf c p name env (lifted i call)) t ≡ walk c p name env t >>= (λ x. ok (called call) (finish i (x .1)))
 unfolding goOn nodeOf goLink close walk
-lifted-is (plain i) p name env j call t = rw (rest-is i p name env t) (sym (bind-assoc (walkI i p name env t) _ _))
+lifted-is (plain i) p name env j call t = rw (rest-is i p name env t) (sym (grouped (walkI i p name env t) _ _))
 lifted-is (chained i c) p name env j call t =
-    bind-assoc (visit (anonymous c) c (chainAt p i) (walk c (chainAt p i)) name env t) _ _
-    ∙ bind-same (visit (anonymous c) c (chainAt p i) (walk c (chainAt p i)) name env t) _ _ (λ z u. rw (rest-is i p name env u) (sym (bind-assoc (walkI i p name env u) _ _)))
-    ∙ sym (bind-assoc (visit (anonymous c) c (chainAt p i) (walk c (chainAt p i)) name env t) _ _)
+    grouped (visit (anonymous c) c (chainAt p i) (walk c (chainAt p i)) name env t) _ _
+    ∙ follows (visit (anonymous c) c (chainAt p i) (walk c (chainAt p i)) name env t) _ _ (λ z u. rw (rest-is i p name env u) (sym (grouped (walkI i p name env u) _ _)))
+    ∙ sym (grouped (visit (anonymous c) c (chainAt p i) (walk c (chainAt p i)) name env t) _ _)
 
 -- a child: "An anonymous child is lifted ..; any other child is walked."
 module _ (c : Combinator) (p : ℕ) (base : Name) (env : List Bound) (t : Sheet) where
@@ -86,7 +71,7 @@ module _ (rest : Rest) (at done : ℕ) (name : Name) (env : List Bound) (own : O
   -- "the chain first"
   pub opens-chain : (c : Combinator) (p : ℕ) → Opens (node (ahead c p)) c p name (for-chain (node (ahead c p)))
   unfolding goOn goLink deliver linked
-  opens-chain c p = record { opens = λ t. bind-assoc (visit (anonymous c) c p (walk c p) name env t) _ _ }
+  opens-chain c p = record { opens = λ t. grouped (visit (anonymous c) c p (walk c p) name env t) _ _ }
 
 module _ (l at done : ℕ) (name : Name) (env : List Bound) (own : Own) where
   abbrev among : Rest → Node
@@ -94,15 +79,15 @@ module _ (l at done : ℕ) (name : Name) (env : List Bound) (own : Own) where
 
   pub opens-field : (k : FieldKind) (a : Name) (c : Combinator) (f : Fields) → Opens (among (fields (field k a c f))) c (fieldAt at a) (child name (segment a)) (for-field k a c f (among (fields (field k a c f))))
   unfolding goOn goLink goRest walk deliver advanced
-  opens-field k a c f = record { opens = λ t. bind-assoc (visit (anonymous c) c (fieldAt at a) (walk c (fieldAt at a)) (child name (segment a)) env t) _ _ }
+  opens-field k a c f = record { opens = λ t. grouped (visit (anonymous c) c (fieldAt at a) (walk c (fieldAt at a)) (child name (segment a)) env t) _ _ }
 
   pub opens-case : (x : List ℕ) (c : Combinator) (f : Cases) (k : CaseKind) (i : ℕ) → Opens (among (cases (case x c f) k i)) c (caseAt at k x) (child name (caseSegment k x i)) (for-case x c f k i (among (cases (case x c f) k i)))
   unfolding goOn goLink goRest walk deliver advanced
-  opens-case x c f k i = record { opens = λ t. bind-assoc (visit (anonymous c) c (caseAt at k x) (walk c (caseAt at k x)) (child name (caseSegment k x i)) env t) _ _ }
+  opens-case x c f k i = record { opens = λ t. grouped (visit (anonymous c) c (caseAt at k x) (walk c (caseAt at k x)) (child name (caseSegment k x i)) env t) _ _ }
 
   pub opens-one : (x : Shell) (c : Combinator) → Opens (among (one x c)) c (shellAt at x) (child name (shellSegment x)) (for-one x c (among (one x c)))
   unfolding goOn goLink goRest walk deliver advanced
-  opens-one x c = record { opens = λ t. bind-assoc (visit (anonymous c) c (shellAt at x) (walk c (shellAt at x)) (child name (shellSegment x)) env t) _ _ }
+  opens-one x c = record { opens = λ t. grouped (visit (anonymous c) c (shellAt at x) (walk c (shellAt at x)) (child name (shellSegment x)) env t) _ _ }
 
   -- a Const field is passed
   pub passes-const : (a : Name) (x : List ℕ) (f : Fields) (ws : List Wait) (t : Sheet)
@@ -127,7 +112,7 @@ module _ (l at done : ℕ) (name : Name) (env : List Bound) (own : Own) where
 module _ {n : Node} {c : Combinator} {p : ℕ} {base : Name} {w : Wait} (o : Opens n c p base w) (ws : List Wait) (t : Sheet) where
   opened : run n ws t ≡ visit (anonymous c) c p (walk c p) base (n .env) t >>= (λ x. resume (w ∷ ws) (x .0) (x .1))
   unfolding run resume
-  opened = rw (o .opens t) (bind-assoc (visit (anonymous c) c p (walk c p) base (n .env) t) _ _)
+  opened = rw (o .opens t) (grouped (visit (anonymous c) c p (walk c p) base (n .env) t) _ _)
 
   pub steps-walked : anonymous c ≡ false → run n ws t ≡ run (nodeOf c p base (n .env) walked) (w ∷ ws) t
   unfolding run
