@@ -11,6 +11,7 @@ use Rattle.definition.specs.Write.{wAll, wDefinition, kindOf, kindByte, sizeOf,
 use Rattle.definition.specs.Size.{sizeBook, levelsBook}
 use Rattle.laws.specs.Book.{IsBook}
 use Rattle.laws.proofs.Sizes.{head, size-book, room-least}
+use Rattle.laws.proofs.Steps.{grouped}
 use Rattle.seek.specs.At.{byteAt, pastAt, numberAt}
 use Rattle.seek.specs.Here.{Here}
 use Rattle.contents.specs.Listed.{Listed}
@@ -24,18 +25,15 @@ use Rattle.walked.specs.Book.{ownBound, walkAll}
 use Rattle.body.specs.declared.Body.the-variants.{Named, Refused}
 use Rattle.steps.specs.Good.{Good}
 use Rattle.body.specs.Walks.{Ends}
+use Rattle.body.proofs.Rounds.{Lengths}
 use Rattle.start.specs.Rows.{Book}
 use Rattle.format.specs.Formats.{Space, Format, EndsIn, Defined}
 use Rattle.inorder.specs.InOrder.{InOrder}
 
 -- ---- one definition, and then the others
-then-more : (m : Res Sheet Extent) (f : Sheet → Res Sheet (Unit {0})) → m >>= (λ x. f (x .1)) ≡ (_>>=_ {B = Unit {0}} m (λ x. ok tt (x .1))) >>= (λ x. f (x .1))
-then-more (bad k t) f = refl
-then-more (ok z t) f = refl
-
 walk-first : (d : Definition) (ds : List Definition) (p : ℕ) (t : Sheet) → walkAll (d ∷ ds) p t ≡ walkAll (d ∷ []) p t >>= (λ x. walkAll ds (p + sizeOf d) (x .1))
 unfolding walkAll
-walk-first (format n ps c) ds p t = then-more (walk c (p + head n ps) n (ownBound ps (paramsAt p n)) t) (λ u. walkAll ds (p + sizeOf (format n ps c)) u)
+walk-first (format n ps c) ds p t = sym (grouped (walk c (p + head n ps) n (ownBound ps (paramsAt p n)) t) _ _)
 walk-first (constant n x) ds p t = refl
 walk-first (byte-order x) ds p t = refl
 walk-first (macro n ps c) ds p t = refl
@@ -140,30 +138,15 @@ module _ {s made₀ places₀ rows₀ params₀ order₀ : List ℕ} {w₀ : Cou
                 }
 
 -- ---- the rows keep their lengths
-pub record Lengths (path₀ binders₀ bound₀ uses₀ spare₀ made₀ places₀ hashes₀ hints₀ rows₀ params₀ number₀ order₀ path binders bound uses spare made places hashes hints rows params number order : List ℕ) : Type 0 where
-  pub path-is : length path ≡ length path₀
-  pub binders-is : length binders ≡ length binders₀
-  pub bound-is : length bound ≡ length bound₀
-  pub uses-is : length uses ≡ length uses₀
-  pub spare-is : length spare ≡ length spare₀
-  pub made-is : length made ≡ length made₀
-  pub places-is : length places ≡ length places₀
-  pub hashes-is : length hashes ≡ length hashes₀
-  pub hints-is : length hints ≡ length hints₀
-  pub rows-is : length rows ≡ length rows₀
-  pub params-is : length params ≡ length params₀
-  pub number-is : length number ≡ length number₀
-  pub order-is : length order ≡ length order₀
-
 pub kept : {s path₀ binders₀ bound₀ uses₀ spare₀ made₀ places₀ hashes₀ hints₀ rows₀ params₀ number₀ order₀ path binders bound uses spare made places hashes hints rows params number order : List ℕ} → Space s path₀ binders₀ bound₀ uses₀ spare₀
     → Lengths path₀ binders₀ bound₀ uses₀ spare₀ made₀ places₀ hashes₀ hints₀ rows₀ params₀ number₀ order₀ path binders bound uses spare made places hashes hints rows params number order → Space s path binders bound uses spare
 kept x l = record {
   scratch = record {
     small = x .scratch .small;
-    labels = omega (arith, x .scratch .labels, l .bound-is);
-    uses-long = omega (arith, x .scratch .uses-long, l .uses-is);
-    spare-long = omega (arith, x .scratch .spare-long, l .spare-is);
+    labels = omega (arith, x .scratch .labels, l .bound);
+    uses-long = omega (arith, x .scratch .uses-long, l .uses);
+    spare-long = omega (arith, x .scratch .spare-long, l .spare);
   };
-  path-long = omega (arith, x .path-long, l .path-is);
-  binders-long = omega (arith, x .binders-long, l .binders-is);
+  path-long = omega (arith, x .path-long, l .path);
+  binders-long = omega (arith, x .binders-long, l .binders);
 }

@@ -11,7 +11,7 @@ use Rattle.definition.specs.Res.{Res, bad, ok}
 use Rattle.definition.specs.Tree.{Shell, wrap, vec, option, array, Combinator, plain, chained, Inner, leaf, struct, choice, shell, bytes, invocation, macro-invocation}
 use Rattle.definition.specs.Write.{wU16, wName, wText, wLen, wList, wOpen, countA, wInner, wCombinator, wInners}
 use Rattle.definition.specs.Size.{size, levels}
-use Rattle.laws.proofs.Sizes.{adds, sizeI, size-struct, size-choice, size-shell, size-plain, size-chained}
+use Rattle.laws.proofs.Sizes.{adds, open-some, sizeI, size-struct, size-choice, size-shell, size-plain, size-chained}
 use Rattle.laws.proofs.Splits.{s-inner}
 use Rattle.lifting.proofs.Ranges.{sizeI-some}
 use Rattle.seek.specs.Here.{Here}
@@ -41,13 +41,6 @@ use Rattle.steps.specs.declared.Child.the-variants as comes
 use Rattle.steps.proofs.Started.{started, rows-length, numbered-on}
 
 -- ---- sizes
-open-some : (x : Shell) → 1 ≤ length (wOpen x [])
-unfolding wOpen
-open-some (wrap u v) = omega arith
-open-some vec = omega arith
-open-some option = omega arith
-open-some (array l) = omega arith
-
 some-size : (c : Combinator) → 2 ≤ size c
 some-size (plain i) = omega (arith, size-plain i, sizeI-some i)
 some-size (chained i c) = omega (arith, size-chained i c, sizeI-some i)

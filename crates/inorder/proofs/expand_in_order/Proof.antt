@@ -3,7 +3,8 @@
 use mathlib.Core.Path.{refl, _∙_}
 use native.Mathlib.Omega.{arith}
 use borrow.Author.Needs.{needs}
-use Rattle.inorder.proofs.Order.{Going, Lengths, going, going-format, going-step, going-refused, going-all, kept}
+use Rattle.body.proofs.Rounds.{Lengths}
+use Rattle.inorder.proofs.Order.{Going, going, going-format, going-step, going-refused, going-all, kept}
 use Rattle.inorder.proofs.expand_in_order.Statement.{statement}
 use Rattle.inorder.proofs.expand_in_order.Tie as tie
 
@@ -20,19 +21,19 @@ loop-holds : tie.Need-loop-holds Inv-loop μ-loop
 loop-holds c = (
   going (c .before .before .before .before .before .before .before .before .before .before .before .before .before .before .before .before .before .before .pre .0) (c .before .before .number .ensures) (c .before .past .ensures) (c .past2 .ensures),
   record {
-    path-is = refl;
-    binders-is = refl;
-    bound-is = refl;
-    uses-is = refl;
-    spare-is = refl;
-    made-is = refl;
-    places-is = refl;
-    hashes-is = refl;
-    hints-is = refl;
-    rows-is = refl;
-    params-is = refl;
-    number-is = refl;
-    order-is = refl;
+    path = refl;
+    binders = refl;
+    bound = refl;
+    uses = refl;
+    spare = refl;
+    made = refl;
+    places = refl;
+    hashes = refl;
+    hints = refl;
+    rows = refl;
+    params = refl;
+    number = refl;
+    order = refl;
   },
 )
 
@@ -43,43 +44,43 @@ expand-definition-requires c κs =
     (i .0 .good, kept (p .1) (i .1), going-format (i .0) (c .before .before .before .before .before .before .before .before .before .before .before .before .before .before .before .before .before .before .loop-test .taken) (c .before .before .before .before .before .before .before .before .before .before .before .before .before .before .before .before .before .byte .ensures) (p .2), p .3)
 
 same-path : tie.Need-same-length Inv-loop μ-loop
-same-path c = c .before .before .before .before .before .before .before .before .before .before .before .before .before .before .before .before .before .before .before .before .before .before .before .before .before .before .before .before .path .given ∙ c .before .before .before .before .before .before .before .before .before .before .before .before .before .before .before .before .before .before .before .before .before .before .before .before .before .before .before .before .before .before .before .before .before .before .before .before .before .before .before .before .before .before .before .before .before .before .before .before .before .loop .inv .1 .path-is
+same-path c = c .before .before .before .before .before .before .before .before .before .before .before .before .before .before .before .before .before .before .before .before .before .before .before .before .before .before .before .before .path .given ∙ c .before .before .before .before .before .before .before .before .before .before .before .before .before .before .before .before .before .before .before .before .before .before .before .before .before .before .before .before .before .before .before .before .before .before .before .before .before .before .before .before .before .before .before .before .before .before .before .before .before .loop .inv .1 .path
 
 same-binders : tie.Need-same-length-2 Inv-loop μ-loop
-same-binders c = c .before .before .before .before .before .before .before .before .before .before .before .before .before .before .before .before .before .before .before .before .before .before .before .before .before .before .binders .given ∙ c .before .before .before .before .before .before .before .before .before .before .before .before .before .before .before .before .before .before .before .before .before .before .before .before .before .before .before .before .before .before .before .before .before .before .before .before .before .before .before .before .before .before .before .before .before .before .before .before .before .loop .inv .1 .binders-is
+same-binders c = c .before .before .before .before .before .before .before .before .before .before .before .before .before .before .before .before .before .before .before .before .before .before .before .before .before .before .binders .given ∙ c .before .before .before .before .before .before .before .before .before .before .before .before .before .before .before .before .before .before .before .before .before .before .before .before .before .before .before .before .before .before .before .before .before .before .before .before .before .before .before .before .before .before .before .before .before .before .before .before .before .loop .inv .1 .binders
 
 same-bound : tie.Need-same-length-3 Inv-loop μ-loop
-same-bound c = c .before .before .before .before .before .before .before .before .before .before .before .before .before .before .before .before .before .before .before .before .before .before .before .before .bound .given ∙ c .before .before .before .before .before .before .before .before .before .before .before .before .before .before .before .before .before .before .before .before .before .before .before .before .before .before .before .before .before .before .before .before .before .before .before .before .before .before .before .before .before .before .before .before .before .before .before .before .before .loop .inv .1 .bound-is
+same-bound c = c .before .before .before .before .before .before .before .before .before .before .before .before .before .before .before .before .before .before .before .before .before .before .before .before .bound .given ∙ c .before .before .before .before .before .before .before .before .before .before .before .before .before .before .before .before .before .before .before .before .before .before .before .before .before .before .before .before .before .before .before .before .before .before .before .before .before .before .before .before .before .before .before .before .before .before .before .before .before .loop .inv .1 .bound
 
 same-uses : tie.Need-same-length-4 Inv-loop μ-loop
-same-uses c = c .before .before .before .before .before .before .before .before .before .before .before .before .before .before .before .before .before .before .before .before .before .before .uses .given ∙ c .before .before .before .before .before .before .before .before .before .before .before .before .before .before .before .before .before .before .before .before .before .before .before .before .before .before .before .before .before .before .before .before .before .before .before .before .before .before .before .before .before .before .before .before .before .before .before .before .before .loop .inv .1 .uses-is
+same-uses c = c .before .before .before .before .before .before .before .before .before .before .before .before .before .before .before .before .before .before .before .before .before .before .uses .given ∙ c .before .before .before .before .before .before .before .before .before .before .before .before .before .before .before .before .before .before .before .before .before .before .before .before .before .before .before .before .before .before .before .before .before .before .before .before .before .before .before .before .before .before .before .before .before .before .before .before .before .loop .inv .1 .uses
 
 same-spare : tie.Need-same-length-5 Inv-loop μ-loop
-same-spare c = c .before .before .before .before .before .before .before .before .before .before .before .before .before .before .before .before .before .before .before .before .spare .given ∙ c .before .before .before .before .before .before .before .before .before .before .before .before .before .before .before .before .before .before .before .before .before .before .before .before .before .before .before .before .before .before .before .before .before .before .before .before .before .before .before .before .before .before .before .before .before .before .before .before .before .loop .inv .1 .spare-is
+same-spare c = c .before .before .before .before .before .before .before .before .before .before .before .before .before .before .before .before .before .before .before .before .spare .given ∙ c .before .before .before .before .before .before .before .before .before .before .before .before .before .before .before .before .before .before .before .before .before .before .before .before .before .before .before .before .before .before .before .before .before .before .before .before .before .before .before .before .before .before .before .before .before .before .before .before .before .loop .inv .1 .spare
 
 same-made : tie.Need-same-length-6 Inv-loop μ-loop
-same-made c = c .before .before .before .before .before .before .before .before .before .before .before .before .before .before .before .before .before .before .made .given ∙ c .before .before .before .before .before .before .before .before .before .before .before .before .before .before .before .before .before .before .before .before .before .before .before .before .before .before .before .before .before .before .before .before .before .before .before .before .before .before .before .before .before .before .before .before .before .before .before .before .before .loop .inv .1 .made-is
+same-made c = c .before .before .before .before .before .before .before .before .before .before .before .before .before .before .before .before .before .before .made .given ∙ c .before .before .before .before .before .before .before .before .before .before .before .before .before .before .before .before .before .before .before .before .before .before .before .before .before .before .before .before .before .before .before .before .before .before .before .before .before .before .before .before .before .before .before .before .before .before .before .before .before .loop .inv .1 .made
 
 same-places : tie.Need-same-length-7 Inv-loop μ-loop
-same-places c = c .before .before .before .before .before .before .before .before .before .before .before .before .before .before .before .before .places .given ∙ c .before .before .before .before .before .before .before .before .before .before .before .before .before .before .before .before .before .before .before .before .before .before .before .before .before .before .before .before .before .before .before .before .before .before .before .before .before .before .before .before .before .before .before .before .before .before .before .before .before .loop .inv .1 .places-is
+same-places c = c .before .before .before .before .before .before .before .before .before .before .before .before .before .before .before .before .places .given ∙ c .before .before .before .before .before .before .before .before .before .before .before .before .before .before .before .before .before .before .before .before .before .before .before .before .before .before .before .before .before .before .before .before .before .before .before .before .before .before .before .before .before .before .before .before .before .before .before .before .before .loop .inv .1 .places
 
 same-hashes : tie.Need-same-length-8 Inv-loop μ-loop
-same-hashes c = c .before .before .before .before .before .before .before .before .before .before .before .before .before .before .hashes .given ∙ c .before .before .before .before .before .before .before .before .before .before .before .before .before .before .before .before .before .before .before .before .before .before .before .before .before .before .before .before .before .before .before .before .before .before .before .before .before .before .before .before .before .before .before .before .before .before .before .before .before .loop .inv .1 .hashes-is
+same-hashes c = c .before .before .before .before .before .before .before .before .before .before .before .before .before .before .hashes .given ∙ c .before .before .before .before .before .before .before .before .before .before .before .before .before .before .before .before .before .before .before .before .before .before .before .before .before .before .before .before .before .before .before .before .before .before .before .before .before .before .before .before .before .before .before .before .before .before .before .before .before .loop .inv .1 .hashes
 
 same-hints : tie.Need-same-length-9 Inv-loop μ-loop
-same-hints c = c .before .before .before .before .before .before .before .before .before .before .before .before .hints .given ∙ c .before .before .before .before .before .before .before .before .before .before .before .before .before .before .before .before .before .before .before .before .before .before .before .before .before .before .before .before .before .before .before .before .before .before .before .before .before .before .before .before .before .before .before .before .before .before .before .before .before .loop .inv .1 .hints-is
+same-hints c = c .before .before .before .before .before .before .before .before .before .before .before .before .hints .given ∙ c .before .before .before .before .before .before .before .before .before .before .before .before .before .before .before .before .before .before .before .before .before .before .before .before .before .before .before .before .before .before .before .before .before .before .before .before .before .before .before .before .before .before .before .before .before .before .before .before .before .loop .inv .1 .hints
 
 same-rows : tie.Need-same-length-10 Inv-loop μ-loop
-same-rows c = c .before .before .before .before .before .before .before .before .before .before .rows .given ∙ c .before .before .before .before .before .before .before .before .before .before .before .before .before .before .before .before .before .before .before .before .before .before .before .before .before .before .before .before .before .before .before .before .before .before .before .before .before .before .before .before .before .before .before .before .before .before .before .before .before .loop .inv .1 .rows-is
+same-rows c = c .before .before .before .before .before .before .before .before .before .before .rows .given ∙ c .before .before .before .before .before .before .before .before .before .before .before .before .before .before .before .before .before .before .before .before .before .before .before .before .before .before .before .before .before .before .before .before .before .before .before .before .before .before .before .before .before .before .before .before .before .before .before .before .before .loop .inv .1 .rows
 
 same-params : tie.Need-same-length-11 Inv-loop μ-loop
-same-params c = c .before .before .before .before .before .before .before .before .params .given ∙ c .before .before .before .before .before .before .before .before .before .before .before .before .before .before .before .before .before .before .before .before .before .before .before .before .before .before .before .before .before .before .before .before .before .before .before .before .before .before .before .before .before .before .before .before .before .before .before .before .before .loop .inv .1 .params-is
+same-params c = c .before .before .before .before .before .before .before .before .params .given ∙ c .before .before .before .before .before .before .before .before .before .before .before .before .before .before .before .before .before .before .before .before .before .before .before .before .before .before .before .before .before .before .before .before .before .before .before .before .before .before .before .before .before .before .before .before .before .before .before .before .before .loop .inv .1 .params
 
 same-numbers : tie.Need-same-length-12 Inv-loop μ-loop
-same-numbers c = c .before .before .before .before .before .before .numbers .given ∙ c .before .before .before .before .before .before .before .before .before .before .before .before .before .before .before .before .before .before .before .before .before .before .before .before .before .before .before .before .before .before .before .before .before .before .before .before .before .before .before .before .before .before .before .before .before .before .before .before .before .loop .inv .1 .number-is
+same-numbers c = c .before .before .before .before .before .before .numbers .given ∙ c .before .before .before .before .before .before .before .before .before .before .before .before .before .before .before .before .before .before .before .before .before .before .before .before .before .before .before .before .before .before .before .before .before .before .before .before .before .before .before .before .before .before .before .before .before .before .before .before .before .loop .inv .1 .number
 
 same-order : tie.Need-same-length-13 Inv-loop μ-loop
-same-order c = c .before .before .before .before .order .given ∙ c .before .before .before .before .before .before .before .before .before .before .before .before .before .before .before .before .before .before .before .before .before .before .before .before .before .before .before .before .before .before .before .before .before .before .before .before .before .before .before .before .before .before .before .before .before .before .before .before .before .loop .inv .1 .order-is
+same-order c = c .before .before .before .before .order .given ∙ c .before .before .before .before .before .before .before .before .before .before .before .before .before .before .before .before .before .before .before .before .before .before .before .before .before .before .before .before .before .before .before .before .before .before .before .before .before .before .before .before .before .before .before .before .before .before .before .before .before .loop .inv .1 .order
 
 returns : tie.Need-returns Inv-loop μ-loop
 returns c = going-refused (c .before .before .before .before .before .before .before .before .before .before .before .before .before .before .before .before .before .before .before .before .before .before .before .before .before .before .before .before .before .before .before .before .before .before .before .before .before .before .before .before .before .before .before .before .before .before .before .before .before .loop .inv .0) (c .before .before .before .before .before .before .before .before .before .before .before .before .before .before .before .before .before .before .before .before .before .before .before .before .before .before .before .before .before .before .before .before .before .before .before .before .before .before .before .before .before .before .before .before .before .before .before .before .loop-test .taken) (c .before .before .before .before .before .before .before .before .before .before .before .before .before .before .before .before .before .before .before .before .before .before .before .before .before .before .before .before .before .before .before .before .before .before .before .before .before .before .before .before .before .before .before .before .before .before .before .byte .ensures) (rw (c .before .c .given .1) at (c .before .before .before .before .before .before .before .before .before .before .before .before .before .before .before .before .before .before .before .before .before .before .before .before .before .before .before .before .before .expand-definition .ensures))
@@ -92,60 +93,60 @@ loop-again c =
     let i = c .before .before .before .before .before .before .before .before .before .before .before .before .before .before .before .before .before .before .before .before .before .before .before .before .before .before .before .before .before .before .before .before .before .before .before .before .before .before .before .before .before .before .before .before .before .before .before .before .before .loop .inv in (
       going-step (i .0) (c .before .before .before .before .before .before .before .before .before .before .before .before .before .before .before .before .before .before .before .before .before .before .before .before .before .before .before .before .before .before .before .before .before .before .before .before .before .before .before .before .before .before .before .before .before .before .before .before .loop-test .taken) (c .before .before .before .before .before .before .before .before .before .before .before .before .before .before .before .before .before .before .before .before .before .before .before .before .before .before .before .before .before .before .before .before .before .before .before .before .before .before .before .before .before .before .before .before .before .before .before .byte .ensures) (rw (c .before .v .given .1) at (c .before .before .before .before .before .before .before .before .before .before .before .before .before .before .before .before .before .before .before .before .before .before .before .before .before .before .before .before .before .expand-definition .ensures)) (c .before .before .before .before .before .before .before .before .before .before .before .before .before .before .before .before .before .before .before .before .before .before .before .before .before .before .before .before .before .before .before .before .before .before .before .before .before .before .before .before .before .before .before .before .before .before .before .before .before .before .before .before .before .before .before .before .before .before .before .before .before .before .before .before .before .before .before .before .pre .2) (c .before .before .before .before .before .before .before .before .before .before .before .before .before .before .before .before .before .before .before .before .before .before .before .before .before .before .before .before .before .before .before .before .before .before .before .before .before .before .before .before .before .before .before .before .before .number2 .ensures ∙ rw (c .before .before .before .before .before .before .before .before .before .before .before .before .before .before .before .before .before .before .before .before .before .before .before .before .before .before .before .before .before .before .before .before .before .before .before .before .before .before .before .before .before .before .before .before .before .before .past3 .ensures)) (c .before .before .before .before .before .before .before .before .before .before .before .before .before .before .before .before .before .before .before .before .before .before .before .before .before .before .before .before .before .before .before .before .before .before .before .before .before .before .before .before .before .before .before .before .past4 .ensures) (c .before .before .before .before .before .before .before .before .before .before .before .before .before .before .before .before .before .before .before .before .before .before .before .before .before .before .before .before .before .before .before .before .before .before .before .before .before .before .before .before .before .before .before .past5 .ensures),
       record {
-        path-is = c .before .before .before .before .before .before .before .before .before .before .before .before .before .before .before .before .before .before .before .before .before .before .before .before .before .before .before .before .path .given ∙ i .1 .path-is;
-        binders-is = c .before .before .before .before .before .before .before .before .before .before .before .before .before .before .before .before .before .before .before .before .before .before .before .before .before .before .binders .given ∙ i .1 .binders-is;
-        bound-is = c .before .before .before .before .before .before .before .before .before .before .before .before .before .before .before .before .before .before .before .before .before .before .before .before .bound .given ∙ i .1 .bound-is;
-        uses-is = c .before .before .before .before .before .before .before .before .before .before .before .before .before .before .before .before .before .before .before .before .before .before .uses .given ∙ i .1 .uses-is;
-        spare-is = c .before .before .before .before .before .before .before .before .before .before .before .before .before .before .before .before .before .before .before .before .spare .given ∙ i .1 .spare-is;
-        made-is = c .before .before .before .before .before .before .before .before .before .before .before .before .before .before .before .before .before .before .made .given ∙ i .1 .made-is;
-        places-is = c .before .before .before .before .before .before .before .before .before .before .before .before .before .before .before .before .places .given ∙ i .1 .places-is;
-        hashes-is = c .before .before .before .before .before .before .before .before .before .before .before .before .before .before .hashes .given ∙ i .1 .hashes-is;
-        hints-is = c .before .before .before .before .before .before .before .before .before .before .before .before .hints .given ∙ i .1 .hints-is;
-        rows-is = c .before .before .before .before .before .before .before .before .before .before .rows .given ∙ i .1 .rows-is;
-        params-is = c .before .before .before .before .before .before .before .before .params .given ∙ i .1 .params-is;
-        number-is = c .before .before .before .before .before .before .numbers .given ∙ i .1 .number-is;
-        order-is = c .before .before .before .before .order .given ∙ i .1 .order-is;
+        path = c .before .before .before .before .before .before .before .before .before .before .before .before .before .before .before .before .before .before .before .before .before .before .before .before .before .before .before .before .path .given ∙ i .1 .path;
+        binders = c .before .before .before .before .before .before .before .before .before .before .before .before .before .before .before .before .before .before .before .before .before .before .before .before .before .before .binders .given ∙ i .1 .binders;
+        bound = c .before .before .before .before .before .before .before .before .before .before .before .before .before .before .before .before .before .before .before .before .before .before .before .before .bound .given ∙ i .1 .bound;
+        uses = c .before .before .before .before .before .before .before .before .before .before .before .before .before .before .before .before .before .before .before .before .before .before .uses .given ∙ i .1 .uses;
+        spare = c .before .before .before .before .before .before .before .before .before .before .before .before .before .before .before .before .before .before .before .before .spare .given ∙ i .1 .spare;
+        made = c .before .before .before .before .before .before .before .before .before .before .before .before .before .before .before .before .before .before .made .given ∙ i .1 .made;
+        places = c .before .before .before .before .before .before .before .before .before .before .before .before .before .before .before .before .places .given ∙ i .1 .places;
+        hashes = c .before .before .before .before .before .before .before .before .before .before .before .before .before .before .hashes .given ∙ i .1 .hashes;
+        hints = c .before .before .before .before .before .before .before .before .before .before .before .before .hints .given ∙ i .1 .hints;
+        rows = c .before .before .before .before .before .before .before .before .before .before .rows .given ∙ i .1 .rows;
+        params = c .before .before .before .before .before .before .before .before .params .given ∙ i .1 .params;
+        number = c .before .before .before .before .before .before .numbers .given ∙ i .1 .number;
+        order = c .before .before .before .before .order .given ∙ i .1 .order;
       },
     )
 
 end-path : tie.Need-same-length-14 Inv-loop μ-loop
-end-path c = c .before .loop .inv .1 .path-is
+end-path c = c .before .loop .inv .1 .path
 
 end-binders : tie.Need-same-length-15 Inv-loop μ-loop
-end-binders c = c .before .loop .inv .1 .binders-is
+end-binders c = c .before .loop .inv .1 .binders
 
 end-bound : tie.Need-same-length-16 Inv-loop μ-loop
-end-bound c = c .before .loop .inv .1 .bound-is
+end-bound c = c .before .loop .inv .1 .bound
 
 end-uses : tie.Need-same-length-17 Inv-loop μ-loop
-end-uses c = c .before .loop .inv .1 .uses-is
+end-uses c = c .before .loop .inv .1 .uses
 
 end-spare : tie.Need-same-length-18 Inv-loop μ-loop
-end-spare c = c .before .loop .inv .1 .spare-is
+end-spare c = c .before .loop .inv .1 .spare
 
 end-made : tie.Need-same-length-19 Inv-loop μ-loop
-end-made c = c .before .loop .inv .1 .made-is
+end-made c = c .before .loop .inv .1 .made
 
 end-places : tie.Need-same-length-20 Inv-loop μ-loop
-end-places c = c .before .loop .inv .1 .places-is
+end-places c = c .before .loop .inv .1 .places
 
 end-hashes : tie.Need-same-length-21 Inv-loop μ-loop
-end-hashes c = c .before .loop .inv .1 .hashes-is
+end-hashes c = c .before .loop .inv .1 .hashes
 
 end-hints : tie.Need-same-length-22 Inv-loop μ-loop
-end-hints c = c .before .loop .inv .1 .hints-is
+end-hints c = c .before .loop .inv .1 .hints
 
 end-rows : tie.Need-same-length-23 Inv-loop μ-loop
-end-rows c = c .before .loop .inv .1 .rows-is
+end-rows c = c .before .loop .inv .1 .rows
 
 end-params : tie.Need-same-length-24 Inv-loop μ-loop
-end-params c = c .before .loop .inv .1 .params-is
+end-params c = c .before .loop .inv .1 .params
 
 end-numbers : tie.Need-same-length-25 Inv-loop μ-loop
-end-numbers c = c .before .loop .inv .1 .number-is
+end-numbers c = c .before .loop .inv .1 .number
 
 end-order : tie.Need-same-length-26 Inv-loop μ-loop
-end-order c = c .before .loop .inv .1 .order-is
+end-order c = c .before .loop .inv .1 .order
 
 returns-2 : tie.Need-returns-2 Inv-loop μ-loop
 returns-2 c = going-all (c .before .loop .inv .0) (omega (arith, c .loop-test .left))
