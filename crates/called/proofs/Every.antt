@@ -17,8 +17,9 @@ use Rattle.seek.proofs.Here.{byte-here, next-here}
 use Rattle.lookup.specs.Name.{nameAt}
 use Rattle.lookup.proofs.Names.{stands}
 use Rattle.writer.proofs.Put.{within}
-use Rattle.taken.specs.Taken.{both, Found}
-use Rattle.taken.proofs.Rows.{found-not, found-is}
+use Rattle.taken.specs.Taken.{both}
+use Rattle.found.specs.Found.{Found}
+use Rattle.found.proofs.Rows.{found-not, found-is}
 use Rattle.called.specs.Known.{rowNames, knownAt}
 
 -- a call

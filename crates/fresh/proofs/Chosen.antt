@@ -18,11 +18,12 @@ use Rattle.writer.specs.Buf.{after, Wrote}
 use Rattle.writer.proofs.Put.{put-fits, within}
 use Rattle.writer.proofs.Wrote.{glue}
 use Rattle.names.specs.Name.{Held}
-use Rattle.taken.specs.Taken.{Store, row, taken, Table, Hints, Found}
+use Rattle.taken.specs.Taken.{Store, row, taken, Table, Hints}
+use Rattle.found.specs.Found.{Found}
 use Rattle.fresh.specs.Free.{FirstFree, Fresh}
 use Rattle.names.proofs.Held.{held-whole, stays}
 use Rattle.fresh.proofs.FreeNames.{fresh-base, fresh-number, held-new}
-use Rattle.taken.proofs.Rows.{found-not, found-is, found-name, long-free, length-taken}
+use Rattle.found.proofs.Rows.{found-not, found-is, found-name, long-free, length-taken}
 
 -- what stands in a buffer is as good as written there
 stood : (d : List ℕ) (at : ℕ) → at ≤ length d → Wrote d 0 (take at d) d at

@@ -17,11 +17,12 @@ use Rattle.writer.specs.Buf.{put, after, Wrote}
 use Rattle.writer.proofs.Put.{put-over, take-put, within}
 use Rattle.writer.proofs.Wrote.{same-length}
 use Rattle.names.specs.Name.{Held, Child}
-use Rattle.taken.specs.Taken.{Store, taken, Table, Found}
+use Rattle.taken.specs.Taken.{Store, taken, Table}
+use Rattle.found.specs.Found.{Found}
 use Rattle.fresh.specs.Free.{Tells, FirstFree}
 use Rattle.names.proofs.Held.{held-whole, grown}
 use Rattle.segments.proofs.Decimal.{decimal-small, decimal-large}
-use Rattle.taken.proofs.Rows.{found-not, found-is, long-free}
+use Rattle.found.proofs.Rows.{found-not, found-is, long-free}
 
 -- ---- a larger number has no fewer digits
 some-digit : (n : ℕ) → 1 ≤ length (decimal n)

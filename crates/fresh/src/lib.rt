@@ -1,6 +1,6 @@
 // The first free name. A row's hint says where the numbered names of its name start to be worth a try. So a lift under a base that was
 // used 499 times tries one number or two.
-use taken::find_name;
+use found::find_name;
 ghost use Prim.Native.Nat.{_≤_, _<_};
 ghost use lib.ListN.{length};
 ghost use Rattle.taken.specs.Taken.{both, taken, Table, Hints};

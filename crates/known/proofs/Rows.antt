@@ -18,8 +18,8 @@ use Rattle.seek.specs.At.{byteAt, pastAt, numberAt}
 use Rattle.seek.specs.Here.{Here}
 use Rattle.lookup.specs.Name.{nameAt}
 use Rattle.lookup.proofs.Names.{stands}
-use Rattle.taken.specs.Taken.{hashOf}
-use Rattle.taken.proofs.Rows.{hash-ne}
+use Rattle.hash.specs.Hash.{hashOf}
+use Rattle.hash.proofs.Hash.{hash-ne}
 use Rattle.known.specs.declared.Found.{Found}
 use Rattle.known.specs.declared.Found.the-variants.{At, Unknown}
 use Rattle.contents.specs.Listed.{Listed}

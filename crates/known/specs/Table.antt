@@ -13,7 +13,7 @@ use Rattle.definition.specs.Macros.{Macro, macros, instance, innerOf, expandMac
 use Rattle.laws.specs.Book.{IsBook}
 use Rattle.nested.specs.Nested.{isMacro}
 use Rattle.seek.specs.Here.{Here}
-use Rattle.taken.specs.Taken.{hashOf}
+use Rattle.hash.specs.Hash.{hashOf}
 use Rattle.contents.specs.Listed.{Listed}
 use Rattle.instance.specs.Paired.{Defined}
 use Rattle.known.specs.declared.Found.{Found}

@@ -1,10 +1,10 @@
 // The macros of a book in a table: a row for each, with its place and the hash of its name, the last definition in the last row.
+use hash::name_hash;
 use lookup::name_at;
 use lookup::same_name;
 use seek::byte;
 use seek::number;
 use seek::past;
-use taken::name_hash;
 ghost use Rattle.known.specs.Table.{SameRow, FindsMacro, Taken, Tabled};
 
 // Where the definition of a macro stands, if there is one.

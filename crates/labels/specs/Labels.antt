@@ -10,7 +10,7 @@ use Rattle.definition.specs.Tree.{Name}
 use Rattle.definition.specs.Names.{eqName}
 use Rattle.lookup.specs.Name.{nameAt}
 use Rattle.seek.specs.At.{pick}
-use Rattle.taken.specs.Taken.{hashOf}
+use Rattle.hash.specs.Hash.{hashOf}
 
 -- the first 512 numbers are heads: the number of a name's
 unfoldable pub headOf : Name → ℕ

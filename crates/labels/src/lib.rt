@@ -1,8 +1,8 @@
 // The labels in force, in one lent table of numbers. Its first 512 are heads, one for each hash that a name can have: one more than the number
 // of the last label with that hash, or 0. Behind them each label has two: the place of its length byte, and what its head held before it.
+use hash::name_hash;
 use lookup::name_at;
 use lookup::same_name;
-use taken::name_hash;
 ghost use mathlib.Core.Path.{_≡_};
 ghost use Prim.Native.Nat.{_+_, _*_};
 ghost use lib.ListN.{getD};

@@ -26,8 +26,9 @@ use Rattle.lifting.proofs.Calls.{calls-end, calls-copy, calls-stretch}
 use Rattle.lifting.proofs.Refs.{AllRefs}
 use Rattle.lifting.proofs.Standing.{Stood}
 use Rattle.result.specs.Model as model
+use Rattle.invocation.specs.Invocation.{namesBytes, calledBytes, callBytes}
 use Rattle.splice.specs.Model as by-numbers
-use Rattle.splice.specs.Model.{Tables, namesBytes, calledBytes, callBytes, goes, onFrom, spliced}
+use Rattle.splice.specs.Model.{Tables, goes, onFrom, spliced}
 use Rattle.result.specs.Model.{innerEnd, passedBytes, paramsBytes}
 use Rattle.result.specs.Held.{Numbers}
 

@@ -12,8 +12,9 @@ use Rattle.writer.specs.Buf.{part, nameBytes}
 use Rattle.lookup.specs.Name.{nameAt}
 use Rattle.seek.specs.At.{numberAt}
 use Rattle.tables.specs.Rows.{rowAt, namesFrom, typesFrom}
-use Rattle.splice.specs.Model.{Tables, row, calledBytes, spliced, paramName}
-use Rattle.splice.proofs.Steps.{length-names}
+use Rattle.invocation.specs.Invocation.{calledBytes, paramName}
+use Rattle.invocation.proofs.Names.{length-names}
+use Rattle.splice.specs.Model.{Tables, row, spliced}
 use Rattle.result.specs.Model.{innerEnd, passedBytes, typeBytes, paramType, paramsBytes, liftedBytes, keptBytes}
 
 module _ (t : Tables) where

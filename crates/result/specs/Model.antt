@@ -13,7 +13,8 @@ use Rattle.seek.specs.At.{byteAt, numberAt, pick}
 use Rattle.marks.specs.Steps.{walk}
 use Rattle.calls.specs.Walk.{skipAt}
 use Rattle.tables.specs.Rows.{TypeAt, Row}
-use Rattle.splice.specs.Model.{row, calledBytes, spliced}
+use Rattle.invocation.specs.Invocation.{calledBytes}
+use Rattle.splice.specs.Model.{row, spliced}
 pub use Rattle.splice.specs.Model.{Tables, tables}
 
 -- where an inner ends. It has fewer levels than bytes

@@ -1,12 +1,12 @@
 // The writing pass: the finished book from the expanded book and the tables that the naming pass leaves. It goes in layout order, writes each
 // body once at its final place, and cannot fail: every function is total on any bytes and any numbers.
 use entries::put_entry;
+use invocation::param_name;
+use invocation::put_called;
 use lookup::name_at;
 use marks::Walk;
 use seek::byte;
 use skip::skip_inner;
-use splice::param_name;
-use splice::put_called;
 use splice::put_spliced;
 use tables::entry;
 use writer::put_name;
@@ -18,7 +18,8 @@ ghost use Prim.Native.Nat.{_+_, _≤_};
 ghost use Rattle.definition.specs.Write.{wU16};
 ghost use Rattle.writer.specs.Buf.{Wrote, nameBytes};
 ghost use Rattle.tables.specs.Rows.{rowAt, namesFrom, typesFrom};
-ghost use Rattle.splice.specs.Model.{tables, paramName};
+ghost use Rattle.invocation.specs.Invocation.{paramName};
+ghost use Rattle.splice.specs.Model.{tables};
 ghost use Rattle.result.specs.Model.{innerEnd, paramType, typeBytes, paramsBytes, liftedBytes, keptBytes, keptFrom, liftedFrom};
 ghost use Rattle.result.specs.Adds.{Adds};
 ghost use Rattle.result.specs.Held.{Writes};

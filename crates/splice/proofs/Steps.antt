@@ -1,72 +1,20 @@
 -- The model in the code's own terms: a loop's end, and one step of it.
 -- Assumes nothing.
 use mathlib.Core.Path.{_≡_, refl, sym, ap, _∙_}
-use mathlib.Core.List.{List, [], _∷_, _++_, append-assoc, append-nil}
+use mathlib.Core.List.{List, [], _++_, append-assoc, append-nil}
 use mathlib.Core.Bool.{Bool, true, false, cond}
 use Prim.Native.Nat.{ℕ, zero, suc, _+_, _*_, _-_, _≤_, _<_, min, max}
 use native.Mathlib.Numerals.{add-one, sub-one}
 use native.Mathlib.Omega.{arith}
 use lib.Dec.{leb, eqb}
-use lib.ListN.{length, take, drop, getD, drop-of-length-le}
-use lib.Seq.{take-nil}
+use lib.ListN.{getD}
 use borrow.Author.Tests.{leb-true, leb-false, eqb-true}
-use Rattle.definition.specs.Write.{wU16}
-use Rattle.writer.specs.Buf.{after, part, Wrote, nameBytes}
-use Rattle.writer.proofs.Put.{put-nil, part-back, part-split}
-use Rattle.writer.proofs.Wrote.{place-is, same-length, glue}
-use Rattle.lookup.specs.Name.{nameAt}
-use Rattle.tables.specs.Rows.{rowAt, namesFrom}
-use Rattle.splice.specs.Model.{Tables, row, namesBytes, calledBytes, callBytes, placed, goes, onFrom, spliced, paramName}
+use Rattle.writer.specs.Buf.{part}
+use Rattle.writer.proofs.Put.{part-back, part-split}
+use Rattle.tables.specs.Rows.{rowAt}
+use Rattle.invocation.specs.Invocation.{callBytes}
+use Rattle.splice.specs.Model.{Tables, row, placed, goes, onFrom, spliced}
 use Rattle.ahead.specs.Next.{nextOf, nextLift}
-
--- nothing more is written, at a place that an earlier write left
-pub wrote-nothing : (d : List ℕ) (at : ℕ) → at ≤ suc (length d) → Wrote d at [] d at
-unfolding after
-wrote-nothing d at h = record { place = omega arith; holds = sym (put-nil d at) }
-
-pub place-within : {d : List ℕ} {at : ℕ} {p d′ : List ℕ} {r : ℕ} → Wrote d at p d′ r → r ≤ suc (length d′)
-place-within w = omega (arith, place-is w, same-length w)
-
--- the same bytes, named otherwise
-pub wrote-as : {d : List ℕ} {at : ℕ} {p q d′ : List ℕ} {r : ℕ} → p ≡ q → Wrote d at q d′ r → Wrote d at p d′ r
-wrote-as e w = rw e w
-
--- whoever writes q from here on has written p from the start
-pub record Rest (d : List ℕ) (at : ℕ) (p d′ : List ℕ) (o : ℕ) (q : List ℕ) : Type 0 where
-  pub then : (e : List ℕ) (r : ℕ) → Wrote d′ o q e r → Wrote d at p e r
-
-pub rest-all : (d : List ℕ) (at : ℕ) (p : List ℕ) → Rest d at p d at p
-rest-all d at p = record { then = λ e r w. w }
-
-module _ {d : List ℕ} {at : ℕ} {p d′ : List ℕ} {o : ℕ} where
-  pub rest-on : {q₀ : List ℕ} (q : List ℕ) {z d″ : List ℕ} {o′ : ℕ} → Rest d at p d′ o q₀ → q₀ ≡ q ++ z → Wrote d′ o q d″ o′ → Rest d at p d″ o′ z
-  rest-on q {z} g e w = record { then = λ x r v. g .then x r (rw e (glue w v)) }
-
-  pub rest-same : {q z : List ℕ} → Rest d at p d′ o q → q ≡ z → Rest d at p d′ o z
-  rest-same g e = rw e at g
-
-  pub rest-end : {q : List ℕ} → Rest d at p d′ o q → q ≡ [] → o ≤ suc (length d′) → Wrote d at p d′ o
-  rest-end g e h = g .then d′ o (rw e (wrote-nothing d′ o h))
-
-pub bytes-none : (s : List ℕ) (at n : ℕ) → length s ≤ at → [] ≡ take n (drop at s)
-bytes-none s at n h = rw (drop-of-length-le s {i = at} h, take-nil n)
-
--- names
-module _ (s params : List ℕ) where
-  pub length-names : (j n : ℕ) → length (namesFrom s params j n) ≡ n
-  unfolding namesFrom
-  length-names j zero = refl
-  length-names j (suc n) = ap suc (length-names (j + 1) n)
-
-  pub names-more : (j n : ℕ) {name : List ℕ} → 0 < n → name ≡ paramName s params j → namesBytes (namesFrom s params j n) ≡ nameBytes name ++ namesBytes (namesFrom s params (j + 1) (n - 1))
-  unfolding namesFrom namesBytes
-  names-more j zero h e = absurd (omega arith)
-  names-more j (suc n) h e = rw (e, sub-one)
-
-  pub names-done : (j n : ℕ) → n ≤ 0 → namesBytes (namesFrom s params j n) ≡ []
-  unfolding namesFrom namesBytes
-  names-done j zero h = refl
-  names-done j (suc n) h = absurd (omega arith)
 
 -- a range with its calls
 module _ (t : Tables) where
@@ -150,10 +98,3 @@ module _ (t : Tables) where
   pub spliced-is : (from to : ℕ) → spliced t from to ≡ part from (min (from + 1) to) (t .book) ++ onFrom t (from + 1) to
   unfolding spliced
   spliced-is from to = rw add-one
-
--- a row, by its numbers
-module _ (s names rows params : List ℕ) where
-  pub called-is : (i place first count : ℕ) (name : List ℕ) → place ≡ getD rows (5 * i + 2) 0 → first ≡ getD rows (5 * i + 3) 0 → count ≡ getD rows (5 * i + 4) 0 → name ≡ nameAt names place
-      → calledBytes (rowAt s names rows params i) ≡ (15 ∷ []) ++ (nameBytes name ++ (wU16 count [] ++ namesBytes (namesFrom s params first count)))
-  unfolding calledBytes rowAt
-  called-is i place first count name a b c d = rw (d, a, b, c, length-names s params (getD rows (5 * i + 3) 0) (getD rows (5 * i + 4) 0))

@@ -1,12 +1,11 @@
 -- The bytes of a range of the expanded book with calls in the place of lifts, from the tables of the naming pass: total on any bytes and any
 -- numbers.
-use mathlib.Core.List.{List, [], _∷_, _++_}
-use Prim.Native.Nat.{ℕ, zero, suc, _+_, _*_, _-_, min}
-use lib.ListN.{length, take, drop, getD}
-use Rattle.definition.specs.Tree.{Name}
-use Rattle.definition.specs.Write.{wU16}
-use Rattle.writer.specs.Buf.{part, nameBytes}
+use mathlib.Core.List.{List, [], _++_}
+use Prim.Native.Nat.{ℕ, zero, suc, _-_, min}
+use lib.ListN.{getD}
+use Rattle.writer.specs.Buf.{part}
 use Rattle.tables.specs.Rows.{Row, rowAt}
+use Rattle.invocation.specs.Invocation.{callBytes}
 
 -- the expanded book and the tables
 pub record Tables : Type 0 where
@@ -21,22 +20,6 @@ tables s names rows params number = record { book = s; names = names; rows = row
 
 abbrev pub row : Tables → ℕ → Row
 row t i = rowAt (t .book) (t .names) (t .rows) (t .params) i
-
--- the name of parameter j
-abbrev pub paramName : List ℕ → List ℕ → ℕ → Name
-paramName s params j = take (getD params (4 * j + 1) 0) (drop (getD params (4 * j) 0) s)
-
-unfoldable pub namesBytes : List Name → List ℕ
-namesBytes [] = []
-namesBytes (n ∷ ns) = nameBytes n ++ namesBytes ns
-
--- "15 Invocation: name, u16 count, arguments"
-unfoldable pub calledBytes : Row → List ℕ
-calledBytes r = (15 ∷ []) ++ (nameBytes (r .name) ++ (wU16 (length (r .params)) [] ++ namesBytes (r .params)))
-
--- "replaced by a call without a chain"
-unfoldable pub callBytes : Row → List ℕ
-callBytes r = calledBytes r ++ (0 ∷ [])
 
 -- the byte at a place, or the call of the lift that begins there; `on` goes on after leaving out so many places
 unfoldable pub placed : Tables → ℕ → ℕ → (ℕ → List ℕ) → List ℕ

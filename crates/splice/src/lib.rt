@@ -1,20 +1,13 @@
 // The bytes from one place of the expanded book up to another, with the range of each lift that begins on the way replaced by its call. Every
 // function is total on any bytes and any numbers.
 use ahead::next_lift;
-use lookup::name_at;
+use invocation::put_call;
 use tables::entry;
-use writer::put_byte;
-use writer::put_name;
 use writer::put_part;
-use writer::put_u16;
 ghost use mathlib.Core.Path.{_≡_};
-ghost use mathlib.Core.List.{[], _++_};
-ghost use Prim.Native.Nat.{_+_, _*_, _≤_, max};
-ghost use lib.ListN.{take, drop};
-ghost use Rattle.definition.specs.Write.{wU16};
+ghost use Prim.Native.Nat.{max};
 ghost use Rattle.writer.specs.Buf.{Wrote};
-ghost use Rattle.tables.specs.Rows.{rowAt, namesFrom};
-ghost use Rattle.splice.specs.Model.{tables, namesBytes, calledBytes, callBytes, spliced, paramName};
+ghost use Rattle.splice.specs.Model.{tables, spliced};
 
 fn most(x: usize, y: usize) -> usize
     ensures { λ r. ⌜ r ≡ max x y ⌝ }
@@ -23,83 +16,6 @@ fn most(x: usize, y: usize) -> usize
         return y;
     }
     x
-}
-
-// The n bytes from a place on, as far as s reaches.
-fn bytes_at(s: &[u8], at: usize, n: usize) -> &[u8]
-    ensures { λ r. ⌜ now r ≡ take n (drop at (now (s .entry))) ⌝ }
-{
-    if s.len() <= at {
-        return &s[..0];
-    }
-    if s.len() - at <= n {
-        return &s[at..];
-    }
-    &s[at..at + n]
-}
-
-// The name of parameter j.
-pub fn param_name<'a>(s: &'a [u8], params: &[u16], j: usize) -> &'a [u8]
-    requires { ⌜ j ≤ 131070 ⌝ }
-    ensures { λ r. ⌜ now r ≡ paramName (now (s .entry)) (now (params .entry)) j ⌝ }
-{
-    let at = entry(params, 4 * j);
-    let n = entry(params, 4 * j + 1);
-    bytes_at(s, at as usize, n as usize)
-}
-
-// A count, and the names of as many parameters.
-fn put_names(s: &[u8], params: &[u16], first: u16, count: u16, out: &mut [u8], at: usize) -> usize
-    ensures { λ r. ⌜ Wrote (now (out .entry)) at (wU16 count [] ++ namesBytes (namesFrom (now (s .entry)) (now (params .entry)) first count)) (now (out .exit)) r ⌝ }
-{
-    let mut left = count;
-    let mut j = first as usize;
-    let mut o = put_u16(count, out, at);
-    while 0 < left {
-        let name = param_name(s, params, j);
-        o = put_name(name, out, o);
-        j += 1;
-        left -= 1;
-    }
-    o
-}
-
-// The Invocation of lift i.
-pub fn put_called(
-    s: &[u8],
-    names: &[u8],
-    rows: &[u16],
-    params: &[u16],
-    i: u16,
-    out: &mut [u8],
-    at: usize,
-) -> usize
-    ensures { λ r. ⌜ Wrote (now (out .entry)) at (calledBytes (rowAt (now (s .entry)) (now (names .entry)) (now (rows .entry)) (now (params .entry)) i)) (now (out .exit)) r ⌝ }
-{
-    let base = 5 * (i as usize);
-    let place = entry(rows, base + 2);
-    let first = entry(rows, base + 3);
-    let count = entry(rows, base + 4);
-    let name = name_at(names, place as usize);
-    let a = put_byte(15, out, at);
-    let b = put_name(name, out, a);
-    put_names(s, params, first, count, out, b)
-}
-
-// The call of lift i: its Invocation without a chain.
-fn put_call(
-    s: &[u8],
-    names: &[u8],
-    rows: &[u16],
-    params: &[u16],
-    i: u16,
-    out: &mut [u8],
-    at: usize,
-) -> usize
-    ensures { λ r. ⌜ Wrote (now (out .entry)) at (callBytes (rowAt (now (s .entry)) (now (names .entry)) (now (rows .entry)) (now (params .entry)) i)) (now (out .exit)) r ⌝ }
-{
-    let a = put_called(s, names, rows, params, i, out, at);
-    put_byte(0, out, a)
 }
 
 // The bytes from one place up to another, with the range of each lift that begins on the way replaced by its call.

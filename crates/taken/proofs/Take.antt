@@ -20,7 +20,8 @@ use Rattle.lookup.proofs.Names.{yes-no, length-name}
 use Rattle.writer.specs.Buf.{put, part, Wrote, nameBytes}
 use Rattle.writer.proofs.Wrote.{place-fits}
 use Rattle.writer.proofs.Put.{length-put, put-put, part-written, part-put-before, getD-put-before, getD-put-at}
-use Rattle.taken.specs.Taken.{Store, both, row, taken, hashOf, Table, Hints, Inside, Packed, Grown, Took, Listed}
+use Rattle.hash.specs.Hash.{hashOf}
+use Rattle.taken.specs.Taken.{Store, both, row, taken, Table, Hints, Inside, Packed, Grown, Took, Listed}
 
 -- a name in front makes no other name free
 elem-more : (x m : Name) (l : List Name) → elem x l ≡ true → elem x (m ∷ l) ≡ true

@@ -2,15 +2,16 @@
 -- Assumes nothing.
 use mathlib.Core.Path.{_≡_}
 use mathlib.Core.List.{List, [], _∷_}
-use mathlib.Core.Bool.{Bool, true, false}
-use Prim.Native.Nat.{ℕ, zero, suc, _+_, _*_, _%_, _≤_, _<_}
+use mathlib.Core.Bool.{true}
+use Prim.Native.Nat.{ℕ, zero, suc, _+_, _≤_, _<_}
 use lib.ListN.{length, getD, set}
 use Rattle.definition.specs.Tree.{Name}
-use Rattle.definition.specs.Names.{eqName, elem, numbered}
+use Rattle.definition.specs.Names.{elem, numbered}
 use Rattle.lookup.specs.declared.Place.{Place}
 use Rattle.lookup.specs.declared.Place.the-variants.{Source, Made}
 use Rattle.lookup.specs.Name.{nameAt, nameOf, placeOf}
 use Rattle.writer.specs.Buf.{put, nameBytes}
+use Rattle.hash.specs.Hash.{hashOf}
 
 -- "source names from the book, generated names from the work area"
 pub record Store : Type 0 where
@@ -27,14 +28,6 @@ row names places i = nameOf (placeOf (getD places i 0)) (names .book) (names .ma
 unfoldable pub taken : Store → List ℕ → ℕ → List Name
 taken names places zero = []
 taken names places (suc n) = row names places n ∷ taken names places n
-
--- a number of 16 bits for a name: where two differ, so do the names
-unfoldable pub hashFrom : ℕ → Name → ℕ
-hashFrom h [] = h
-hashFrom h (b ∷ s) = hashFrom ((h * 31 + b) % 65536) s
-
-abbrev pub hashOf : Name → ℕ
-hashOf n = hashFrom 0 n
 
 -- each row has its hash, and no name is longer than 255 bytes
 pub record Table (names : Store) (places hashes : List ℕ) (n : ℕ) : Type 0 where
@@ -57,16 +50,6 @@ Inside (Made at) made end = at + 1 + getD made at 0 ≤ end
 pub record Packed (made places : List ℕ) (n end : ℕ) : Type 0 where
   pub room : end ≤ length made
   pub inside : (i : ℕ) → i < n → Inside (placeOf (getD places i 0)) made end
-
--- where the answer is no, none of the first n rows has the hash
-pub record Hashed (hashes : List ℕ) (n hash : ℕ) (r : Bool) : Type 0 where
-  pub none : r ≡ false → (j : ℕ) → j < n → getD hashes j 0 ≡ hash → ⊥
-
--- the first row of a name, or n
-pub record Found (name : Name) (names : Store) (places : List ℕ) (n r : ℕ) : Type 0 where
-  pub bound : r ≤ n
-  pub before : (j : ℕ) → j < r → eqName name (row names places j) ≡ false
-  pub here : r < n → eqName name (row names places r) ≡ true
 
 -- a name more
 pub record Grown (name : Name) (names : Store) (places hashes hints : List ℕ) (n : ℕ) (names′ : Store) (places′ hashes′ hints′ : List ℕ) : Type 0 where

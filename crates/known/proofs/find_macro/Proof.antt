@@ -4,7 +4,7 @@ use borrow.Author.Needs.{needs}
 use mathlib.Core.Path.{_≡_}
 use Prim.Native.Nat.{_≤_}
 use native.Mathlib.Omega.{arith}
-use Rattle.taken.specs.Taken.{hashOf}
+use Rattle.hash.specs.Hash.{hashOf}
 use Rattle.known.specs.declared.Found.{Found}
 use Rattle.known.specs.Table.{FindsMacro}
 use Rattle.known.proofs.Rows.{found-none, found-here, found-on}
@@ -12,7 +12,7 @@ use Rattle.known.proofs.find_macro.Statement.{statement}
 use Rattle.known.proofs.find_macro.Tie as tie
 use Rattle.known.proofs.find_macro.Reads as reads
 use Rattle.known.proofs.find_macro.Lts as lts
-use Rattle.taken.proofs.name_hash.Reads as name-hash-reads
+use Rattle.hash.proofs.name_hash.Reads as name-hash-reads
 use Rattle.known.proofs.same_row.Reads as same-row-reads
 
 abbrev Inv-loop : tie.InvT-loop

@@ -7,7 +7,7 @@ use Rattle.known.proofs.take_macro.Tie as tie
 use Rattle.known.proofs.take_macro.Reads as reads
 use Rattle.known.proofs.take_macro.Lts as lts
 use Rattle.lookup.proofs.name_at.Reads as name-at-reads
-use Rattle.taken.proofs.name_hash.Reads as name-hash-reads
+use Rattle.hash.proofs.name_hash.Reads as name-hash-reads
 
 returns : tie.Need-returns
 returns c = taken-not (c .if1 .taken)

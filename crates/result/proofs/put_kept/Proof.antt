@@ -1,6 +1,6 @@
 -- `result::put_kept` meets its contract.
 -- Assumes nothing.
-use Rattle.splice.proofs.Steps.{wrote-as}
+use Rattle.invocation.proofs.Rest.{wrote-as}
 use Rattle.result.proofs.Steps.{kept-is}
 use borrow.Author.Needs.{needs}
 use Rattle.result.proofs.put_kept.Statement.{statement}

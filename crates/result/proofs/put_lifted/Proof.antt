@@ -1,7 +1,7 @@
 -- `result::put_lifted` meets its contract.
 -- Assumes nothing.
 use Rattle.writer.proofs.Wrote.{glue}
-use Rattle.splice.proofs.Steps.{wrote-as}
+use Rattle.invocation.proofs.Rest.{wrote-as}
 use Rattle.result.proofs.Steps.{lifted-is}
 use borrow.Author.Needs.{needs}
 use Rattle.result.proofs.put_lifted.Statement.{statement}

@@ -3,7 +3,7 @@
 use mathlib.Core.Path.{sym, ap}
 use Rattle.writer.specs.Buf.{nameBytes}
 use Rattle.writer.proofs.Wrote.{glue}
-use Rattle.splice.proofs.Steps.{wrote-as}
+use Rattle.invocation.proofs.Rest.{wrote-as}
 use borrow.Author.Needs.{needs}
 use Rattle.result.proofs.put_param.Statement.{statement}
 use Rattle.result.proofs.put_param.Tie as tie

@@ -8,7 +8,7 @@ use Rattle.writer.proofs.Wrote.{glue, same-length as wrote-long}
 use Rattle.tables.specs.Rows.{namesFrom, typesFrom}
 use Rattle.splice.specs.Model.{tables}
 use Rattle.result.specs.Model.{paramsBytes}
-use Rattle.splice.proofs.Steps.{place-within, Rest, rest-all, rest-on, rest-end}
+use Rattle.invocation.proofs.Rest.{place-within, Rest, rest-all, rest-on, rest-end}
 use Rattle.result.proofs.Steps.{params-more, params-done}
 use borrow.Author.Needs.{needs}
 use Rattle.result.proofs.put_params.Statement.{statement}

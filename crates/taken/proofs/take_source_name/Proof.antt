@@ -1,6 +1,6 @@
 -- `taken::take_source_name` meets its contract.
 -- Assumes nothing.
-use Rattle.taken.specs.Taken.{hashOf}
+use Rattle.hash.specs.Hash.{hashOf}
 use lib.ListN.{set}
 use Rattle.taken.proofs.Take.{listed}
 use mathlib.Core.Path.{ap, _∙_}

@@ -1,14 +1,14 @@
--- `taken::row_is` meets its contract.
+-- `found::row_is` meets its contract.
 -- Assumes nothing.
 use Rattle.taken.specs.Taken.{row}
 use Rattle.lookup.specs.Name.{nameOf}
 use Rattle.lookup.specs.declared.Place.{Place}
 use Rattle.definition.specs.Names.{eqName}
-use Rattle.taken.proofs.Rows.{hash-ne}
+use Rattle.hash.proofs.Hash.{hash-ne}
 use mathlib.Core.Path.{sym, ap, _∙_}
 use borrow.Author.Needs.{needs}
-use Rattle.taken.proofs.row_is.Statement.{statement}
-use Rattle.taken.proofs.row_is.Tie as tie
+use Rattle.found.proofs.row_is.Statement.{statement}
+use Rattle.found.proofs.row_is.Tie as tie
 
 returns : tie.Need-returns
 returns c = let p = c .before .before .before .before .before .before .before .pre in sym (hash-ne _ _ _ _ (p .0) (p .3) (c .if1 .taken))

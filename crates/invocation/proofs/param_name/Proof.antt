@@ -1,9 +1,9 @@
--- `splice::param_name` meets its contract.
+-- `invocation::param_name` meets its contract.
 -- Assumes nothing.
 use mathlib.Core.Path.{_∙_}
 use borrow.Author.Needs.{needs}
-use Rattle.splice.proofs.param_name.Statement.{statement}
-use Rattle.splice.proofs.param_name.Tie as tie
+use Rattle.invocation.proofs.param_name.Statement.{statement}
+use Rattle.invocation.proofs.param_name.Tie as tie
 
 mul-entry : tie.Need-mul-entry
 mul-entry c = search needs

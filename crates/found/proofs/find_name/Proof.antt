@@ -1,16 +1,17 @@
--- `taken::find_name` meets its contract.
+-- `found::find_name` meets its contract.
 -- Assumes nothing.
-use Rattle.taken.specs.Taken.{both, row, hashOf}
+use Rattle.hash.specs.Hash.{hashOf}
+use Rattle.taken.specs.Taken.{both, row}
 use Rattle.definition.specs.Names.{eqName}
 use Prim.Native.Nat.{ℕ, _≤_, _<_, _-_}
 use mathlib.Core.Bool.{false}
-use Rattle.taken.proofs.Rows.{none-yet, one-more, no-row}
+use Rattle.found.proofs.Rows.{none-yet, one-more, no-row}
 use mathlib.Core.Path.{_≡_, sym, _∙_}
 use native.Mathlib.Omega.{arith}
 use borrow.Author.Needs.{needs}
 use borrow.Author.Tests.{not-true}
-use Rattle.taken.proofs.find_name.Statement.{statement}
-use Rattle.taken.proofs.find_name.Tie as tie
+use Rattle.found.proofs.find_name.Statement.{statement}
+use Rattle.found.proofs.find_name.Tie as tie
 
 abbrev Inv-loop : tie.InvT-loop
 Inv-loop name book made places hashes n hash i₀ i = (i ≤ n) × (hash ≡ hashOf name) × ((j : ℕ) → j < i → eqName name (row (both book made) places j) ≡ false)

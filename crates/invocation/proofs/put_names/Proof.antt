@@ -1,4 +1,4 @@
--- `splice::put_names` meets its contract.
+-- `invocation::put_names` meets its contract.
 -- Assumes nothing.
 use mathlib.Core.Path.{_≡_, refl, _∙_}
 use Prim.Native.Nat.{suc, _+_, _≤_}
@@ -6,11 +6,12 @@ use native.Mathlib.Omega.{arith}
 use lib.ListN.{length}
 use Rattle.writer.proofs.Wrote.{glue, same-length as wrote-long}
 use Rattle.tables.specs.Rows.{namesFrom}
-use Rattle.splice.specs.Model.{namesBytes}
-use Rattle.splice.proofs.Steps.{place-within, Rest, rest-all, rest-on, rest-end, names-more, names-done}
+use Rattle.invocation.specs.Invocation.{namesBytes}
+use Rattle.invocation.proofs.Rest.{place-within, Rest, rest-all, rest-on, rest-end}
+use Rattle.invocation.proofs.Names.{names-more, names-done}
 use borrow.Author.Needs.{needs}
-use Rattle.splice.proofs.put_names.Statement.{statement}
-use Rattle.splice.proofs.put_names.Tie as tie
+use Rattle.invocation.proofs.put_names.Statement.{statement}
+use Rattle.invocation.proofs.put_names.Tie as tie
 
 abbrev Inv-loop : tie.InvT-loop
 Inv-loop s params first count out₀ at left₀ j₀ o₀ out left j o = (length out ≡ length out₀) × (j + left ≡ j₀ + left₀) × (o ≤ suc (length out)) × Rest out₀ o₀ (namesBytes (namesFrom s params j₀ left₀)) out o (namesBytes (namesFrom s params j left))

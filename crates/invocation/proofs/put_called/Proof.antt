@@ -1,10 +1,11 @@
--- `splice::put_called` meets its contract.
+-- `invocation::put_called` meets its contract.
 -- Assumes nothing.
 use Rattle.writer.proofs.Wrote.{glue}
-use Rattle.splice.proofs.Steps.{wrote-as, called-is}
+use Rattle.invocation.proofs.Rest.{wrote-as}
+use Rattle.invocation.proofs.Names.{called-is}
 use borrow.Author.Needs.{needs}
-use Rattle.splice.proofs.put_called.Statement.{statement}
-use Rattle.splice.proofs.put_called.Tie as tie
+use Rattle.invocation.proofs.put_called.Statement.{statement}
+use Rattle.invocation.proofs.put_called.Tie as tie
 
 mul-base : tie.Need-mul-base
 mul-base c = search needs

@@ -1,10 +1,10 @@
--- `splice::put_call` meets its contract.
+-- `invocation::put_call` meets its contract.
 -- Assumes nothing.
 use Rattle.writer.proofs.Wrote.{glue}
-use Rattle.splice.specs.Model.{callBytes}
+use Rattle.invocation.specs.Invocation.{callBytes}
 use borrow.Author.Needs.{needs}
-use Rattle.splice.proofs.put_call.Statement.{statement}
-use Rattle.splice.proofs.put_call.Tie as tie
+use Rattle.invocation.proofs.put_call.Statement.{statement}
+use Rattle.invocation.proofs.put_call.Tie as tie
 
 put-called-requires : tie.Need-put-called-requires
 put-called-requires c κs = search needs

@@ -1,4 +1,4 @@
--- `splice::bytes_at` meets its contract.
+-- `invocation::bytes_at` meets its contract.
 -- Assumes nothing.
 use mathlib.Core.Path.{sym, _∙_}
 use Prim.Native.Nat.{_-_}
@@ -6,10 +6,10 @@ use native.Mathlib.Omega.{arith}
 use lib.ListN.{length, drop, length-drop}
 use lib.Seq.{take-all}
 use native.Mathlib.Nat.{add-sub-cancel-left}
-use Rattle.splice.proofs.Steps.{bytes-none}
+use Rattle.invocation.proofs.Names.{bytes-none}
 use borrow.Author.Needs.{needs}
-use Rattle.splice.proofs.bytes_at.Statement.{statement}
-use Rattle.splice.proofs.bytes_at.Tie as tie
+use Rattle.invocation.proofs.bytes_at.Statement.{statement}
+use Rattle.invocation.proofs.bytes_at.Tie as tie
 
 slice-aggregate-result : tie.Need-slice-aggregate-result
 slice-aggregate-result c = search needs

@@ -1,14 +1,14 @@
--- `taken::name_hash` meets its contract.
+-- `hash::name_hash` meets its contract.
 -- Assumes nothing.
-use Rattle.taken.specs.Taken.{hashFrom, hashOf}
+use Rattle.hash.specs.Hash.{hashFrom, hashOf}
 use lib.ListN.{length, drop}
 use Prim.Native.Nat.{_≤_, _<_, _-_}
-use Rattle.taken.proofs.Rows.{hash-on, hash-end}
+use Rattle.hash.proofs.Hash.{hash-on, hash-end}
 use mathlib.Core.Path.{_≡_, refl}
 use native.Mathlib.Omega.{arith}
 use borrow.Author.Needs.{needs}
-use Rattle.taken.proofs.name_hash.Statement.{statement}
-use Rattle.taken.proofs.name_hash.Tie as tie
+use Rattle.hash.proofs.name_hash.Statement.{statement}
+use Rattle.hash.proofs.name_hash.Tie as tie
 
 abbrev Inv-loop : tie.InvT-loop
 Inv-loop name h₀ i₀ h i = (i ≤ length name) × (h < 65536) × (hashOf name ≡ hashFrom h (drop i name))

@@ -1,13 +1,13 @@
--- `taken::has_hash` meets its contract.
+-- `found::has_hash` meets its contract.
 -- Assumes nothing.
-use Rattle.taken.specs.Taken.{Hashed}
+use Rattle.found.specs.Found.{Hashed}
 use Prim.Native.Nat.{_≤_, _-_}
-use Rattle.taken.proofs.Rows.{unhashed-none, unhashed-more, hashed}
+use Rattle.found.proofs.Rows.{unhashed-none, unhashed-more, hashed}
 use mathlib.Core.Path.{_≡_}
 use native.Mathlib.Omega.{arith}
 use borrow.Author.Needs.{needs}
-use Rattle.taken.proofs.has_hash.Statement.{statement}
-use Rattle.taken.proofs.has_hash.Tie as tie
+use Rattle.found.proofs.has_hash.Statement.{statement}
+use Rattle.found.proofs.has_hash.Tie as tie
 
 abbrev Inv-loop : tie.InvT-loop
 Inv-loop hashes n hash seen₀ i₀ seen i = (i ≤ n) × Hashed hashes i hash seen

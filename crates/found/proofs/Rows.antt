@@ -4,33 +4,17 @@ use mathlib.Core.Path.{_≡_, refl, sym, ap, _∙_}
 use mathlib.Core.Logic.{⊎-elim}
 use mathlib.Core.List.{List}
 use mathlib.Core.Bool.{Bool, true, false}
-use Prim.Native.Nat.{ℕ, zero, suc, _+_, _*_, _%_, _≤_, _<_}
+use Prim.Native.Nat.{ℕ, zero, suc, _+_, _<_}
 use native.Mathlib.Omega.{arith}
 use native.Mathlib.Nat.{eq-or-lt-of-le, le-refl}
-use native.Mathlib.Numerals.{add-one}
-use lib.ListN.{length, getD, drop, drop-of-length-le}
-use lib.Seq.{drop-cons}
+use lib.ListN.{length, getD}
 use Rattle.definition.specs.Tree.{Name}
 use Rattle.definition.specs.Names.{eqName, elem}
-use Rattle.lookup.proofs.Names.{yes-no, clash, ne-length, ne-name, eqName-true}
-use Rattle.taken.specs.Taken.{Store, row, taken, hashFrom, hashOf, Table, Hashed, Found}
-
--- ---- hashes
-hash-more : (name : Name) (i h : ℕ) → i < length name → hashFrom h (drop i name) ≡ hashFrom ((h * 31 + getD name i 0) % 65536) (drop (i + 1) name)
-unfolding hashFrom
-hash-more name i h k = rw (add-one i, drop-cons name i 0 k)
-
-pub hash-on : (name : Name) (i h : ℕ) → i < length name → hashOf name ≡ hashFrom h (drop i name)
-    → hashOf name ≡ hashFrom ((h * 31 + getD name i 0) % 65536) (drop (i + 1) name)
-hash-on name i h k e = e ∙ hash-more name i h k
-
-pub hash-end : (name : Name) (i h : ℕ) → length name ≤ i → hashOf name ≡ hashFrom h (drop i name) → h ≡ hashOf name
-unfolding hashFrom
-hash-end name i h k e = sym (e ∙ rw (drop-of-length-le name {i = i} k))
-
--- names with different hashes are different
-pub hash-ne : (a b : Name) (x y : ℕ) → y ≡ hashOf a → x ≡ hashOf b → (x ≡ y → ⊥) → eqName a b ≡ false
-hash-ne a b x y p q f = ne-name a b (λ e. f (q ∙ ap hashOf (sym e) ∙ sym p))
+use Rattle.lookup.proofs.Names.{yes-no, clash, ne-length, eqName-true}
+use Rattle.hash.specs.Hash.{hashOf}
+use Rattle.hash.proofs.Hash.{hash-ne}
+use Rattle.taken.specs.Taken.{Store, row, taken, Table}
+use Rattle.found.specs.Found.{Hashed, Found}
 
 -- ---- rows
 module _ (x : Name) (names : Store) (places : List ℕ) where
