@@ -1,6 +1,6 @@
 // A table that has a number for each place, 0 where there is none: the next place that has one.
+use numbers::least;
 use tables::entry;
-use writer::least;
 ghost use mathlib.Core.Path.{_≡_};
 ghost use Rattle.ahead.specs.Next.{someIn, pastEmpty, nextLift};
 

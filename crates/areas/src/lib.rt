@@ -1,5 +1,5 @@
 // Two areas in one slice: its first 16,384 bytes, and what follows them. Places count from the start of the slice in both.
-use writer::least;
+use numbers::least;
 ghost use mathlib.Core.Path.{_≡_};
 ghost use mathlib.Core.Logic.{_⊎_};
 ghost use Prim.Native.Nat.{_+_, _≤_, min};

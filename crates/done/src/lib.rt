@@ -1,11 +1,11 @@
 // What is done on the way: a Const field that is passed, a child that is walked, a node that is at its end.
 use frames::Frame;
+use numbers::minus;
 use seek::byte;
 use seek::past;
 use tables::plus;
 use tables::put_binder;
 use tables::store;
-use writer::minus;
 ghost use mathlib.Core.Path.{_≡_};
 ghost use Prim.Native.Nat.{_≤_};
 ghost use Rattle.done.specs.Done.{passed, bindBy, boundAfter, delivered, closedOf, orderOf};

@@ -1,6 +1,6 @@
 // The book under construction: its buffer and its next free byte kept together, and an entry of its contents written with them. Each
 // function over a `Writer` takes it apart and calls a function of `writer` on the slice and the number.
-use writer::minus;
+use numbers::minus;
 ghost use mathlib.Core.Path.{_≡_};
 ghost use mathlib.Core.List.{[], _∷_};
 ghost use Prim.Native.Nat.{_-_};

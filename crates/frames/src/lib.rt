@@ -1,10 +1,10 @@
 // Frames: a node on the way, by places in the expanded book. Where its combinator ends, where its children begin, and its frame.
 use ends::end_of;
+use numbers::minus;
 use seek::byte;
 use seek::number;
 use seek::past;
 use seek::selector_past;
-use writer::minus;
 ghost use mathlib.Core.Path.{_≡_};
 ghost use Prim.Native.Nat.{_≤_};
 ghost use lib.ListN.{length};

@@ -1,10 +1,10 @@
 // A macro's instance at a call of it: document 01's "Macro rules", 4.
+use numbers::least;
 use seek::name_past;
 use seek::number;
 use seek::past;
 use substitution::Turn;
 use substitution::substitute_next;
-use writer::least;
 ghost use mathlib.Core.Path.{_≡_};
 ghost use mathlib.Core.Bool.{true};
 ghost use Rattle.instance.specs.Instance.{Instanced};

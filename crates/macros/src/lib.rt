@@ -4,7 +4,7 @@ mod book;
 use kept::count_kept;
 use kept::has_no_macros;
 use known::table;
-use writer::least;
+use numbers::least;
 use writer::put_bytes;
 use writer::put_u16;
 ghost use Rattle.macros.specs.Pass.{Passed};

@@ -1,10 +1,10 @@
 // Marks of calls: the walk over a combinator that leaves them, and its single steps.
+use numbers::least;
 use seek::length_past;
 use seek::list_past;
 use seek::name_past;
 use seek::stands_on;
 use seek::text_past;
-use writer::least;
 ghost use mathlib.Core.Path.{_≡_};
 ghost use mathlib.Core.List.{[], _∷_};
 ghost use lib.ListN.{take};

@@ -1,3 +1,2 @@
-pub mod Level
-pub mod Stands
+mod Stands
 pub mod Measured

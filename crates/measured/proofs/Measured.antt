@@ -16,7 +16,8 @@ use Rattle.seek.specs.At.{byteAt, pastAt, numberAt, namePast, textPast, namesPa
 use Rattle.seek.specs.Here.{Here}
 use Rattle.marks.specs.Steps.{textOrLength}
 use Rattle.ends.specs.Ends.{Right}
-use Rattle.measured.specs.Measure.{State, Step, kept, times, many, fieldBy, wrapBy, caseBy, choiceBy, behindBy, innerBy, tailBy, combinatorBy, argumentBy, combinatorAt, argumentAt, innerAt, paramAt, formatAt, entryAt, entryStep, measuredBook}
+use Rattle.inners.specs.Measure.{State, Step, kept, times, many, fieldBy, wrapBy, caseBy, choiceBy, behindBy, innerBy, tailBy, combinatorBy, argumentBy, combinatorAt, argumentAt, innerAt}
+use Rattle.measured.specs.Measure.{paramAt, formatAt, entryAt, entryStep, measuredBook}
 use Rattle.measured.proofs.Stands.{ends-behind}
 
 -- one end kept

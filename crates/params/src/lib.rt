@@ -2,9 +2,9 @@
 use collect::Collected;
 use collect::collect_params;
 use lookup::same_name;
+use numbers::least;
 use order::sort;
 use uses::name_of_use;
-use writer::least;
 ghost use mathlib.Core.Path.{_≡_};
 ghost use Prim.Native.Nat.{_≤_};
 ghost use lib.ListN.{length};

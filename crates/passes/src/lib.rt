@@ -1,8 +1,8 @@
 // Macros that call macros, on validated bytes: document 02 b. The pass of document 01 is run again on its result, with the same macros.
 use macros::Expanded;
 use macros::expand_macros;
+use numbers::least;
 use settled::settled;
-use writer::least;
 use writer::put_part;
 ghost use mathlib.Core.Path.{_≡_};
 ghost use lib.ListN.{length, take};

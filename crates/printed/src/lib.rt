@@ -1,12 +1,12 @@
 // The lines of a refusal and of a result, written into a buffer.
 use lookup::name_at;
+use numbers::minus;
 use seek::byte;
 use seek::name_past;
 use seek::number;
 use seek::past;
 use shown::put_count;
 use shown::put_shown;
-use writer::minus;
 use writer::put_byte;
 use writer::put_bytes;
 ghost use mathlib.Core.Path.{_≡_};

@@ -1,7 +1,8 @@
 // The book under construction, on a slice and the number of its next free byte. Every function writes as far as the slice reaches, and
 // answers the place after, or one past the slice's end where not all was written. So a caller tests the last answer alone.
+use numbers::least;
 ghost use mathlib.Core.Path.{_≡_};
-ghost use Prim.Native.Nat.{_+_, _-_, _%_, _/_, _≤_, min};
+ghost use Prim.Native.Nat.{_+_, _%_, _/_, _≤_};
 ghost use mathlib.Core.List.{[], _∷_};
 ghost use lib.ListN.{length, take};
 ghost use Rattle.definition.specs.Write.{wU16};
@@ -52,25 +53,6 @@ pub fn put_bytes(src: &[u8], dst: &mut [u8], at: usize) -> usize
     }
     copy_first(src, src.len(), dst, at);
     at + src.len()
-}
-
-pub fn least(x: usize, y: usize) -> usize
-    ensures { λ r. ⌜ r ≡ min x y ⌝ }
-{
-    if x < y {
-        return x;
-    }
-    y
-}
-
-// How much the first is over the second.
-pub fn minus(first: usize, second: usize) -> usize
-    ensures { λ r. ⌜ r ≡ first - second ⌝ }
-{
-    if first < second {
-        return 0;
-    }
-    first - second
 }
 
 // The bytes of src from place a up to place e, as far as src reaches.

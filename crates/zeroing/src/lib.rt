@@ -1,5 +1,5 @@
 // Bytes made zero.
-use writer::least;
+use numbers::least;
 ghost use mathlib.Core.Path.{_≡_};
 ghost use Prim.Native.Nat.{_-_};
 ghost use Rattle.writer.specs.Buf.{put};

@@ -6,7 +6,7 @@ use Rattle.instance.proofs.pairs.Statement.{statement}
 use Rattle.instance.proofs.pairs.Tie as tie
 use Rattle.instance.proofs.pairs.Reads as reads
 use Rattle.instance.proofs.pairs.Lts as lts
-use Rattle.writer.proofs.least.Reads as least-reads
+use Rattle.numbers.proofs.least.Reads as least-reads
 use Rattle.seek.proofs.name_past.Reads as name-past-reads
 use Rattle.seek.proofs.number.Reads as number-reads
 use Rattle.seek.proofs.past.Reads as past-reads

@@ -11,7 +11,7 @@ use Rattle.macros.proofs.expand_marked.Reads as reads
 use Rattle.macros.proofs.expand_marked.Lts as lts
 use Rattle.kept.proofs.count_kept.Reads as count-kept-reads
 use Rattle.macros.proofs.book.expand_all.Reads as expand-all-reads
-use Rattle.writer.proofs.least.Reads as least-reads
+use Rattle.numbers.proofs.least.Reads as least-reads
 use Rattle.known.proofs.table.Reads as table-reads
 use Rattle.writer.proofs.put_u16.Reads as put-u16-reads
 

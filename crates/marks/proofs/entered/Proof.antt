@@ -6,7 +6,7 @@ use Rattle.marks.proofs.entered.Statement.{statement}
 use Rattle.marks.proofs.entered.Tie as tie
 use Rattle.marks.proofs.entered.Reads as reads
 use Rattle.marks.proofs.entered.Lts as lts
-use Rattle.writer.proofs.least.Reads as least-reads
+use Rattle.numbers.proofs.least.Reads as least-reads
 
 least-requires : tie.Need-least-requires
 least-requires c κs = search needs

@@ -8,7 +8,7 @@ use Rattle.marks.proofs.first_marks.Statement.{statement}
 use Rattle.marks.proofs.first_marks.Tie as tie
 use Rattle.marks.proofs.first_marks.Reads as reads
 use Rattle.marks.proofs.first_marks.Lts as lts
-use Rattle.writer.proofs.least.Reads as least-reads
+use Rattle.numbers.proofs.least.Reads as least-reads
 
 least-requires : tie.Need-least-requires
 least-requires c κs = search needs

@@ -2,7 +2,8 @@
 -- Assumes nothing.
 use borrow.Author.Needs.{needs}
 use borrow.Author.Tests.{eq-eqb, ne-eqb}
-use Rattle.measured.specs.Measure.{combinatorAt, entryAt, formatAt}
+use Rattle.inners.specs.Measure.{combinatorAt}
+use Rattle.measured.specs.Measure.{entryAt, formatAt}
 use Rattle.measured.proofs.entry.Statement.{statement}
 use Rattle.measured.proofs.entry.Tie as tie
 

@@ -1,13 +1,21 @@
 -- `measured::measure_book` meets its contract.
 -- Assumes nothing.
-use mathlib.Core.Path.{_≡_, refl, _∙_}
+use mathlib.Core.List.{List}
+use mathlib.Core.Path.{_≡_, refl, sym, ap, _∙_}
+use Prim.Native.Nat.{ℕ}
 use native.Mathlib.Omega.{arith}
 use lib.ListN.{length}
 use borrow.Author.Needs.{needs}
-use Rattle.measured.specs.Measure.{times, entryStep}
-use Rattle.measured.proofs.Level.{more, done, all-entries}
+use Rattle.seek.specs.At.{pastAt, numberAt}
+use Rattle.inners.specs.Measure.{State, times, many}
+use Rattle.inners.proofs.Level.{more, done}
+use Rattle.measured.specs.Measure.{entryStep, measuredBook}
 use Rattle.measured.proofs.measure_book.Statement.{statement}
 use Rattle.measured.proofs.measure_book.Tie as tie
+
+all-entries : (s t : List ℕ) {left here at : ℕ} {u : List ℕ} → left ≡ numberAt s 0 → here ≡ pastAt s 0 2 → times (entryStep s) left here t ≡ (at, u) → u ≡ measuredBook s t
+unfolding measuredBook many
+all-entries s t a b e = ap (λ (g : State). g .1) (sym (rw (a, b) at e))
 
 abbrev Inv-loop : tie.InvT-loop
 Inv-loop s ends₀ left₀ here₀ ends left here = (length ends ≡ length ends₀) × (times (entryStep s) left₀ here₀ ends₀ ≡ times (entryStep s) left here ends)

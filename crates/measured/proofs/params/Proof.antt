@@ -4,8 +4,9 @@ use mathlib.Core.Path.{_≡_, refl, _∙_}
 use native.Mathlib.Omega.{arith}
 use lib.ListN.{length}
 use borrow.Author.Needs.{needs}
-use Rattle.measured.specs.Measure.{times, many, paramAt}
-use Rattle.measured.proofs.Level.{more, done}
+use Rattle.inners.specs.Measure.{times, many}
+use Rattle.inners.proofs.Level.{more, done}
+use Rattle.measured.specs.Measure.{paramAt}
 use Rattle.measured.proofs.params.Statement.{statement}
 use Rattle.measured.proofs.params.Tie as tie
 

@@ -8,7 +8,7 @@ use Rattle.passes.proofs.first_bytes.Statement.{statement}
 use Rattle.passes.proofs.first_bytes.Tie as tie
 use Rattle.passes.proofs.first_bytes.Reads as reads
 use Rattle.passes.proofs.first_bytes.Lts as lts
-use Rattle.writer.proofs.least.Reads as least-reads
+use Rattle.numbers.proofs.least.Reads as least-reads
 
 least-requires : tie.Need-least-requires
 least-requires c κs = search needs

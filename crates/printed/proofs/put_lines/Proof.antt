@@ -12,7 +12,7 @@ use Rattle.printed.proofs.put_lines.Statement.{statement}
 use Rattle.printed.proofs.put_lines.Tie as tie
 use Rattle.printed.proofs.put_lines.Reads as reads
 use Rattle.printed.proofs.put_lines.Lts as lts
-use Rattle.writer.proofs.minus.Reads as minus-reads
+use Rattle.numbers.proofs.minus.Reads as minus-reads
 use Rattle.printed.proofs.put_line.Reads as put-line-reads
 use Rattle.seek.proofs.byte.Reads as byte-reads
 use Rattle.seek.proofs.number.Reads as number-reads

@@ -6,7 +6,7 @@ use Rattle.printed.proofs.put_result.Statement.{statement}
 use Rattle.printed.proofs.put_result.Tie as tie
 use Rattle.printed.proofs.put_result.Reads as reads
 use Rattle.printed.proofs.put_result.Lts as lts
-use Rattle.writer.proofs.minus.Reads as minus-reads
+use Rattle.numbers.proofs.minus.Reads as minus-reads
 use Rattle.shown.proofs.put_count.Reads as put-count-reads
 use Rattle.printed.proofs.put_lines.Reads as put-lines-reads
 use Rattle.writer.proofs.put_bytes.Reads as put-bytes-reads

@@ -7,7 +7,7 @@ use Rattle.substitution.proofs.between.Statement.{statement}
 use Rattle.substitution.proofs.between.Tie as tie
 use Rattle.substitution.proofs.between.Reads as reads
 use Rattle.substitution.proofs.between.Lts as lts
-use Rattle.writer.proofs.least.Reads as least-reads
+use Rattle.numbers.proofs.least.Reads as least-reads
 
 least-requires : tie.Need-least-requires
 least-requires c κs = search needs

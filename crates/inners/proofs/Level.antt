@@ -1,13 +1,12 @@
 -- The walk, unrolled by one level or one step in the code's own terms.
 -- Assumes nothing.
 use mathlib.Core.List.{List}
-use mathlib.Core.Path.{_≡_, refl, sym, ap}
+use mathlib.Core.Path.{_≡_, refl}
 use Prim.Native.Nat.{ℕ, zero, suc, _-_, _≤_, _<_}
 use lib.Dec.{eqb, eqb·suc-zero}
 use native.Mathlib.Numerals.{sub-one}
 use native.Mathlib.Omega.{arith}
-use Rattle.seek.specs.At.{pastAt, numberAt}
-use Rattle.measured.specs.Measure.{State, Step, times, many, combinatorBy, argumentBy, combinatorAt, argumentAt, entryStep, measuredBook}
+use Rattle.inners.specs.Measure.{Step, times, combinatorBy, argumentBy, combinatorAt, argumentAt}
 
 pub combinator-level : (k : ℕ) (s : List ℕ) (at : ℕ) (t : List ℕ) → combinatorAt k s at t ≡ combinatorBy (eqb k 0) (combinatorAt (k - 1) s) (argumentAt (k - 1) s) s at t
 unfolding combinatorAt combinatorBy
@@ -29,7 +28,3 @@ module _ (step : Step) where
   unfolding times
   done zero at t h = refl
   done (suc n) at t h = absurd (omega arith)
-
-pub all-entries : (s t : List ℕ) {left here at : ℕ} {u : List ℕ} → left ≡ numberAt s 0 → here ≡ pastAt s 0 2 → times (entryStep s) left here t ≡ (at, u) → u ≡ measuredBook s t
-unfolding measuredBook many
-all-entries s t a b e = ap (λ (g : State). g .1) (sym (rw (a, b) at e))

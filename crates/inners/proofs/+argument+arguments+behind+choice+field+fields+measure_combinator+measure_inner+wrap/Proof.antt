@@ -6,40 +6,40 @@ use native.Mathlib.Omega.{arith}
 use Prim.Native.Nat.{_+_, _*_}
 use mathlib.Core.Path.{_≡_, refl, _∙_}
 use lib.ListN.{length}
-use Rattle.measured.specs.Measure.{times, many, fieldBy, wrapBy, caseBy, choiceBy, behindBy, innerBy, tailBy, combinatorBy, argumentBy, argumentAt, fieldAt, caseAt}
-use Rattle.measured.proofs.Level.{combinator-level, argument-level, more, done}
+use Rattle.inners.specs.Measure.{times, many, fieldBy, wrapBy, caseBy, choiceBy, behindBy, innerBy, tailBy, combinatorBy, argumentBy, argumentAt, fieldAt, caseAt}
+use Rattle.inners.proofs.Level.{combinator-level, argument-level, more, done}
 use Prim.Native.Nat.{ℕ, _<_}
 use borrow.Fn.Kinds.{In}
 use borrow.Fn.PlainCycle.{Measures, is, falls, and}
-use Rattle.measured.proofs.argument.Reads as argument
-use Rattle.measured.proofs.argument.Kinds as argument-kinds
-use Rattle.measured.proofs.+argument+arguments+behind+choice+field+fields+measure_combinator+measure_inner+wrap.Lts-argument as argument-lts
-use Rattle.measured.proofs.arguments.Reads as arguments
-use Rattle.measured.proofs.arguments.Kinds as arguments-kinds
-use Rattle.measured.proofs.+argument+arguments+behind+choice+field+fields+measure_combinator+measure_inner+wrap.Lts-arguments as arguments-lts
-use Rattle.measured.proofs.behind.Reads as behind
-use Rattle.measured.proofs.behind.Kinds as behind-kinds
-use Rattle.measured.proofs.+argument+arguments+behind+choice+field+fields+measure_combinator+measure_inner+wrap.Lts-behind as behind-lts
-use Rattle.measured.proofs.choice.Reads as choice
-use Rattle.measured.proofs.choice.Kinds as choice-kinds
-use Rattle.measured.proofs.+argument+arguments+behind+choice+field+fields+measure_combinator+measure_inner+wrap.Lts-choice as choice-lts
-use Rattle.measured.proofs.field.Reads as field
-use Rattle.measured.proofs.field.Kinds as field-kinds
-use Rattle.measured.proofs.+argument+arguments+behind+choice+field+fields+measure_combinator+measure_inner+wrap.Lts-field as field-lts
-use Rattle.measured.proofs.fields.Reads as fields
-use Rattle.measured.proofs.fields.Kinds as fields-kinds
-use Rattle.measured.proofs.+argument+arguments+behind+choice+field+fields+measure_combinator+measure_inner+wrap.Lts-fields as fields-lts
-use Rattle.measured.proofs.measure_combinator.Reads as measure-combinator
-use Rattle.measured.proofs.measure_combinator.Kinds as measure-combinator-kinds
-use Rattle.measured.proofs.+argument+arguments+behind+choice+field+fields+measure_combinator+measure_inner+wrap.Lts-measure_combinator as measure-combinator-lts
-use Rattle.measured.proofs.measure_inner.Reads as measure-inner
-use Rattle.measured.proofs.measure_inner.Kinds as measure-inner-kinds
-use Rattle.measured.proofs.+argument+arguments+behind+choice+field+fields+measure_combinator+measure_inner+wrap.Lts-measure_inner as measure-inner-lts
-use Rattle.measured.proofs.wrap.Reads as wrap
-use Rattle.measured.proofs.wrap.Kinds as wrap-kinds
-use Rattle.measured.proofs.+argument+arguments+behind+choice+field+fields+measure_combinator+measure_inner+wrap.Lts-wrap as wrap-lts
+use Rattle.inners.proofs.argument.Reads as argument
+use Rattle.inners.proofs.argument.Kinds as argument-kinds
+use Rattle.inners.proofs.+argument+arguments+behind+choice+field+fields+measure_combinator+measure_inner+wrap.Lts-argument as argument-lts
+use Rattle.inners.proofs.arguments.Reads as arguments
+use Rattle.inners.proofs.arguments.Kinds as arguments-kinds
+use Rattle.inners.proofs.+argument+arguments+behind+choice+field+fields+measure_combinator+measure_inner+wrap.Lts-arguments as arguments-lts
+use Rattle.inners.proofs.behind.Reads as behind
+use Rattle.inners.proofs.behind.Kinds as behind-kinds
+use Rattle.inners.proofs.+argument+arguments+behind+choice+field+fields+measure_combinator+measure_inner+wrap.Lts-behind as behind-lts
+use Rattle.inners.proofs.choice.Reads as choice
+use Rattle.inners.proofs.choice.Kinds as choice-kinds
+use Rattle.inners.proofs.+argument+arguments+behind+choice+field+fields+measure_combinator+measure_inner+wrap.Lts-choice as choice-lts
+use Rattle.inners.proofs.field.Reads as field
+use Rattle.inners.proofs.field.Kinds as field-kinds
+use Rattle.inners.proofs.+argument+arguments+behind+choice+field+fields+measure_combinator+measure_inner+wrap.Lts-field as field-lts
+use Rattle.inners.proofs.fields.Reads as fields
+use Rattle.inners.proofs.fields.Kinds as fields-kinds
+use Rattle.inners.proofs.+argument+arguments+behind+choice+field+fields+measure_combinator+measure_inner+wrap.Lts-fields as fields-lts
+use Rattle.inners.proofs.measure_combinator.Reads as measure-combinator
+use Rattle.inners.proofs.measure_combinator.Kinds as measure-combinator-kinds
+use Rattle.inners.proofs.+argument+arguments+behind+choice+field+fields+measure_combinator+measure_inner+wrap.Lts-measure_combinator as measure-combinator-lts
+use Rattle.inners.proofs.measure_inner.Reads as measure-inner
+use Rattle.inners.proofs.measure_inner.Kinds as measure-inner-kinds
+use Rattle.inners.proofs.+argument+arguments+behind+choice+field+fields+measure_combinator+measure_inner+wrap.Lts-measure_inner as measure-inner-lts
+use Rattle.inners.proofs.wrap.Reads as wrap
+use Rattle.inners.proofs.wrap.Kinds as wrap-kinds
+use Rattle.inners.proofs.+argument+arguments+behind+choice+field+fields+measure_combinator+measure_inner+wrap.Lts-wrap as wrap-lts
 use Rattle.marks.proofs.text_or_length.Reads as text-or-length-reads
-use Rattle.measured.proofs.keep.Reads as keep-reads
+use Rattle.inners.proofs.keep.Reads as keep-reads
 use Rattle.seek.proofs.byte.Reads as byte-reads
 use Rattle.seek.proofs.label_past.Reads as label-past-reads
 use Rattle.seek.proofs.length_past.Reads as length-past-reads
@@ -49,10 +49,10 @@ use Rattle.seek.proofs.number.Reads as number-reads
 use Rattle.seek.proofs.past.Reads as past-reads
 use Rattle.seek.proofs.selector_past.Reads as selector-past-reads
 use Rattle.seek.proofs.text_past.Reads as text-past-reads
-use Rattle.measured.proofs.+argument+arguments+behind+choice+field+fields+measure_combinator+measure_inner+wrap.{
+use Rattle.inners.proofs.+argument+arguments+behind+choice+field+fields+measure_combinator+measure_inner+wrap.{
   statement,
 }
-use Rattle.measured.proofs.+argument+arguments+behind+choice+field+fields+measure_combinator+measure_inner+wrap.Tie.{
+use Rattle.inners.proofs.+argument+arguments+behind+choice+field+fields+measure_combinator+measure_inner+wrap.Tie.{
   close,
 }
 

@@ -1,10 +1,10 @@
--- `measured::keep` meets its contract.
+-- `inners::keep` meets its contract.
 -- Assumes nothing.
 use borrow.Author.Needs.{needs}
 use borrow.Author.Tests.{le-leb, lt-leb}
-use Rattle.measured.specs.Measure.{kept}
-use Rattle.measured.proofs.keep.Statement.{statement}
-use Rattle.measured.proofs.keep.Tie as tie
+use Rattle.inners.specs.Measure.{kept}
+use Rattle.inners.proofs.keep.Statement.{statement}
+use Rattle.inners.proofs.keep.Tie as tie
 
 returns : tie.Need-returns
 unfolding kept
