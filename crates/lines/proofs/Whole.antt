@@ -28,7 +28,8 @@ use Rattle.writer.proofs.Wrote.{place-fits}
 use Rattle.closing.specs.declared.Elaborated.{Elaborated}
 use Rattle.closing.specs.declared.Elaborated.the-variants.{Done, Refused}
 use Rattle.closing.specs.Elaborates.{reported, Reports}
-use Rattle.printed.specs.Lines.{Lists, refusal}
+use Rattle.refusal.specs.Refusal.{refusal}
+use Rattle.printed.specs.Lines.{Lists}
 use Rattle.printed.proofs.Room.{code-some, listed-room}
 use Rattle.lines.specs.Lines.{Filled, Prints, Tells, elaboratedNested, TellsNested}
 

@@ -2,8 +2,8 @@
 use closing::Elaborated;
 use elaboration::elaborate;
 use nesting::elaborate_nested;
-use printed::put_refusal;
 use printed::put_result;
+use refusal::put_refusal;
 ghost use mathlib.Core.Path.{_≡_};
 ghost use lib.ListN.{take};
 ghost use Rattle.lines.specs.Lines.{Prints, Tells, TellsNested, TellsIn};

@@ -7,8 +7,8 @@ use Rattle.lines.proofs.put_answer.Tie as tie
 use Rattle.lines.proofs.put_answer.Reads as reads
 use Rattle.lines.proofs.put_answer.Lts as lts
 use Rattle.lines.proofs.first.Reads as first-reads
-use Rattle.printed.proofs.put_refusal.Reads as put-refusal-reads
 use Rattle.printed.proofs.put_result.Reads as put-result-reads
+use Rattle.refusal.proofs.put_refusal.Reads as put-refusal-reads
 
 enum-known-answer : tie.Need-enum-known-answer
 enum-known-answer c = search needs
