@@ -7,7 +7,7 @@ use Rattle.definition.specs.Out.{done}
 use Rattle.definition.specs.Tree.{Definition}
 use Rattle.definition.specs.Write.{wDefinition, kindOf, kindByte, wBook}
 use Rattle.definition.specs.Answer.{Result, all}
-use Rattle.definition.specs.Listing.{count, wFormat, wLifted, line, lines, listed}
+use Rattle.definition.specs.Listing.{wFormat, wLifted, line, lines, listed}
 use Rattle.laws.specs.Book.{IsBook}
 use Rattle.writer.specs.Buf.{Wrote}
 use Rattle.seek.specs.Here.{Here}
@@ -33,7 +33,3 @@ pub record AllLines (s : List ℕ) (kept : ℕ) (d : List ℕ) (o : ℕ) (d′ :
 -- "`ok D L` (definitions, lifted) and a line per definition"
 pub record Lists (s : List ℕ) (definitions lifted : ℕ) (d d′ : List ℕ) (n : ℕ) : Type 0 where
   pub says : (r : Result) → s ≡ wBook (all r) → IsBook (all r) → definitions ≡ length (all r) → lifted ≡ length (r .lifted) → Wrote d 0 (listed (done r)) d′ n
-
--- "`refused N`"
-unfoldable pub refusal : ℕ → List ℕ
-refusal n = (114 ∷ 101 ∷ 102 ∷ 117 ∷ 115 ∷ 101 ∷ 100 ∷ []) ++ (count n ++ (10 ∷ []))

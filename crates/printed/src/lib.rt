@@ -1,4 +1,4 @@
-// The lines of a refusal and of a result, written into a buffer.
+// The lines of a result, written into a buffer.
 use lookup::name_at;
 use numbers::minus;
 use seek::byte;
@@ -11,7 +11,7 @@ use writer::put_byte;
 use writer::put_bytes;
 ghost use mathlib.Core.Path.{_≡_};
 ghost use Rattle.writer.specs.Buf.{Wrote};
-ghost use Rattle.printed.specs.Lines.{wordOf, Line, AllLines, Lists, refusal};
+ghost use Rattle.printed.specs.Lines.{wordOf, Line, AllLines, Lists};
 
 // `format` for a definition that was there, `lifted` for one that was not.
 fn put_word(kept: usize, out: &mut [u8], at: usize) -> usize
@@ -68,14 +68,6 @@ fn put_lines(s: &[u8], kept: usize, out: &mut [u8], at: usize) -> usize
         left -= 1;
     }
     o
-}
-
-pub fn put_refusal(code: u8, out: &mut [u8]) -> usize
-    ensures { λ r. ⌜ Wrote (now (out .entry)) 0 (refusal code) (now (out .exit)) r ⌝ }
-{
-    let a = put_bytes(b"refused", out, 0);
-    let b = put_count(code as usize, out, a);
-    put_byte(10, out, b)
 }
 
 pub fn put_result(s: &[u8], definitions: u16, lifted: u16, out: &mut [u8]) -> usize

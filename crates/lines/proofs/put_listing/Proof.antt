@@ -10,7 +10,7 @@ use Rattle.lines.proofs.put_listing.Tie as tie
 use Rattle.lines.proofs.put_listing.Reads as reads
 use Rattle.lines.proofs.put_listing.Lts as lts
 use Rattle.elaboration.proofs.elaborate.Reads as elaborate-reads
-use Rattle.lines.proofs.put_answer.Reads as put-answer-reads
+use Rattle.answers.proofs.put_answer.Reads as put-answer-reads
 
 slice-aggregate-elaborate : tie.Need-slice-aggregate-elaborate
 slice-aggregate-elaborate c = search needs

@@ -1,14 +1,14 @@
--- `lines::first` meets its contract.
+-- `answers::first` meets its contract.
 -- Assumes nothing.
 use borrow.Author.Needs.{needs}
 use native.Mathlib.Omega.{arith}
 use mathlib.Core.Path.{sym}
 use lib.ListN.{length-take}
 use lib.Seq.{take-all}
-use Rattle.lines.proofs.first.Statement.{statement}
-use Rattle.lines.proofs.first.Tie as tie
-use Rattle.lines.proofs.first.Reads as reads
-use Rattle.lines.proofs.first.Lts as lts
+use Rattle.answers.proofs.first.Statement.{statement}
+use Rattle.answers.proofs.first.Tie as tie
+use Rattle.answers.proofs.first.Reads as reads
+use Rattle.answers.proofs.first.Lts as lts
 
 returns : tie.Need-returns
 returns c = sym (take-all (c .before .args .n) (c .before .args .s .now) (omega arith))

@@ -1,14 +1,14 @@
--- `lines::put_answer` meets its contract.
+-- `answers::put_answer` meets its contract.
 -- Assumes nothing.
 use borrow.Author.Needs.{needs}
-use Rattle.lines.proofs.Whole.{refused-prints, done-prints}
-use Rattle.lines.proofs.put_answer.Statement.{statement}
-use Rattle.lines.proofs.put_answer.Tie as tie
-use Rattle.lines.proofs.put_answer.Reads as reads
-use Rattle.lines.proofs.put_answer.Lts as lts
-use Rattle.lines.proofs.first.Reads as first-reads
-use Rattle.printed.proofs.put_refusal.Reads as put-refusal-reads
+use Rattle.answers.proofs.Prints.{refused-prints, done-prints}
+use Rattle.answers.proofs.put_answer.Statement.{statement}
+use Rattle.answers.proofs.put_answer.Tie as tie
+use Rattle.answers.proofs.put_answer.Reads as reads
+use Rattle.answers.proofs.put_answer.Lts as lts
+use Rattle.answers.proofs.first.Reads as first-reads
 use Rattle.printed.proofs.put_result.Reads as put-result-reads
+use Rattle.refusal.proofs.put_refusal.Reads as put-refusal-reads
 
 enum-known-answer : tie.Need-enum-known-answer
 enum-known-answer c = search needs
