@@ -17,9 +17,9 @@ use Rattle.cursor.proofs.Lists.{part-at}
 use Rattle.reader.specs.Verdict.{verdict, ofKind, bodyVerdict}
 use Rattle.reader.specs.declared.Verdict.{Verdict}
 use Rattle.reader.specs.declared.Verdict.the-variants.{Sound, Refused as Unsound}
-use Rattle.book.specs.Table.{total, Holds}
-use Rattle.book.proofs.Entries.{Opened, opened, sizeAt}
-use Rattle.book.proofs.Rows.{First, first-of, none-of, cut-fits, no-value}
+use Rattle.index.specs.Table.{total, Holds}
+use Rattle.index.proofs.Entries.{Opened, opened, sizeAt}
+use Rattle.index.proofs.Rows.{First, first-of, none-of, cut-fits, no-value}
 
 -- the bodies of entries, of which the first starts at `at`
 unfoldable pub bodiesAt : List ℕ → ℕ → List Entry → Res (List ℕ) (List Definition)

@@ -1,5 +1,2 @@
-pub mod Entries
-pub mod Rows
 pub mod Going
 pub mod Whole
-pub mod Only

@@ -17,7 +17,7 @@ use Rattle.definition.specs.Answer.{expanded, elaborated, Result, all, outcome,
 use Rattle.laws.proofs.Steps.{grouped-out}
 use Rattle.closing.specs.declared.Elaborated.{Elaborated}
 use Rattle.closing.specs.declared.Elaborated.the-variants.{Refused}
-use Rattle.opening.specs.Opens.{opened, Refuses, Expands}
+use Rattle.beginning.specs.Begins.{opened, Refuses, Expands}
 use Rattle.closing.specs.Elaborates.{reported, Reports, lifted, Expanded, Lifts}
 use Rattle.closing.proofs.Reporting.{reports-refused, reports-lifted}
 

@@ -1,15 +1,15 @@
 // The whole elaboration: what it answers, what it writes and what it leaves in the work area, for every input.
+use beginning::Begun;
+use beginning::begin;
 use closing::Elaborated;
-use opening::Begun;
 use opening::Opened;
-use opening::begin;
 use opening::expand_book;
 use room::lift_book;
 use zeroing::zero_range;
 ghost use mathlib.Core.Path.{_≡_};
 ghost use lib.ListN.{length};
 ghost use Rattle.definition.specs.Answer.{attempt, answer, output, zeroed};
-ghost use Rattle.opening.specs.Opens.{Sound};
+ghost use Rattle.beginning.specs.Begins.{Sound};
 ghost use Rattle.closing.specs.Elaborates.{reported, Reports};
 
 // The elaboration of a book with macros, which is expanded into an array of its own, with the work area left as it is then.

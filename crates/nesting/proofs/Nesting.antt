@@ -17,7 +17,8 @@ use Rattle.definition.specs.Answer.{Result, all, outcome, source}
 use Rattle.laws.specs.Book.{Bytes}
 use Rattle.nested.specs.Nested.{again, expandedNested, attemptNested, answerNested, outputNested}
 use Rattle.opening.specs.declared.Opened.the-variants.{Book, Refused as Stopped}
-use Rattle.opening.specs.Opens.{opened, Opens}
+use Rattle.beginning.specs.Begins.{opened}
+use Rattle.opening.specs.Opens.{Opens}
 use Rattle.passes.specs.declared.Passes.{Passes}
 use Rattle.passes.specs.declared.Passes.the-variants.{Book as Last, Grown, Left}
 use Rattle.passes.specs.Repeats.{AgainBy, Again}

@@ -19,7 +19,7 @@ use Rattle.laws.specs.Book.{Bytes, IsBook}
 use Rattle.laws.proofs.Steps.{no-done, did-out}
 use Rattle.laws.proofs.Results.{read-is-written}
 use Rattle.nested.specs.Nested.{again, nestedList, expandedNested}
-use Rattle.opening.specs.Opens.{opened}
+use Rattle.beginning.specs.Begins.{opened}
 use Rattle.nesting.specs.OpensNested.{openedNested}
 
 expand-says : (ds : List Definition) → expandBook ds ≡ expandList ds

@@ -1,45 +1,16 @@
 // The steps that all entry points share: codes 1 to 6, and the expanded book.
-use book::read;
-use kept::has_no_macros;
+use beginning::Begun;
+use beginning::begin;
 use macros::Expanded;
 use macros::expand_macros;
-use reader::Verdict;
 ghost use lib.ListN.{length};
-ghost use Rattle.opening.specs.Opens.{Sound, Begins, Opens};
-
-// A book that passes codes 1 to 5, without macros or with some; or a code.
-pub enum Begun {
-    Plain,
-    Macros,
-    Refused { code: u8 },
-}
+ghost use Rattle.beginning.specs.Begins.{Sound};
+ghost use Rattle.opening.specs.Opens.{Opens};
 
 // The expanded book, which fills the output's first bytes, or a code.
 pub enum Opened {
     Book { len: usize },
     Refused { code: u8 },
-}
-
-// Codes 1 to 5, with a work area of so many bytes.
-pub fn begin(book: &[u8], work: usize) -> Begun
-    ensures { λ r. ⌜ Begins (now (book .entry)) work r ⌝ }
-{
-    if work < 65536 {
-        return Begun::Refused { code: 1 };
-    }
-    if 16384 < book.len() {
-        return Begun::Refused { code: 2 };
-    }
-    let verdict = read(book);
-    match verdict {
-        Verdict::Refused(f) => Begun::Refused { code: f.code },
-        Verdict::Sound => {
-            if has_no_macros(book) {
-                return Begun::Plain;
-            }
-            Begun::Macros
-        }
-    }
 }
 
 // Code 6. The output has 16,384 bytes; the work area's first 32,768 are the two areas of an expansion.

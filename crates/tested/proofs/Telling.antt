@@ -15,7 +15,8 @@ use Rattle.premise.specs.Holds.{Holds as Passes}
 use Rattle.opening.specs.declared.Opened.the-variants.{Book, Refused as Stopped}
 use Rattle.tested.specs.declared.Tested.{Tested}
 use Rattle.tested.specs.declared.Tested.the-variants.{Holds, Fails, Refused}
-use Rattle.opening.specs.Opens.{opened, Opens}
+use Rattle.beginning.specs.Begins.{opened}
+use Rattle.opening.specs.Opens.{Opens}
 use Rattle.tested.specs.Tells.{told}
 
 premise-says : (b : List ℕ) (n : ℕ) → premise b n ≡ toldOf (tested b n)

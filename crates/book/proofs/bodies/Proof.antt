@@ -1,7 +1,7 @@
 use borrow.Author.Needs.{needs}
 use native.Mathlib.Omega.{arith}
 use mathlib.Core.Path.{sym, _∙_}
-use Rattle.book.proofs.Rows.{small}
+use Rattle.index.proofs.Rows.{small}
 use Rattle.book.proofs.Going.{Going, start-going, room, in-book, go-bad, go-on, go-end}
 use Rattle.book.proofs.bodies.Statement.{statement}
 use Rattle.book.proofs.bodies.Tie as tie

@@ -5,7 +5,7 @@ use Rattle.book.proofs.book.Tie as tie
 use Rattle.book.proofs.book.Reads as reads
 use Rattle.book.proofs.book.Lts as lts
 use Rattle.book.proofs.bodies.Reads as bodies-reads
-use Rattle.book.proofs.contents.Reads as contents-reads
+use Rattle.index.proofs.contents.Reads as contents-reads
 
 contents-requires : tie.Need-contents-requires
 contents-requires c κs = search needs

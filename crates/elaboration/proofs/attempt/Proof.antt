@@ -8,7 +8,7 @@ use Rattle.elaboration.proofs.attempt.Reads as reads
 use Rattle.elaboration.proofs.attempt.Lts as lts
 use Rattle.room.proofs.lift_book.Reads as lift-book-reads
 use Rattle.elaboration.proofs.attempt_expanded.Reads as attempt-expanded-reads
-use Rattle.opening.proofs.begin.Reads as begin-reads
+use Rattle.beginning.proofs.begin.Reads as begin-reads
 
 begin-requires : tie.Need-begin-requires
 begin-requires c κs = search needs

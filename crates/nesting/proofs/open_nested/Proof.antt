@@ -4,7 +4,7 @@ use Prim.Native.Nat.{ℕ}
 use native.Mathlib.Omega.{arith}
 use lib.ListN.{length-take, length-replicate}
 use lib.Seq.{length-take-le}
-use Rattle.opening.proofs.Opening.{all-bytes}
+use Rattle.beginning.proofs.Beginning.{all-bytes}
 use Rattle.nesting.proofs.Nesting.{areas-long, opens-code, opens-6, opens-12, opens-last}
 use borrow.Author.Needs.{needs}
 use Rattle.nesting.proofs.open_nested.Statement.{statement}

@@ -5,7 +5,8 @@ use mathlib.Core.Path.{refl}
 use native.Mathlib.Omega.{arith}
 use lib.Seq.{length-take-le}
 use lib.ListN.{length-take}
-use Rattle.opening.proofs.Opening.{all-bytes, opens-6, opens-book}
+use Rattle.beginning.proofs.Beginning.{all-bytes}
+use Rattle.opening.proofs.Opening.{opens-6, opens-book}
 use Rattle.opening.proofs.expand_book.Statement.{statement}
 use Rattle.opening.proofs.expand_book.Tie as tie
 use Rattle.opening.proofs.expand_book.Reads as reads

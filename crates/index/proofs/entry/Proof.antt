@@ -1,12 +1,12 @@
 use native.Mathlib.Omega.{arith}
-use Rattle.book.proofs.Entries.{f-short, f-low, f-high, f-second, f-third, f-end, f-ok}
+use Rattle.index.proofs.Entries.{f-short, f-low, f-high, f-second, f-third, f-end, f-ok}
 use borrow.Author.Needs.{needs}
-use Rattle.book.proofs.entry.Statement.{statement}
-use Rattle.book.proofs.entry.Tie as tie
-use Rattle.book.proofs.entry.Reads as reads
-use Rattle.book.proofs.entry.Lts as lts
-use Rattle.book.proofs.two.Reads as two-reads
-use Rattle.book.proofs.wide.Reads as wide-reads
+use Rattle.index.proofs.entry.Statement.{statement}
+use Rattle.index.proofs.entry.Tie as tie
+use Rattle.index.proofs.entry.Reads as reads
+use Rattle.index.proofs.entry.Lts as lts
+use Rattle.index.proofs.two.Reads as two-reads
+use Rattle.index.proofs.wide.Reads as wide-reads
 
 wide-requires : tie.Need-wide-requires
 wide-requires c κs = search needs

@@ -1,13 +1,13 @@
 use mathlib.Core.Path.{ap}
 use Rattle.cursor.specs.Ends.{ofNumber}
-use Rattle.book.proofs.Whole.{is-few, has-two, no-table, a-table, no-count}
+use Rattle.index.proofs.Whole.{is-few, has-two, no-table, a-table, no-count}
 use borrow.Author.Needs.{needs}
-use Rattle.book.proofs.contents.Statement.{statement}
-use Rattle.book.proofs.contents.Tie as tie
-use Rattle.book.proofs.contents.Reads as reads
-use Rattle.book.proofs.contents.Lts as lts
-use Rattle.book.proofs.count.Reads as count-reads
-use Rattle.book.proofs.row.Reads as row-reads
+use Rattle.index.proofs.contents.Statement.{statement}
+use Rattle.index.proofs.contents.Tie as tie
+use Rattle.index.proofs.contents.Reads as reads
+use Rattle.index.proofs.contents.Lts as lts
+use Rattle.index.proofs.count.Reads as count-reads
+use Rattle.index.proofs.row.Reads as row-reads
 
 count-requires : tie.Need-count-requires
 count-requires c κs = search needs

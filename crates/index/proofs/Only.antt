@@ -13,10 +13,10 @@ use Rattle.cursor.specs.declared.Fault.{Fault}
 use Rattle.cursor.specs.declared.NumberStep.{NumberStep}
 use Rattle.cursor.specs.declared.NumberStep.the-variants.{Number, NoNumber}
 use Rattle.cursor.proofs.Only.{one-fault, same-at}
-use Rattle.book.specs.Table.{Told, Found, Holds, table, Tabled}
-use Rattle.book.specs.declared.EntryStep.{EntryStep}
-use Rattle.book.specs.declared.EntryStep.the-variants.{Entry as Found-entry, NoEntry}
-use Rattle.book.proofs.Rows.{no-value}
+use Rattle.index.specs.Table.{Told, Found, Holds, table, Tabled}
+use Rattle.index.specs.declared.EntryStep.{EntryStep}
+use Rattle.index.specs.declared.EntryStep.the-variants.{Entry as Found-entry, NoEntry}
+use Rattle.index.proofs.Rows.{no-value}
 
 module _ (s : List ℕ) (p want width : ℕ) {m : Res (List ℕ) Entry} where
   not-both : {k e : ℕ} {c : Cursor} {f : Fault} → Told s p want width k e c m → Fails s p f m → ⊥

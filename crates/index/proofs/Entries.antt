@@ -21,9 +21,9 @@ use Rattle.cursor.specs.declared.Cursor.{Cursor}
 use Rattle.cursor.specs.declared.Fault.{Fault}
 use Rattle.cursor.proofs.Lists.{part-is, part-short}
 use Rattle.combinator.proofs.Table.{either}
-use Rattle.book.specs.Table.{Told, Found}
-use Rattle.book.specs.declared.EntryStep.{EntryStep}
-use Rattle.book.specs.declared.EntryStep.the-variants.{Entry as Found-entry, NoEntry}
+use Rattle.index.specs.Table.{Told, Found}
+use Rattle.index.specs.declared.EntryStep.{EntryStep}
+use Rattle.index.specs.declared.EntryStep.the-variants.{Entry as Found-entry, NoEntry}
 
 -- what stands behind the kind
 abbrev behind : ℕ → ℕ → ℕ → Kind → Reader Entry

@@ -14,8 +14,8 @@ use Rattle.cursor.specs.Ends.{Fails}
 use Rattle.cursor.specs.declared.Cursor.{Cursor}
 use Rattle.cursor.specs.declared.NumberStep.{NumberStep}
 use Rattle.cursor.specs.declared.NumberStep.the-variants.{Number, NoNumber}
-use Rattle.book.specs.declared.EntryStep.{EntryStep}
-use Rattle.book.specs.declared.EntryStep.the-variants.{Entry as Found-entry, NoEntry}
+use Rattle.index.specs.declared.EntryStep.{EntryStep}
+use Rattle.index.specs.declared.EntryStep.the-variants.{Entry as Found-entry, NoEntry}
 
 -- an entry that was read: its kind's byte, where its body ends, and where it ends itself
 pub record Told (s : List ℕ) (p want width : ℕ) (kind end : ℕ) (c : Cursor) (m : Res (List ℕ) Entry) : Type 0 where

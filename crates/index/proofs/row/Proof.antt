@@ -5,14 +5,14 @@ use mathlib.Core.Path.{refl}
 use lib.ListN.{length, drop}
 use Rattle.cursor.specs.Ends.{Ends}
 use Rattle.cursor.specs.declared.Walked.{Walked}
-use Rattle.book.specs.Table.{rowOf}
-use Rattle.book.proofs.Rows.{told-by, r-more, r-none, r-left, r-end, start-row, small}
-use Rattle.book.proofs.row.Statement.{statement}
-use Rattle.book.proofs.row.Tie as tie
-use Rattle.book.proofs.row.Reads as reads
-use Rattle.book.proofs.row.Lts as lts
-use Rattle.book.proofs.entry.Reads as entry-reads
-use Rattle.book.proofs.wide.Reads as wide-reads
+use Rattle.index.specs.Table.{rowOf}
+use Rattle.index.proofs.Rows.{told-by, r-more, r-none, r-left, r-end, start-row, small}
+use Rattle.index.proofs.row.Statement.{statement}
+use Rattle.index.proofs.row.Tie as tie
+use Rattle.index.proofs.row.Reads as reads
+use Rattle.index.proofs.row.Lts as lts
+use Rattle.index.proofs.entry.Reads as entry-reads
+use Rattle.index.proofs.wide.Reads as wide-reads
 
 abbrev Inv-loop : tie.InvT-loop
 Inv-loop s n more width left₀ here₀ want₀ left here want = (here .at ≤ length s) × (left ≤ 0 → want ≤ length s) × ((r : Walked) → Ends s (here .at) r (rowOf (6 + more) s left want (drop (here .at) s)) → Ends s 2 r (rowOf (6 + more) s n (2 + (6 + more) * n) (drop 2 s)))

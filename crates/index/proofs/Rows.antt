@@ -25,10 +25,10 @@ use Rattle.cursor.proofs.Lists.{along, part-at}
 use Rattle.cursor.proofs.Laws.{fails-as}
 use Rattle.rows.proofs.Bind.{rebase, made, stops, same-bad}
 use Rattle.combinator.proofs.Table.{either}
-use Rattle.book.specs.Table.{Told, Found, FoundBy, total, filled, rowOf, Holds, table}
-use Rattle.book.specs.declared.EntryStep.{EntryStep}
-use Rattle.book.specs.declared.EntryStep.the-variants.{Entry as Found-entry, NoEntry}
-use Rattle.book.proofs.Entries.{Opened, opened}
+use Rattle.index.specs.Table.{Told, Found, FoundBy, total, filled, rowOf, Holds, table}
+use Rattle.index.specs.declared.EntryStep.{EntryStep}
+use Rattle.index.specs.declared.EntryStep.the-variants.{Entry as Found-entry, NoEntry}
+use Rattle.index.proofs.Entries.{Opened, opened}
 
 -- two readings that gave a value, taken apart
 pub no-value : {A : Type 0} (k : Code) (r r′ : List ℕ) (a : A) → bad k r ≡ ok a r′ → ⊥

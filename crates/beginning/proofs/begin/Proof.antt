@@ -1,12 +1,12 @@
--- `opening::begin` meets its contract.
+-- `beginning::begin` meets its contract.
 -- Assumes nothing.
 use borrow.Author.Needs.{needs}
 use native.Mathlib.Omega.{arith}
-use Rattle.opening.proofs.Opening.{all-bytes, begins-1, begins-2, begins-bad, begins-sound, begins-plain}
-use Rattle.opening.proofs.begin.Statement.{statement}
-use Rattle.opening.proofs.begin.Tie as tie
-use Rattle.opening.proofs.begin.Reads as reads
-use Rattle.opening.proofs.begin.Lts as lts
+use Rattle.beginning.proofs.Beginning.{all-bytes, begins-1, begins-2, begins-bad, begins-sound, begins-plain}
+use Rattle.beginning.proofs.begin.Statement.{statement}
+use Rattle.beginning.proofs.begin.Tie as tie
+use Rattle.beginning.proofs.begin.Reads as reads
+use Rattle.beginning.proofs.begin.Lts as lts
 use Rattle.book.proofs.read.Reads as read-reads
 use Rattle.kept.proofs.has_no_macros.Reads as has-no-macros-reads
 

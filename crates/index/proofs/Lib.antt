@@ -1,0 +1,4 @@
+pub mod Entries
+pub mod Rows
+mod Whole
+pub mod Only
