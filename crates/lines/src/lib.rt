@@ -5,7 +5,7 @@ use nesting::elaborate_nested;
 ghost use Rattle.lines.specs.Lines.{Tells, TellsNested, TellsIn};
 
 // The listing of a book. A text of 65,536 bytes holds every listing.
-pub fn put_listing(book: &[u8], text: &mut [u8]) -> usize
+fn put_listing(book: &[u8], text: &mut [u8]) -> usize
     ensures { λ r. ⌜ Tells (now (book .entry)) (now (text .entry)) (now (text .exit)) r ⌝ }
 {
     let mut out = [0u8; 16384];
@@ -15,7 +15,7 @@ pub fn put_listing(book: &[u8], text: &mut [u8]) -> usize
 }
 
 // The listing of the nested mode.
-pub fn put_nested_listing(book: &[u8], text: &mut [u8]) -> usize
+fn put_nested_listing(book: &[u8], text: &mut [u8]) -> usize
     ensures { λ r. ⌜ TellsNested (now (book .entry)) (now (text .entry)) (now (text .exit)) r ⌝ }
 {
     let mut result = [0u8; 16384];
