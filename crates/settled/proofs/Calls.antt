@@ -1,46 +1,24 @@
 -- A test of every macro call at a walked position is one of every marked place.
 -- Assumes nothing.
-use mathlib.Core.Path.{_≡_, refl, sym, ap, _∙_}
+use mathlib.Core.Path.{_≡_, refl, sym, _∙_}
 use mathlib.Core.List.{List, [], _∷_}
 use mathlib.Core.Bool.{Bool, true, false, not, _&&_}
 use Prim.Native.Nat.{ℕ}
-use borrow.Author.Tests.{eq-eqb, ne-eqb}
 use Rattle.definition.specs.Tree.{Name, CaseKind, Combinator, plain, chained, Inner, leaf, struct, choice, shell, bytes, invocation, macro-invocation, Fields, no-field, field, const, Cases, no-case, case, Inners}
 use Rattle.definition.specs.Write.{wU16, wShut, wCombinator, wInner, wInners, countA}
 use Rattle.definition.specs.Macros.{Macro}
 use Rattle.nested.specs.Nested.{everyMacroCall, everyMacroCallI, everyMacroCallF, everyMacroCallC, isMacro}
-use Rattle.seek.specs.At.{byteAt, pastAt}
+use Rattle.seek.specs.At.{pastAt}
 use Rattle.seek.specs.Here.{Here}
 use Rattle.seek.proofs.Here.{byte-here, next-here}
-use Rattle.lookup.specs.Name.{nameAt}
 use Rattle.lookup.proofs.Names.{stands}
 use Rattle.pieces.specs.Pieces.{Piece, raw, pieces, piecesI, piecesF, piecesC, places, written, every}
 use Rattle.pieces.specs.Marked.{everyPlace}
 use Rattle.pieces.proofs.Marked.{every-place}
 use Rattle.pieces.proofs.Written.{written-is}
 use Rattle.pieces.proofs.Bools.{and-true, and-assoc}
-use Rattle.known.specs.declared.Found.the-variants.{At, Unknown}
-use Rattle.known.specs.Table.{FindsMacro}
-use Rattle.settled.specs.Calls.{unknownAt}
-use Rattle.settled.specs.Settles.{UnknownAt, calm}
-
--- the call at a place
-unknown-is : (book : List ℕ) (at : ℕ) {tag : ℕ} → tag ≡ byteAt book at → tag ≡ 16 → {a : ℕ} → a ≡ pastAt book at 1 → {name : Name} → name ≡ nameAt book a → (ms : List Macro)
-    → unknownAt ms book at ≡ not (isMacro ms name)
-unfolding unknownAt
-unknown-is book at et h ea en ms = rw (eq-eqb (byteAt book at) 16 (sym et ∙ h), en, ea)
-
-module _ {lib pl hs : List ℕ} {rows : ℕ} {book : List ℕ} {at tag : ℕ} (et : tag ≡ byteAt book at) where
-  pub other-unknown : (tag ≡ 16 → ⊥) → UnknownAt lib pl hs rows book at true
-  unfolding unknownAt
-  other-unknown h = record { says = λ ms r. rw (ne-eqb (byteAt book at) 16 (λ e. h (et ∙ e))) }
-
-  module _ (h : tag ≡ 16) {a : ℕ} (ea : a ≡ pastAt book at 1) {name : Name} (en : name ≡ nameAt book a) where
-    pub macro-known : {def : ℕ} → FindsMacro name lib pl hs rows (At def) → UnknownAt lib pl hs rows book at false
-    macro-known f = record { says = λ ms r. sym (unknown-is book at et h ea en ms ∙ ap not (sym (f .known ms r))) }
-
-    pub macro-unknown : FindsMacro name lib pl hs rows Unknown → UnknownAt lib pl hs rows book at true
-    macro-unknown f = record { says = λ ms r. sym (unknown-is book at et h ea en ms ∙ ap not (sym (f .known ms r))) }
+use Rattle.unknown.specs.Calls.{unknownAt}
+use Rattle.settled.specs.Settles.{calm}
 
 -- the trees
 module _ (test : Name → Bool) where

@@ -1,44 +1,23 @@
 -- The bodies of formats, with the macros in a table.
 -- Assumes nothing.
-use mathlib.Core.Path.{_≡_, refl, _∙_}
+use mathlib.Core.Path.{_≡_, _∙_}
 use mathlib.Core.List.{List, []}
 use mathlib.Core.Bool.{Bool, true, false}
-use Prim.Native.Nat.{ℕ, _+_, _-_, _*_, _≤_, _<_}
-use lib.ListN.{length, take, drop, getD}
+use Prim.Native.Nat.{ℕ, _-_, _*_, _≤_, _<_}
+use lib.ListN.{length, take}
 use Rattle.definition.specs.Macros.{Macro, macros}
 use Rattle.nested.specs.Nested.{settled}
 use Rattle.seek.specs.At.{byteAt, pastAt, numberAt, namePast}
 use Rattle.marks.specs.declared.Walk.{Walk}
 use Rattle.marks.specs.Steps.{walk}
 use Rattle.calls.specs.Walk.{combinatorAt}
-use Rattle.pieces.specs.Marked.{everyPlace}
 use Rattle.contents.specs.Params.{ParamsPast}
 use Rattle.bodies.specs.Tested.{BodiesLeft}
-use Rattle.bodies.proofs.Places.{every-next, every-stop, every-end}
 use Rattle.bodies.proofs.Tested.{format-tested, definition-format, definition-other, left-none, left-out, left-step, bodies-tested}
 use Rattle.known.specs.Table.{Rows, Tabled}
-use Rattle.settled.specs.Calls.{unknownAt}
-use Rattle.settled.specs.Settles.{calm, UnknownAt, AllUnknown, FormatSettles, DefinitionSettles, BodiesSettle, Settles}
+use Rattle.unknown.specs.Calls.{AllUnknown}
+use Rattle.settled.specs.Settles.{calm, FormatSettles, DefinitionSettles, BodiesSettle, Settles}
 use Rattle.settled.proofs.Calls.{calm-by}
-
--- the marked calls, from the i-th mark on
-pub record Marked (lib pl hs : List ℕ) (rows : ℕ) (book marks : List ℕ) (i : ℕ) : Type 0 where
-  pub says : (ms : List Macro) → Rows lib pl hs rows ms → everyPlace (unknownAt ms book) marks ≡ everyPlace (unknownAt ms book) (drop i marks)
-
-module _ {lib pl hs : List ℕ} {rows : ℕ} {book marks : List ℕ} where
-  pub marked-all : Marked lib pl hs rows book marks 0
-  marked-all = record { says = λ ms t. refl }
-
-  module _ {i : ℕ} (v : Marked lib pl hs rows book marks i) where
-    pub marked-end : length marks ≤ i + 1 → AllUnknown lib pl hs rows book marks true
-    marked-end h = record { says = λ ms t. every-end (unknownAt ms book) marks i (v .says ms t) h }
-
-    module _ (h : i + 1 < length marks) {b : Bool} (u : UnknownAt lib pl hs rows book (getD marks i 0) b) where
-      pub marked-stop : b ≡ false → AllUnknown lib pl hs rows book marks false
-      marked-stop q = record { says = λ ms t. every-stop (unknownAt ms book) marks i (v .says ms t) h (u .says ms t) q }
-
-      pub marked-next : b ≡ true → Marked lib pl hs rows book marks (i + 2)
-      marked-next q = record { says = λ ms t. every-next (unknownAt ms book) marks i (v .says ms t) h (u .says ms t) q }
 
 pub format-settles : {lib pl hs : List ℕ} {rows : ℕ} {book : List ℕ} {at params body : ℕ} → params ≡ namePast book at → ParamsPast book params body → (m₁ m₂ : List ℕ) (w : Walk)
     → w ≡ combinatorAt 64 book (walk body 0 64 true) m₁ .0 → m₂ ≡ combinatorAt 64 book (walk body 0 64 true) m₁ .1 → {row marks : List ℕ} → length m₁ ≡ length row → marks ≡ take (w .n) m₂ → {r : Bool}

@@ -9,22 +9,14 @@ use Rattle.definition.specs.Write.{wBook}
 use Rattle.definition.specs.Macros.{Macro, macros}
 use Rattle.nested.specs.Nested.{everyMacroCall, isMacro, settled}
 use Rattle.laws.specs.Book.{IsBook}
-use Rattle.pieces.specs.Marked.{everyPlace}
 use Rattle.bodies.specs.Tested.{FormatTested, DefinitionTested, BodiesTested}
 use Rattle.known.specs.Table.{Rows}
-use Rattle.settled.specs.Calls.{unknownAt}
 
 -- no known macro call stands in a body where the pass reaches
 unfoldable pub calm : List Macro → Combinator → Bool
 calm ms c = everyMacroCall c (λ n. not (isMacro ms n))
 
 -- a pass over the book with the macros of lib in a table: what it says holds where the rows are these macros'
-pub record UnknownAt (lib pl hs : List ℕ) (rows : ℕ) (book : List ℕ) (call : ℕ) (r : Bool) : Type 0 where
-  pub says : (ms : List Macro) → Rows lib pl hs rows ms → r ≡ unknownAt ms book call
-
-pub record AllUnknown (lib pl hs : List ℕ) (rows : ℕ) (book marks : List ℕ) (r : Bool) : Type 0 where
-  pub says : (ms : List Macro) → Rows lib pl hs rows ms → r ≡ everyPlace (unknownAt ms book) marks
-
 pub record FormatSettles (lib pl hs : List ℕ) (rows : ℕ) (book : List ℕ) (at : ℕ) (marks : List ℕ) (r : Bool) : Type 0 where
   pub says : (ms : List Macro) → Rows lib pl hs rows ms → FormatTested book at (calm ms) (length marks) r
 

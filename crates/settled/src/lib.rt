@@ -1,65 +1,14 @@
 // Whether a book needs another pass, on validated bytes: document 02 b, "until no known macro call stands where the pass reaches".
 use contents::params_past;
-use known::Found;
-use known::find_macro;
 use known::table;
-use lookup::name_at;
 use marks::first_marks;
 use seek::byte;
 use seek::name_past;
 use seek::number;
 use seek::past;
 use skip::walk_over;
-ghost use Rattle.settled.specs.Settles.{UnknownAt, AllUnknown, FormatSettles, DefinitionSettles, BodiesSettle, Settles};
-
-// Whether the call at a place is none of a known macro.
-fn is_unknown(
-    macros: &[u8],
-    places: &[u16],
-    hashes: &[u16],
-    rows: usize,
-    book: &[u8],
-    call: usize,
-) -> bool
-    ensures { λ r. ⌜ UnknownAt (now (macros .entry)) (now (places .entry)) (now (hashes .entry)) rows (now (book .entry)) call r ⌝ }
-{
-    let tag = byte(book, call);
-    let a = past(book, call, 1);
-    if tag == 16 {
-        let found = find_macro(name_at(book, a), macros, places, hashes, rows);
-        match found {
-            Found::At { at } => {
-                return false;
-            }
-            Found::Unknown => {
-                return true;
-            }
-        }
-    }
-    true
-}
-
-// The same of every call that is marked.
-fn all_unknown(
-    macros: &[u8],
-    places: &[u16],
-    hashes: &[u16],
-    rows: usize,
-    book: &[u8],
-    marks: &[u16],
-) -> bool
-    ensures { λ r. ⌜ AllUnknown (now (macros .entry)) (now (places .entry)) (now (hashes .entry)) rows (now (book .entry)) (now (marks .entry)) r ⌝ }
-{
-    let mut i = 0;
-    while i + 1 < marks.len() {
-        let call = marks[i] as usize;
-        i += 2;
-        if !is_unknown(macros, places, hashes, rows, book, call) {
-            return false;
-        }
-    }
-    true
-}
+use unknown::all_unknown;
+ghost use Rattle.settled.specs.Settles.{FormatSettles, DefinitionSettles, BodiesSettle, Settles};
 
 // The format at a place: its body, behind its name and its parameters.
 fn format_settled(

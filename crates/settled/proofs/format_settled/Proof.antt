@@ -9,7 +9,7 @@ use Rattle.settled.proofs.format_settled.Lts as lts
 use Rattle.marks.proofs.first_marks.Reads as first-marks-reads
 use Rattle.contents.proofs.params_past.Reads as params-past-reads
 use Rattle.seek.proofs.name_past.Reads as name-past-reads
-use Rattle.settled.proofs.all_unknown.Reads as all-unknown-reads
+use Rattle.unknown.proofs.all_unknown.Reads as all-unknown-reads
 use Rattle.skip.proofs.walk_over.Reads as walk-over-reads
 
 name-past-requires : tie.Need-name-past-requires

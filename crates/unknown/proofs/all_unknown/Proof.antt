@@ -1,16 +1,16 @@
--- `settled::all_unknown` meets its contract.
+-- `unknown::all_unknown` meets its contract.
 -- Assumes nothing.
-use Rattle.settled.proofs.Settling.{Marked, marked-all, marked-stop, marked-next, marked-end}
+use Rattle.unknown.proofs.Calls.{Marked, marked-all, marked-stop, marked-next, marked-end}
 use borrow.Author.Tests.{not-true, not-false}
 use lib.ListN.{length}
 use Prim.Native.Nat.{_-_, _≤_}
 use native.Mathlib.Omega.{arith}
 use borrow.Author.Needs.{needs}
-use Rattle.settled.proofs.all_unknown.Statement.{statement}
-use Rattle.settled.proofs.all_unknown.Tie as tie
-use Rattle.settled.proofs.all_unknown.Reads as reads
-use Rattle.settled.proofs.all_unknown.Lts as lts
-use Rattle.settled.proofs.is_unknown.Reads as is-unknown-reads
+use Rattle.unknown.proofs.all_unknown.Statement.{statement}
+use Rattle.unknown.proofs.all_unknown.Tie as tie
+use Rattle.unknown.proofs.all_unknown.Reads as reads
+use Rattle.unknown.proofs.all_unknown.Lts as lts
+use Rattle.unknown.proofs.is_unknown.Reads as is-unknown-reads
 
 abbrev Inv-loop : tie.InvT-loop
 Inv-loop macros places hashes rows book marks i₀ i = (i ≤ length marks) × Marked macros places hashes rows book marks i

@@ -1,11 +1,11 @@
--- `settled::is_unknown` meets its contract.
+-- `unknown::is_unknown` meets its contract.
 -- Assumes nothing.
-use Rattle.settled.proofs.Calls.{other-unknown, macro-known, macro-unknown}
+use Rattle.unknown.proofs.Calls.{other-unknown, macro-known, macro-unknown}
 use borrow.Author.Needs.{needs}
-use Rattle.settled.proofs.is_unknown.Statement.{statement}
-use Rattle.settled.proofs.is_unknown.Tie as tie
-use Rattle.settled.proofs.is_unknown.Reads as reads
-use Rattle.settled.proofs.is_unknown.Lts as lts
+use Rattle.unknown.proofs.is_unknown.Statement.{statement}
+use Rattle.unknown.proofs.is_unknown.Tie as tie
+use Rattle.unknown.proofs.is_unknown.Reads as reads
+use Rattle.unknown.proofs.is_unknown.Lts as lts
 use Rattle.lookup.proofs.name_at.Reads as name-at-reads
 use Rattle.known.proofs.find_macro.Reads as find-macro-reads
 use Rattle.seek.proofs.byte.Reads as byte-reads
