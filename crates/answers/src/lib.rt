@@ -1,5 +1,5 @@
 // The lines of an answer, written into a buffer.
-use closing::Elaborated;
+use report::Elaborated;
 use printed::put_result;
 use refusal::put_refusal;
 ghost use mathlib.Core.Path.{_≡_};

@@ -35,15 +35,15 @@ use Rattle.body.specs.declared.Body.{Body}
 use Rattle.body.specs.declared.Body.the-variants.{Named, Refused as Stopped}
 use Rattle.steps.specs.Good.{Good}
 use Rattle.body.specs.Walks.{Ends}
-use Rattle.start.proofs.Rows.{book-short}
 use Rattle.formats.specs.Expands.{Starts, Expands}
 use Rattle.result.specs.Model.{tables}
 use Rattle.result.specs.Adds.{Filled}
 use Rattle.result.specs.Held.{Held, Writes}
 use Rattle.result.proofs.Numbered.{numbered-by}
-use Rattle.closing.specs.declared.Elaborated.{Elaborated}
-use Rattle.closing.specs.declared.Elaborated.the-variants.{Done, Refused}
-use Rattle.closing.specs.Elaborates.{reported, Reports, lifted, Expanded, Lent, Lifts}
+use Rattle.report.specs.declared.Elaborated.{Elaborated}
+use Rattle.report.specs.declared.Elaborated.the-variants.{Done, Refused}
+use Rattle.report.specs.Elaborates.{reported, Reports, lifted, Expanded, Lifts}
+use Rattle.closing.specs.Lent.{Lent}
 
 pub starts : {s ends made rows params number order binders bound uses spare : List ℕ} → Expanded s → Lent s ends number binders bound uses spare → length made ≡ 8192 → length rows ≡ 2560 → length params ≡ 13108 → length order ≡ 512
     → Starts s made rows params number order
@@ -58,10 +58,6 @@ starts x u a b c e = record {
   order-long = omega arith;
   blank = u .blank;
 }
-
--- no expanded book is longer than the input may be
-pub expanded-short : {s : List ℕ} → Expanded s → length s ≤ 16384
-expanded-short x = book-short (record { of = x .of; book = x .book; isBook = x .isBook })
 
 comes : (ds : List Definition) → Comes (wBook ds ++ []) ds (traceBook treeHead ds) (outcome (liftBook ds))
 comes ds = rw (counted-in-bytes ds []) (elaborated-by-places ds [])

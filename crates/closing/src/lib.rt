@@ -1,20 +1,10 @@
 // From the expanded book to the result: the lifts are named, then the result is written. Codes 7 to 11.
 use body::Body;
 use formats::expand_definitions;
+use report::Elaborated;
 use result::write_result;
-ghost use Rattle.closing.specs.Elaborates.{Expanded, Lent, Lifts};
-
-// The result's length, its count of definitions and the count lifted, or a code.
-pub enum Elaborated {
-    Done {
-        length: u16,
-        definitions: u16,
-        lifted: u16,
-    },
-    Refused {
-        code: u8,
-    },
-}
+ghost use Rattle.report.specs.Elaborates.{Expanded, Lifts};
+ghost use Rattle.closing.specs.Lent.{Lent};
 
 // Codes 7 to 11, with the tables lent whose length the book's gives. Each other table is as long as code 10 lets it become.
 pub fn lift_with(

@@ -20,8 +20,8 @@ use Rattle.laws.proofs.Steps.{Yields, stops, yields, next, of-result, yielded}
 use Rattle.laws.proofs.Results.{elaborated-book, lifted-yields, lifted-book}
 use Rattle.nested.specs.Nested.{expandedNested, attemptNested, answerNested, outputNested}
 use Rattle.nested.proofs.Results.{expanded-is-book}
-use Rattle.closing.specs.declared.Elaborated.{Elaborated}
-use Rattle.closing.specs.Elaborates.{reported, Reports}
+use Rattle.report.specs.declared.Elaborated.{Elaborated}
+use Rattle.report.specs.Elaborates.{reported, Reports}
 use Rattle.answers.specs.Prints.{Prints}
 use Rattle.lines.specs.Lines.{Tells, elaboratedNested, TellsNested}
 

@@ -22,10 +22,10 @@ use Rattle.opening.specs.Opens.{Opens}
 use Rattle.passes.specs.declared.Passes.{Passes}
 use Rattle.passes.specs.declared.Passes.the-variants.{Book as Last, Grown, Left}
 use Rattle.passes.specs.Repeats.{AgainBy, Again}
-use Rattle.closing.specs.declared.Elaborated.{Elaborated}
-use Rattle.closing.specs.declared.Elaborated.the-variants.{Refused}
-use Rattle.closing.specs.Elaborates.{reported, Reports, lifted, Expanded, Lifts}
-use Rattle.closing.proofs.Reporting.{reports-refused, reports-lifted}
+use Rattle.report.specs.declared.Elaborated.{Elaborated}
+use Rattle.report.specs.declared.Elaborated.the-variants.{Refused}
+use Rattle.report.specs.Elaborates.{reported, Reports, lifted, Expanded, Lifts}
+use Rattle.report.proofs.Reporting.{reports-refused, reports-lifted}
 use Rattle.nesting.specs.OpensNested.{openedNested, OpensNested}
 use Rattle.nesting.proofs.Source.{source-written, nested-refused, nested-more, opened-long}
 

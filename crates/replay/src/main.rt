@@ -1,6 +1,6 @@
 // Replays the recorded answers of the Rust, data/ (its page there says how they were made and laid out), and counts for each
 // code the answers that are the recorded ones and those that are not.
-use closing::Elaborated;
+use report::Elaborated;
 use elaboration::elaborate;
 use libc::STDOUT_FILENO;
 use lookup::same_name;
@@ -9,7 +9,7 @@ use reader::Verdict;
 use seek::byte;
 use seek::number;
 use seek::past;
-use tested::Tested;
+use report::Tested;
 ghost use mathlib.Core.Path.{_≡_};
 ghost use Prim.Native.Nat.{_≤_};
 ghost use lib.ListN.{length};

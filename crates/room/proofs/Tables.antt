@@ -9,7 +9,7 @@ use Rattle.seek.specs.At.{byteAt}
 use Rattle.ends.proofs.Ends.{none-right}
 use Rattle.measured.specs.Measure.{measuredBook}
 use Rattle.measured.proofs.Measured.{measured-right}
-use Rattle.closing.specs.Elaborates.{Lent}
+use Rattle.closing.specs.Lent.{Lent}
 
 zero-at : (n p : ℕ) → getD {A = ℕ} (replicate n 0) p 0 ≡ 0
 zero-at zero p = refl

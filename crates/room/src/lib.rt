@@ -1,15 +1,12 @@
 // Codes 7 to 11, in tables that are as long as the book asks. A flat book needs none.
-use closing::Elaborated;
+use report::Elaborated;
 use closing::lift_with;
-use flat::copy_book;
 use flat::is_flat;
 use measured::measure_book;
-use seek::number;
-ghost use mathlib.Core.Bool.{true};
+use unlifted::lift_nothing;
 ghost use Prim.Native.Nat.{_≤_};
 ghost use lib.ListN.{length};
-ghost use Rattle.flat.specs.Told.{Told};
-ghost use Rattle.closing.specs.Elaborates.{Expanded, Lifts};
+ghost use Rattle.report.specs.Elaborates.{Expanded, Lifts};
 
 // The tables of a book of at most 512 bytes: for every byte an end, a number and a use; for every four bytes four numbers of a binder and two of a
 // label, with 512 more for the labels' hashes.
@@ -123,23 +120,6 @@ fn lift_by_length(s: &[u8], out: &mut [u8]) -> Elaborated
         return lift_middle(s, out);
     }
     lift_long(s, out)
-}
-
-// Out of a flat book nothing is lifted: it is its own result.
-fn lift_nothing(s: &[u8], out: &mut [u8]) -> Elaborated
-    requires { ⌜ Expanded (now s) × Told (now s) true ⌝ }
-    ensures { λ r. ⌜ Lifts (now (s .entry)) (now (out .entry)) (now (out .exit)) r ⌝ }
-{
-    if !copy_book(s, out) {
-        return Elaborated::Refused { code: 11 };
-    }
-    let length = s.len() as u16;
-    let definitions = number(s, 0);
-    Elaborated::Done {
-        length,
-        definitions,
-        lifted: 0,
-    }
 }
 
 // Codes 7 to 11.

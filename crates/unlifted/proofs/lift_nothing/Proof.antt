@@ -1,12 +1,12 @@
--- `room::lift_nothing` meets its contract.
+-- `unlifted::lift_nothing` meets its contract.
 -- Assumes nothing.
 use borrow.Author.Needs.{needs}
 use borrow.Author.Tests.{not-true, not-false}
 use native.Mathlib.Omega.{arith}
-use Rattle.closing.proofs.Lifting.{expanded-short}
-use Rattle.room.proofs.Copying.{copied-short, copied-whole}
-use Rattle.room.proofs.lift_nothing.Statement.{statement}
-use Rattle.room.proofs.lift_nothing.Tie as tie
+use Rattle.report.proofs.Reporting.{expanded-short}
+use Rattle.unlifted.proofs.Copying.{copied-short, copied-whole}
+use Rattle.unlifted.proofs.lift_nothing.Statement.{statement}
+use Rattle.unlifted.proofs.lift_nothing.Tie as tie
 
 returns : tie.Need-returns
 returns c = copied-short (c .before .before .before .before .before .before .before .pre .1) (c .before .before .before .copy-book .ensures) (not-true _ (c .if1 .taken))

@@ -1,9 +1,9 @@
 -- The elaboration's answer in document 01's numbers, and what it leaves in the output.
 use mathlib.Core.Path.{_≡_}
 use mathlib.Core.List.{List}
-use Prim.Native.Nat.{ℕ, _≤_}
+use Prim.Native.Nat.{ℕ}
 use lib.Dec.{leb}
-use lib.ListN.{length, getD}
+use lib.ListN.{length}
 use Rattle.definition.specs.Code.{output-short}
 use Rattle.definition.specs.Out.{Out, done, _>>=_, given}
 use Rattle.definition.specs.Tree.{Definition}
@@ -11,10 +11,8 @@ use Rattle.definition.specs.Write.{wBook}
 use Rattle.definition.specs.Lift.{liftBook}
 use Rattle.definition.specs.Answer.{Result, all, outcome, Answer, answered, filled}
 use Rattle.laws.specs.Book.{IsBook}
-use Rattle.ends.specs.Ends.{Right}
-use Rattle.naming.specs.Lifts.{Scratch}
-use Rattle.closing.specs.declared.Elaborated.{Elaborated}
-use Rattle.closing.specs.declared.Elaborated.the-variants.{Done, Refused}
+use Rattle.report.specs.declared.Elaborated.{Elaborated}
+use Rattle.report.specs.declared.Elaborated.the-variants.{Done, Refused}
 
 -- "It answers a code, the result's length, its count of definitions and the count lifted."; "On a refusal the three numbers are 0"
 unfoldable pub reported : Elaborated → Answer
@@ -35,14 +33,6 @@ pub record Expanded (s : List ℕ) : Type 0 where
   pub of : List Definition
   pub book : s ≡ wBook of
   pub isBook : IsBook of
-
--- tables that are long enough for the book: its ends are right, and no place has a number yet
-pub record Lent (s ends number binders bound uses spare : List ℕ) : Type 0 where
-  pub right : Right s ends
-  pub long : length s ≤ length number
-  pub blank : (p : ℕ) → getD number p 0 ≡ 0
-  pub binders-long : length s ≤ length binders
-  pub scratch : Scratch s bound uses spare
 
 -- the result of a book is a book: the laws say so
 pub record Lifts (s out out′ : List ℕ) (r : Elaborated) : Type 0 where

@@ -1,7 +1,7 @@
 -- The premise test's answer in document 01's numbers.
 use Rattle.definition.specs.Premise.{PremiseAnswer}
-use Rattle.tested.specs.declared.Tested.{Tested}
-use Rattle.tested.specs.declared.Tested.the-variants.{Holds, Fails, Refused}
+use Rattle.report.specs.declared.Tested.{Tested}
+use Rattle.report.specs.declared.Tested.the-variants.{Holds, Fails, Refused}
 
 -- "gives 1 to 6 as above, else yes or no"
 unfoldable pub told : Tested → PremiseAnswer

@@ -1,11 +1,11 @@
--- `elab::in_four_numbers` meets its contract.
+-- `report::in_four_numbers` meets its contract.
 -- Assumes nothing.
 use borrow.Author.Needs.{needs}
-use Rattle.closing.specs.Elaborates.{reported}
-use Rattle.elab.proofs.in_four_numbers.Statement.{statement}
-use Rattle.elab.proofs.in_four_numbers.Tie as tie
-use Rattle.elab.proofs.in_four_numbers.Reads as reads
-use Rattle.elab.proofs.in_four_numbers.Lts as lts
+use Rattle.report.specs.Elaborates.{reported}
+use Rattle.report.proofs.in_four_numbers.Statement.{statement}
+use Rattle.report.proofs.in_four_numbers.Tie as tie
+use Rattle.report.proofs.in_four_numbers.Reads as reads
+use Rattle.report.proofs.in_four_numbers.Lts as lts
 
 enum-known-e : tie.Need-enum-known-e
 enum-known-e c = search needs

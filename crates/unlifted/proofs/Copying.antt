@@ -17,8 +17,8 @@ use Rattle.seek.specs.At.{numberAt}
 use Rattle.contents.proofs.Listed.{book-listed}
 use Rattle.flat.specs.Told.{Told, Copied}
 use Rattle.flat.proofs.Still.{book-stays}
-use Rattle.closing.specs.declared.Elaborated.the-variants.{Done, Refused}
-use Rattle.closing.specs.Elaborates.{reported, lifted, Lifts}
+use Rattle.report.specs.declared.Elaborated.the-variants.{Done, Refused}
+use Rattle.report.specs.Elaborates.{reported, lifted, Lifts}
 
 pub told-flat : {s : List ℕ} {r : Bool} → Told s r → r ≡ true → Told s true
 told-flat t e = record { says = λ ds w b. sym e ∙ t .says ds w b }

@@ -1,12 +1,12 @@
--- `elab::in_two_numbers` meets its contract.
+-- `report::in_two_numbers` meets its contract.
 -- Assumes nothing.
 use borrow.Author.Needs.{needs}
-use Rattle.tested.specs.Tells.{told}
+use Rattle.report.specs.Tells.{told}
 use mathlib.Core.Path.{refl}
-use Rattle.elab.proofs.in_two_numbers.Statement.{statement}
-use Rattle.elab.proofs.in_two_numbers.Tie as tie
-use Rattle.elab.proofs.in_two_numbers.Reads as reads
-use Rattle.elab.proofs.in_two_numbers.Lts as lts
+use Rattle.report.proofs.in_two_numbers.Statement.{statement}
+use Rattle.report.proofs.in_two_numbers.Tie as tie
+use Rattle.report.proofs.in_two_numbers.Reads as reads
+use Rattle.report.proofs.in_two_numbers.Lts as lts
 
 enum-told : tie.Need-enum-told
 enum-told c = search needs

@@ -1,0 +1,24 @@
+// A book out of which nothing is lifted.
+use flat::copy_book;
+use report::Elaborated;
+use seek::number;
+ghost use mathlib.Core.Bool.{true};
+ghost use Rattle.flat.specs.Told.{Told};
+ghost use Rattle.report.specs.Elaborates.{Expanded, Lifts};
+
+// Out of a flat book nothing is lifted: it is its own result. Code 11 alone is left.
+pub fn lift_nothing(s: &[u8], out: &mut [u8]) -> Elaborated
+    requires { ⌜ Expanded (now s) × Told (now s) true ⌝ }
+    ensures { λ r. ⌜ Lifts (now (s .entry)) (now (out .entry)) (now (out .exit)) r ⌝ }
+{
+    if !copy_book(s, out) {
+        return Elaborated::Refused { code: 11 };
+    }
+    let length = s.len() as u16;
+    let definitions = number(s, 0);
+    Elaborated::Done {
+        length,
+        definitions,
+        lifted: 0,
+    }
+}
