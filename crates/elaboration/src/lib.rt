@@ -1,9 +1,9 @@
 // The whole elaboration: what it answers, what it writes and what it leaves in the work area, for every input.
 use beginning::Begun;
 use beginning::begin;
-use report::Elaborated;
 use opening::Opened;
 use opening::expand_book;
+use report::Elaborated;
 use room::lift_book;
 use zeroing::zero_range;
 ghost use mathlib.Core.Path.{_≡_};

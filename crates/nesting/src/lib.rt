@@ -1,9 +1,9 @@
 // The nested mode of document 02 b: the pass of document 01, more passes with the same macros, then the lifts.
-use report::Elaborated;
 use opening::Opened;
 use opening::open_book;
 use passes::Passes;
 use passes::expand_again;
+use report::Elaborated;
 use room::lift_book;
 use zeroing::zero_range;
 ghost use mathlib.Core.Path.{_≡_};

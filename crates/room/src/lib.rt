@@ -1,8 +1,8 @@
 // Codes 7 to 11, in tables that are as long as the book asks. A flat book needs none.
-use report::Elaborated;
 use closing::lift_with;
 use flat::is_flat;
 use measured::measure_book;
+use report::Elaborated;
 use unlifted::lift_nothing;
 ghost use Prim.Native.Nat.{_≤_};
 ghost use lib.ListN.{length};
