@@ -1,7 +1,7 @@
 -- The elaboration's answer in document 01's numbers, and what it leaves in the output.
 use mathlib.Core.Path.{_≡_}
 use mathlib.Core.List.{List}
-use Prim.Native.Nat.{ℕ, _≤_}
+use Prim.Native.Nat.{ℕ, _+_, _≤_}
 use lib.Dec.{leb}
 use lib.ListN.{length, getD}
 use Rattle.definition.specs.Code.{output-short}
@@ -12,6 +12,7 @@ use Rattle.definition.specs.Lift.{liftBook}
 use Rattle.definition.specs.Answer.{Result, all, outcome, Answer, answered, filled}
 use Rattle.laws.specs.Book.{IsBook}
 use Rattle.ends.specs.Ends.{Right}
+use Rattle.tables.specs.Parts.{numberIn}
 use Rattle.naming.specs.Lifts.{Scratch}
 use Rattle.closing.specs.declared.Elaborated.{Elaborated}
 use Rattle.closing.specs.declared.Elaborated.the-variants.{Done, Refused}
@@ -37,10 +38,10 @@ pub record Expanded (s : List ℕ) : Type 0 where
   pub isBook : IsBook of
 
 -- tables that are long enough for the book: its ends are right, and no place has a number yet
-pub record Lent (s ends number binders bound uses spare : List ℕ) : Type 0 where
+pub record Lent (s ends sheet binders bound uses spare : List ℕ) : Type 0 where
   pub right : Right s ends
-  pub long : length s ≤ length number
-  pub blank : (p : ℕ) → getD number p 0 ≡ 0
+  pub long : 16180 + length s ≤ length sheet
+  pub blank : (p : ℕ) → getD (numberIn sheet) p 0 ≡ 0
   pub binders-long : length s ≤ length binders
   pub scratch : Scratch s bound uses spare
 
