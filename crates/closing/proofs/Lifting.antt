@@ -3,11 +3,11 @@
 use mathlib.Core.Path.{_≡_, refl, sym, ap, _∙_}
 use mathlib.Core.Logic.{inl, inr}
 use mathlib.Core.List.{List, [], _∷_, _++_, map, append-nil}
-use Prim.Native.Nat.{ℕ, zero, suc, _+_, _≤_, _<_}
+use Prim.Native.Nat.{ℕ, zero, suc, _+_, _-_, _≤_, _<_}
 use native.Mathlib.Omega.{arith}
 use lib.Dec.{leb}
-use lib.ListN.{length, take, drop, getD}
-use lib.Seq.{getD-take, length-take-le}
+use lib.ListN.{length, take, drop, getD, length-drop}
+use lib.Seq.{getD-take, length-take-le, take-all}
 use borrow.Author.Tests.{le-leb, lt-leb}
 use Rattle.definition.specs.Code.{Code, number, output-short}
 use Rattle.definition.specs.Res.{Res, bad, ok}
@@ -26,6 +26,8 @@ use Rattle.lifting.proofs.Book.{in-rangeAll}
 use Rattle.lifting.proofs.Both.{Both, refusals, values}
 use Rattle.lifting.proofs.Laws.{records-of-lifts, counted-in-bytes, elaborated-by-places}
 use Rattle.tables.specs.Rows.{Row, rowOf, rowsOf, lastFrom}
+use Rattle.tables.specs.Parts.{orderIn, rowsIn, paramsIn, numberIn}
+use Rattle.tables.proofs.Parts.{part-lengths}
 use Rattle.lift.specs.declared.Counts.{Counts}
 use Rattle.lift.specs.Sheet.{Sheet, sheetOf}
 use Rattle.walked.specs.Book.{walkBook}
@@ -45,19 +47,25 @@ use Rattle.report.specs.declared.Elaborated.the-variants.{Done, Refused}
 use Rattle.report.specs.Elaborates.{reported, Reports, lifted, Expanded, Lifts}
 use Rattle.closing.specs.Lent.{Lent}
 
-pub starts : {s ends made rows params number order binders bound uses spare : List ℕ} → Expanded s → Lent s ends number binders bound uses spare → length made ≡ 8192 → length rows ≡ 2560 → length params ≡ 13108 → length order ≡ 512
-    → Starts s made rows params number order
-starts x u a b c e = record {
-  of = x .of;
-  book = x .book;
-  isBook = x .isBook;
-  made-long = omega arith;
-  rows-long = omega arith;
-  params-long = omega arith;
-  number-long = u .long;
-  order-long = omega arith;
-  blank = u .blank;
-}
+pub starts : {s ends made sheet binders bound uses spare : List ℕ} → Expanded s → Lent s ends sheet binders bound uses spare → length made ≡ 8192 → Starts s made (rowsIn sheet) (paramsIn sheet) (numberIn sheet) (orderIn sheet)
+starts {sheet} x u a =
+    let l = part-lengths sheet (omega (arith, u .long)) in
+    record {
+      of = x .of;
+      book = x .book;
+      isBook = x .isBook;
+      made-long = omega arith;
+      rows-long = omega (arith, l .1);
+      params-long = omega (arith, l .2);
+      number-long = omega (arith, u .long, l .3);
+      order-long = omega (arith, l .0);
+      blank = u .blank;
+    }
+
+-- the last part of the sheet, as it is lent
+pub number-lent : (t : List ℕ) → take (length t - 16180) (drop 16180 t) ≡ numberIn t
+unfolding numberIn
+number-lent t = take-all (length t - 16180) (drop 16180 t) (simp length-drop (omega arith))
 
 comes : (ds : List Definition) → Comes (wBook ds ++ []) ds (traceBook treeHead ds) (outcome (liftBook ds))
 comes ds = rw (counted-in-bytes ds []) (elaborated-by-places ds [])

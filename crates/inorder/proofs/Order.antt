@@ -138,8 +138,8 @@ module _ {s made₀ places₀ rows₀ params₀ order₀ : List ℕ} {w₀ : Cou
                 }
 
 -- ---- the rows keep their lengths
-pub kept : {s path₀ binders₀ bound₀ uses₀ spare₀ made₀ places₀ hashes₀ hints₀ rows₀ params₀ number₀ order₀ path binders bound uses spare made places hashes hints rows params number order : List ℕ} → Space s path₀ binders₀ bound₀ uses₀ spare₀
-    → Lengths path₀ binders₀ bound₀ uses₀ spare₀ made₀ places₀ hashes₀ hints₀ rows₀ params₀ number₀ order₀ path binders bound uses spare made places hashes hints rows params number order → Space s path binders bound uses spare
+pub kept : {s path₀ binders₀ bound₀ uses₀ spare₀ made₀ places₀ hashes₀ hints₀ sheet₀ path binders bound uses spare made places hashes hints sheet : List ℕ} → Space s path₀ binders₀ bound₀ uses₀ spare₀
+    → Lengths path₀ binders₀ bound₀ uses₀ spare₀ made₀ places₀ hashes₀ hints₀ sheet₀ path binders bound uses spare made places hashes hints sheet → Space s path binders bound uses spare
 kept x l = record {
   scratch = record {
     small = x .scratch .small;

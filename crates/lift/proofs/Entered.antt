@@ -19,6 +19,7 @@ use Rattle.writer.specs.Buf.{put, nameBytes}
 use Rattle.writer.proofs.Put.{length-put, getD-put-at}
 use Rattle.uses.specs.Uses.{namesIn}
 use Rattle.tables.specs.Rows.{Row, rowAt, rowsOf, namesFrom, typesFrom}
+use Rattle.tables.specs.Parts.{orderIn, rowsIn, paramsIn, numberIn, Parts}
 use Rattle.tables.proofs.Params.{Same}
 use Rattle.taken.specs.Taken.{both, taken, Table, Hints, Packed, Grown, Took}
 use Rattle.lift.specs.declared.Counts.{Counts}
@@ -152,7 +153,7 @@ module _ {s uses : List ℕ} {k : ℕ} {env : List Bound} {at end : ℕ} {n : Na
     defns-most = omega (arith, a .counted .4);
   }
 
-  pub made-lift : Enters s at end n (namesIn s (take k uses)) env made places rows params number w made′ places′ hashes′ hints′ rows′ params′ number′ (Made (length n + names + 5) v)
+  made-lift : Enters s at end n (namesIn s (take k uses)) env made places rows params number w made′ places′ hashes′ hints′ rows′ params′ number′ (Made (length n + names + 5) v)
   unfolding Gives enterWith entered callSize headSize sheetOf
   made-lift = record {
     gives = λ finished.
@@ -165,3 +166,11 @@ module _ {s uses : List ℕ} {k : ℕ} {env : List Bound} {at end : ℕ} {n : Na
           (tables′, a .numbered, a .counted .1),
         );
   }
+
+-- the same where the parameters were put into their part of the sheet, then the row and the number into theirs
+pub made-in-parts : (t t₂ : List ℕ) {s uses : List ℕ} {k : ℕ} {env : List Bound} {at end : ℕ} {n : Name} {made places hashes hints t₁ : List ℕ} {w : Counts} {params′ : List ℕ} {names types : ℕ}
+    → Parts t₁ (orderIn t) (rowsIn t) params′ (numberIn t) → paramsIn t₂ ≡ paramsIn t₁ → Tables s made places hashes hints (rowsIn t) (paramsIn t) w → Filled s uses k env (paramsIn t) (w .params) params′ names types → Within k names types
+    → length n ≤ 255 → (bytes : ℕ) → bytes ≡ w .bytes + 6 + (length n + 3 + names + types) + (length n + names + 5) → bytes ≤ 16384 → w .defns < 512
+    → {made′ places′ hashes′ hints′ : List ℕ} {v : Counts} → Adds n at end k made places hashes hints (rowsIn t₁) (numberIn t₁) w bytes made′ places′ hashes′ hints′ (rowsIn t₂) (numberIn t₂) v
+    → Enters s at end n (namesIn s (take k uses)) env made places (rowsIn t) (paramsIn t) (numberIn t) w made′ places′ hashes′ hints′ (rowsIn t₂) (paramsIn t₂) (numberIn t₂) (Made (length n + names + 5) v)
+made-in-parts t t₂ b e ts f wi short bytes sum small few a = rw (e ∙ b .params) (made-lift ts f wi short bytes sum small few (rw (b .rows, b .number) at a))

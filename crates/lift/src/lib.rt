@@ -9,6 +9,7 @@ ghost use mathlib.Core.Path.{_≡_};
 ghost use Prim.Native.Nat.{_≤_, _<_, _+_, _*_, _/_, _%_, min};
 ghost use lib.ListN.{length, take};
 ghost use Rattle.tables.specs.Rows.{withParam};
+ghost use Rattle.tables.specs.Parts.{orderIn, rowsIn, paramsIn, numberIn};
 ghost use Rattle.uses.specs.Uses.{namesIn};
 ghost use Rattle.lift.specs.Bound.{boundFrom, Sized, Builds};
 ghost use Rattle.lift.specs.Sheet.{Tables, withRow};
@@ -118,21 +119,20 @@ fn add_row(
     places: &mut [u16],
     hashes: &mut [u16],
     hints: &mut [u16],
-    rows: &mut [u16],
-    number: &mut [u16],
+    sheet: &mut [u16],
     w: Counts,
     bytes: usize,
 ) -> Counts
-    requires { ⌜ (n ≤ length (now path)) × (n ≤ 255) × (at ≤ 65535) × (end ≤ 65535) × (w .params + k ≤ 65535) × (w .end < 32768) × (w .end + 1 + n ≤ length (now made)) × (w .lifts < 512) × (w .defns < 512) × (w .taken < 512) × (512 ≤ length (now places)) × (512 ≤ length (now hashes)) × (512 ≤ length (now hints)) ⌝ }
-    ensures { λ r. ⌜ Adds (take n (now (path .entry))) at end k (now (made .entry)) (now (places .entry)) (now (hashes .entry)) (now (hints .entry)) (now (rows .entry)) (now (number .entry)) w bytes (now (made .exit)) (now (places .exit)) (now (hashes .exit)) (now (hints .exit)) (now (rows .exit)) (now (number .exit)) r ⌝ }
+    requires { ⌜ (n ≤ length (now path)) × (n ≤ 255) × (at ≤ 65535) × (end ≤ 65535) × (w .params + k ≤ 65535) × (w .end < 32768) × (w .end + 1 + n ≤ length (now made)) × (w .lifts < 512) × (w .defns < 512) × (w .taken < 512) × (512 ≤ length (now places)) × (512 ≤ length (now hashes)) × (512 ≤ length (now hints)) × (16180 ≤ length (now sheet)) ⌝ }
+    ensures { λ r. ⌜ Adds (take n (now (path .entry))) at end k (now (made .entry)) (now (places .entry)) (now (hashes .entry)) (now (hints .entry)) (rowsIn (now (sheet .entry))) (numberIn (now (sheet .entry))) w bytes (now (made .exit)) (now (places .exit)) (now (hashes .exit)) (now (hints .exit)) (rowsIn (now (sheet .exit))) (numberIn (now (sheet .exit))) r × (orderIn (now (sheet .exit)) ≡ orderIn (now (sheet .entry))) × (paramsIn (now (sheet .exit)) ≡ paramsIn (now (sheet .entry))) ⌝ }
 {
     let lifts = w.lifts;
     let place = w.end;
     let taken = w.taken;
     let first = w.params;
     let defns = w.defns;
-    put_row(rows, lifts, at, end, place, first, k);
-    store(number, at, lifts + 1);
+    put_row(&mut sheet[512..3072], lifts, at, end, place, first, k);
+    store(&mut sheet[16180..], at, lifts + 1);
     let next = take_name(&path[..n], made, place, places, hashes, hints, taken);
     Counts {
         taken: taken + 1,
@@ -160,16 +160,14 @@ pub fn enter_lift(
     places: &mut [u16],
     hashes: &mut [u16],
     hints: &mut [u16],
-    rows: &mut [u16],
-    params: &mut [u16],
-    number: &mut [u16],
+    sheet: &mut [u16],
     w: Counts,
 ) -> Lifted
-    requires { ⌜ Tables (now s) (now made) (now places) (now hashes) (now hints) (now rows) (now params) w × (at ≤ 65535) × (end ≤ 65535) × (n ≤ length (now path)) × (n ≤ 255) × (k ≤ length (now uses)) × (k ≤ 65536) × (b ≤ 65536) × Sized (now binders) b ⌝ }
-    ensures { λ r. ⌜ Enters (now (s .entry)) at end (take n (now (path .entry))) (namesIn (now (s .entry)) (take k (now (uses .entry)))) (boundFrom (now (s .entry)) (now (binders .entry)) 0 b) (now (made .entry)) (now (places .entry)) (now (rows .entry)) (now (params .entry)) (now (number .entry)) w (now (made .exit)) (now (places .exit)) (now (hashes .exit)) (now (hints .exit)) (now (rows .exit)) (now (params .exit)) (now (number .exit)) r ⌝ }
+    requires { ⌜ Tables (now s) (now made) (now places) (now hashes) (now hints) (rowsIn (now sheet)) (paramsIn (now sheet)) w × (at ≤ 65535) × (end ≤ 65535) × (n ≤ length (now path)) × (n ≤ 255) × (k ≤ length (now uses)) × (k ≤ 65536) × (b ≤ 65536) × Sized (now binders) b ⌝ }
+    ensures { λ r. ⌜ Enters (now (s .entry)) at end (take n (now (path .entry))) (namesIn (now (s .entry)) (take k (now (uses .entry)))) (boundFrom (now (s .entry)) (now (binders .entry)) 0 b) (now (made .entry)) (now (places .entry)) (rowsIn (now (sheet .entry))) (paramsIn (now (sheet .entry))) (numberIn (now (sheet .entry))) w (now (made .exit)) (now (places .exit)) (now (hashes .exit)) (now (hints .exit)) (rowsIn (now (sheet .exit))) (paramsIn (now (sheet .exit))) (numberIn (now (sheet .exit))) r × (orderIn (now (sheet .exit)) ≡ orderIn (now (sheet .entry))) ⌝ }
 {
     let first = w.params;
-    let built = build_param_defns(s, uses, k, binders, b, params, first);
+    let built = build_param_defns(s, uses, k, binders, b, &mut sheet[3072..16180], first);
     match built {
         Built::Missing => Lifted::Refused(8),
         Built::All(names, types) => {
@@ -192,8 +190,7 @@ pub fn enter_lift(
                 places,
                 hashes,
                 hints,
-                rows,
-                number,
+                sheet,
                 w,
                 bytes,
             );

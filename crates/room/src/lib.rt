@@ -9,13 +9,13 @@ ghost use lib.ListN.{length};
 ghost use Rattle.report.specs.Elaborates.{Expanded, Lifts};
 
 // The tables of a book of at most 512 bytes: for every byte an end, a number and a use; for every four bytes four numbers of a binder and two of a
-// label, with 512 more for the labels' hashes.
+// label, with 512 more for the labels' hashes. The numbers stand behind the sheet's other parts, which take 16,180.
 fn lift_small(s: &[u8], out: &mut [u8]) -> Elaborated
     requires { ⌜ Expanded (now s) × (length (now s) ≤ 512) ⌝ }
     ensures { λ r. ⌜ Lifts (now (s .entry)) (now (out .entry)) (now (out .exit)) r ⌝ }
 {
     let mut ends = [0u16; 512];
-    let mut number = [0u16; 512];
+    let mut sheet = [0u16; 16692];
     let mut binders = [0u16; 512];
     let mut bound = [0u32; 768];
     let mut uses = [0u32; 512];
@@ -24,7 +24,7 @@ fn lift_small(s: &[u8], out: &mut [u8]) -> Elaborated
     lift_with(
         s,
         &ends,
-        &mut number,
+        &mut sheet,
         &mut binders,
         &mut bound,
         &mut uses,
@@ -39,7 +39,7 @@ fn lift_short(s: &[u8], out: &mut [u8]) -> Elaborated
     ensures { λ r. ⌜ Lifts (now (s .entry)) (now (out .entry)) (now (out .exit)) r ⌝ }
 {
     let mut ends = [0u16; 2048];
-    let mut number = [0u16; 2048];
+    let mut sheet = [0u16; 18228];
     let mut binders = [0u16; 2048];
     let mut bound = [0u32; 1536];
     let mut uses = [0u32; 2048];
@@ -48,7 +48,7 @@ fn lift_short(s: &[u8], out: &mut [u8]) -> Elaborated
     lift_with(
         s,
         &ends,
-        &mut number,
+        &mut sheet,
         &mut binders,
         &mut bound,
         &mut uses,
@@ -63,7 +63,7 @@ fn lift_middle(s: &[u8], out: &mut [u8]) -> Elaborated
     ensures { λ r. ⌜ Lifts (now (s .entry)) (now (out .entry)) (now (out .exit)) r ⌝ }
 {
     let mut ends = [0u16; 4096];
-    let mut number = [0u16; 4096];
+    let mut sheet = [0u16; 20276];
     let mut binders = [0u16; 4096];
     let mut bound = [0u32; 2560];
     let mut uses = [0u32; 4096];
@@ -72,7 +72,7 @@ fn lift_middle(s: &[u8], out: &mut [u8]) -> Elaborated
     lift_with(
         s,
         &ends,
-        &mut number,
+        &mut sheet,
         &mut binders,
         &mut bound,
         &mut uses,
@@ -87,7 +87,7 @@ fn lift_long(s: &[u8], out: &mut [u8]) -> Elaborated
     ensures { λ r. ⌜ Lifts (now (s .entry)) (now (out .entry)) (now (out .exit)) r ⌝ }
 {
     let mut ends = [0u16; 16384];
-    let mut number = [0u16; 16384];
+    let mut sheet = [0u16; 32564];
     let mut binders = [0u16; 16384];
     let mut bound = [0u32; 8704];
     let mut uses = [0u32; 16384];
@@ -96,7 +96,7 @@ fn lift_long(s: &[u8], out: &mut [u8]) -> Elaborated
     lift_with(
         s,
         &ends,
-        &mut number,
+        &mut sheet,
         &mut binders,
         &mut bound,
         &mut uses,

@@ -5,42 +5,56 @@ use Prim.Native.Nat.{_+_}
 use native.Mathlib.Omega.{arith}
 use lib.ListN.{length-take}
 use borrow.Author.Needs.{needs}
-use Rattle.lift.proofs.Rows.{number-put}
+use Rattle.tables.specs.Parts.{rowsIn}
+use Rattle.lift.proofs.Rows.{both-back, numbered-back}
 use Rattle.lift.proofs.add_row.Statement.{statement}
 use Rattle.lift.proofs.add_row.Tie as tie
 
 put-row-requires : tie.Need-put-row-requires
-put-row-requires c κs = let p = c .before .before .before .before .before .before .before .before .pre in (omega arith, p .2, p .3, omega arith, omega arith, omega arith)
+put-row-requires c κs = let p = c .before .before .before .before .before .before .before .pre in (omega arith, p .2, p .3, omega arith, omega arith, omega arith)
 
 part-is : tie.Need-slice-aggregate-take-name
 part-is c = simp length-take (omega arith)
 
 take-name-requires : tie.Need-take-name-requires
 take-name-requires c κs =
-    let p = c .before .before .before .before .before .before .before .before .before .before .before .before .before .before .before .before .before .before .before .before .pre in
+    let p = c .before .before .before .before .before .before .before .before .before .before .before .before .before .before .before .before .before .before .before .pre in
     (simp length-take (omega arith), simp length-take (omega arith), p .5, omega arith, omega arith, omega arith)
 
 returns : tie.Need-returns
+unfolding rowsIn
 returns c =
-    let s = c .before .before .before .before .before .before .before .before .before .before .before .before .before .before .before .before .before .before .before .before .before .before .before .before .before .before .before .before .before in
-    let p = s .pre in
-    record {
-      row = c .before .before .before .before .before .before .before .before .before .before .before .before .before .before .before .before .before .before .before .before .put-row .ensures;
-      numbered = c .before .before .before .before .before .before .before .before .before .before .before .before .before .before .before .before .store .ensures ∙ number-put (s .args .number .now) (s .args .at) (s .args .w .lifts + 1) (omega arith);
-      took = c .before .before .before .before .before .before .before .before .take-name .ensures;
-      counted = (refl, refl, refl, refl, refl);
-    }
+    let s = c .before .before .before .before .before .before .before .before .before .before .before .before .before .before .before .before .before .before .before .before .before .before .before .before .before .before .before .before in
+    let t = s .args .sheet .now in
+    let p = c .before .before .before .before .before .before .before .before .before .before .before .before .before .before .before .before .before .before .before .before .put-row .last .0 in
+    let q = c .before .before .before .before .before .before .before .before .before .before .before .before .before .before .before .before .store .last .0 in
+    let l = c .before .before .before .before .before .before .before .before .before .before .before .before .before .before .before .before .before .before .before .sheet .given .0 in
+    let b = both-back t p q (s .pre .13) l in (
+      record {
+        row = b .rows ∙ c .before .before .before .before .before .before .before .before .before .before .before .before .before .before .before .before .before .before .before .before .put-row .ensures;
+        numbered = numbered-back t p q (s .pre .13) l (s .args .at) (s .args .w .lifts + 1) (omega arith) (c .before .before .before .before .before .before .before .before .before .before .before .before .before .before .before .before .store .ensures);
+        took = c .before .before .before .before .before .before .before .before .take-name .ensures;
+        counted = (refl, refl, refl, refl, refl);
+      },
+      b .order,
+      b .params,
+    )
 
 pub add-row-spec : {M : Type 1} → statement M
 add-row-spec =
     tie.close
     (tie.spec
+    (λ c. search needs)
+    (λ c. search needs)
+    (λ c. search needs)
     put-row-requires
+    (λ c. search needs)
+    (λ c. search needs)
+    (λ c. search needs)
     (λ c. search needs)
     (λ c κs. search needs)
     part-is
     take-name-requires
-    (λ c. search needs)
     (λ c. search needs)
     (λ c. search needs)
     (λ c. search needs)

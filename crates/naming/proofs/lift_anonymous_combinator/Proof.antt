@@ -10,25 +10,25 @@ use Rattle.naming.proofs.lift_anonymous_combinator.Statement.{statement
 use Rattle.naming.proofs.lift_anonymous_combinator.Tie as tie
 
 fresh-requires : tie.Need-fresh-generated-name-requires
-fresh-requires c κs = let t = c .before .before .before .before .before .before .before .before .before .before .before .before .before .before .before .before .before .before .pre .0 in (t .table, t .hinted, omega (arith, c .before .before .before .before .before .before .before .before .before .before .before .before .before .before .before .before .before .before .pre .3), omega (arith, t .few .1, t .defns-most))
+fresh-requires c κs = let t = c .before .before .before .before .before .before .before .before .before .before .before .before .before .before .before .before .pre .0 in (t .table, t .hinted, omega (arith, c .before .before .before .before .before .before .before .before .before .before .before .before .before .before .before .before .pre .3), omega (arith, t .few .1, t .defns-most))
 
 returns : tie.Need-returns
-returns c = refused-name (c .before .before .before .before .before .fresh-generated-name .ensures .0 .named) (c .before .before .before .before .before .fresh-generated-name .ensures .0 .kept) (omega (arith, c .before .before .before .before .before .before .before .before .before .before .before .before .before .before .before .before .before .before .before .before .before .before .before .before .pre .3, c .before .before .before .before .path .given)) (omega (arith, c .before .before .before .before .before .before .before .before .before .before .before .before .before .before .before .before .before .before .before .before .before .before .before .before .pre .3, c .before .before .before .before .path .given, c .if1 .taken))
+returns c = (refused-name (c .before .before .before .before .before .fresh-generated-name .ensures .0 .named) (c .before .before .before .before .before .fresh-generated-name .ensures .0 .kept) (omega (arith, c .before .before .before .before .before .before .before .before .before .before .before .before .before .before .before .before .before .before .before .before .before .before .pre .3, c .before .before .before .before .path .given)) (omega (arith, c .before .before .before .before .before .before .before .before .before .before .before .before .before .before .before .before .before .before .before .before .before .before .pre .3, c .before .before .before .before .path .given, c .if1 .taken)), refl)
 
 enter-requires : tie.Need-enter-lift-requires
 enter-requires c κs =
-    let s = c .before .before .before .before .before .before .before .before .before .before .before .before .before .before .before .before .before .before .before .before .before .before .before .before .before .before .before .before .before .before .before .before .before .before .before .before .before .before .before .before .before .before .before .before .before .before in
+    let s = c .before .before .before .before .before .before .before .before .before .before .before .before .before .before .before .before .before .before .before .before .before .before .before .before .before .before .before .before .before .before .before .before .before .before .before .before .before .before .before .before .before .before in
     let p = s .pre in
-    let e = sym (c .before .before .before .before .before .before .before .before .before .before .before .before .before .before .before .before .before .before .lift-params .ensures .0) ∙ c .before .before .before .before .before .before .before .before .before .before .found .given .1 in
+    let e = sym (c .before .before .before .before .before .before .before .before .before .before .before .before .before .before .before .before .lift-params .ensures .0) ∙ c .before .before .before .before .before .before .before .before .found .given .1 in
     let w = p .1 .whole in
     let m = whole-within w in
     let k = count-short w (s .args .bound .now) (s .args .uses .now) (s .args .spare .now) (p .2) (p .0 .source) e in (
-      tables-hinted (p .0) (c .before .before .before .before .before .before .before .before .before .before .before .before .before .before .before .before .before .before .before .before .before .before .before .before .before .before .before .fresh-generated-name .ensures .1) (omega (arith, c .before .before .before .before .before .before .before .before .before .before .before .before .before .before .before .before .before .before .before .before .before .before .before .before .hints .given)),
+      tables-hinted (p .0) (c .before .before .before .before .before .before .before .before .before .before .before .before .before .before .before .before .before .before .before .before .before .before .before .before .before .fresh-generated-name .ensures .1) (omega (arith, c .before .before .before .before .before .before .before .before .before .before .before .before .before .before .before .before .before .before .before .before .before .before .hints .given)),
       omega (arith, w .is .reach, p .0 .source),
       omega (arith, p .0 .source),
-      c .before .before .before .before .before .before .before .before .before .before .before .before .before .before .before .before .before .before .before .before .before .before .if1 .left,
-      omega (arith, p .3, c .before .before .before .before .before .before .before .before .before .before .before .before .before .before .before .before .before .before .before .before .before .before .before .before .before .before .path .given, c .before .before .before .before .before .before .before .before .before .before .before .before .before .before .before .before .before .before .before .before .before .before .if1 .left),
-      omega (arith, p .2 .uses-long, c .before .before .before .before .before .before .before .before .before .before .before .before .before .before .before .uses .given),
+      c .before .before .before .before .before .before .before .before .before .before .before .before .before .before .before .before .before .before .before .before .if1 .left,
+      omega (arith, p .3, c .before .before .before .before .before .before .before .before .before .before .before .before .before .before .before .before .before .before .before .before .before .before .before .before .path .given, c .before .before .before .before .before .before .before .before .before .before .before .before .before .before .before .before .before .before .before .before .if1 .left),
+      omega (arith, p .2 .uses-long, c .before .before .before .before .before .before .before .before .before .before .before .before .before .uses .given),
       omega (arith, p .0 .source),
       p .4,
       p .5,
@@ -36,27 +36,29 @@ enter-requires c κs =
 
 returns-2 : tie.Need-returns-2
 returns-2 c =
-    let s = c .before .before .before .before .before .before .before .before .before .before .before .before .before .before .before .before .before .before .before .before .before .before .before .before .before .before .before .before .before .before .before .before .before .before .before .before in
+    let s = c .before .before .before .before .before .before .before .before .before .before .before .before .before .before .before .before .before .before .before .before .before .before .before .before .before .before .before .before .before .before .before .before .before .before in
     let p = s .pre in
     let e = c .before .before .before .before .before .before .before .before .lift-params .ensures .0 in
-    refused-macro (c .before .before .before .before .before .before .before .before .before .before .before .before .before .before .before .before .before .fresh-generated-name .ensures .0 .named) (c .before .before .before .before .before .before .before .before .before .before .before .before .before .before .before .before .before .fresh-generated-name .ensures .0 .kept) (omega (arith, p .3, c .before .before .before .before .before .before .before .before .before .before .before .before .before .before .before .before .path .given)) (omega (arith, p .3, c .before .before .before .before .before .before .before .before .before .before .before .before .before .before .before .before .path .given, c .before .before .before .before .before .before .before .before .before .before .before .before .if1 .left)) (λ a w. left-over w (s .args .bound .now) (s .args .uses .now) (s .args .spare .now) (p .2) (p .0 .source) (sym e ∙ c .enum-told .given .1))
+    (refused-macro (c .before .before .before .before .before .before .before .before .before .before .before .before .before .before .before .before .before .fresh-generated-name .ensures .0 .named) (c .before .before .before .before .before .before .before .before .before .before .before .before .before .before .before .before .before .fresh-generated-name .ensures .0 .kept) (omega (arith, p .3, c .before .before .before .before .before .before .before .before .before .before .before .before .before .before .before .before .path .given)) (omega (arith, p .3, c .before .before .before .before .before .before .before .before .before .before .before .before .before .before .before .before .path .given, c .before .before .before .before .before .before .before .before .before .before .before .before .if1 .left)) (λ a w. left-over w (s .args .bound .now) (s .args .uses .now) (s .args .spare .now) (p .2) (p .0 .source) (sym e ∙ c .enum-told .given .1)), refl)
 
 same-14 : tie.Need-same-length-14
-same-14 c = omega (arith, c .before .before .before .before .before .before .before .before .before .before .before .before .before .before .before .before .before .before .before .before .before .before .before .before .before .before .before .before .before .before .before .before .before .before .before .before .before .before .before .before .before .before .path .given)
+same-14 c = omega (arith, c .before .before .before .before .before .before .before .before .before .before .before .before .before .before .before .before .before .before .before .before .before .before .before .before .before .before .before .before .before .before .before .before .before .before .before .before .path .given)
 
 same-21 : tie.Need-same-length-21
-same-21 c = omega (arith, c .before .before .before .before .before .before .before .before .before .before .before .before .before .before .before .before .before .before .before .before .before .before .before .before .before .before .before .before .before .before .before .before .before .before .before .before .before .before .before .before .hints .given, c .before .before .before .before .before .before .before .before .hints2 .given)
+same-21 c = omega (arith, c .before .before .before .before .before .before .before .before .before .before .before .before .before .before .before .before .before .before .before .before .before .before .before .before .before .before .before .before .before .before .before .before .before .before .hints .given, c .before .before .before .before .hints2 .given)
 
 returns-3 : tie.Need-returns-3
 returns-3 c =
-    let s = c .before .before .before .before .before .before .before .before .before .before .before .before .before .before .before .before .before .before .before .before .before .before .before .before .before .before .before .before .before .before .before .before .before .before .before .before .before .before .before .before .before .before .before .before .before .before .before .before .before .before .before .before .before .before .before .before .before .before .before .before .before .before in
+    let s = c .before .before .before .before .before .before .before .before .before .before .before .before .before .before .before .before .before .before .before .before .before .before .before .before .before .before .before .before .before .before .before .before .before .before .before .before .before .before .before .before .before .before .before .before .before .before .before .before .before .before .before .before .before .before in
     let p = s .pre in
-    let g = c .before .before .before .before .before .before .before .before .before .before .before .before .before .before .before .before .before .before .before .before .before .before .before .before .before .before .before .before .before .before .before .before .before .before .lift-params .ensures in
-    let e = sym (g .0) ∙ c .before .before .before .before .before .before .before .before .before .before .before .before .before .before .before .before .before .before .before .before .before .before .before .before .before .before .found .given .1 in
-    rw (c .named-of .ensures)
-    (entered-lift (c .before .before .before .before .before .before .before .before .before .before .before .before .before .before .before .before .before .before .before .before .before .before .before .before .before .before .before .before .before .before .before .before .before .before .before .before .before .before .before .before .before .before .before .fresh-generated-name .ensures .0 .named) (c .before .before .before .before .before .before .before .before .before .before .before .before .before .before .before .before .before .before .before .before .before .before .before .before .before .before .before .before .before .before .before .before .before .before .before .before .before .before .before .before .before .before .before .fresh-generated-name .ensures .0 .kept) (omega (arith, p .3, c .before .before .before .before .before .before .before .before .before .before .before .before .before .before .before .before .before .before .before .before .before .before .before .before .before .before .before .before .before .before .before .before .before .before .before .before .before .before .before .before .before .before .path .given)) (omega (arith, p .3, c .before .before .before .before .before .before .before .before .before .before .before .before .before .before .before .before .before .before .before .before .before .before .before .before .before .before .before .before .before .before .before .before .before .before .before .before .before .before .before .before .before .before .path .given, c .before .before .before .before .before .before .before .before .before .before .before .before .before .before .before .before .before .before .before .before .before .before .before .before .before .before .before .before .before .before .before .before .before .before .before .before .before .before .if1 .left)) _ _
-    (λ a w. (clear w (s .args .bound .now) (s .args .uses .now) (s .args .spare .now) (p .2) (p .0 .source) e, rw (g .2) (are-sorted w (s .args .bound .now) (s .args .uses .now) (s .args .spare .now) (p .2) (p .0 .source) e)))
-    (c .before .before .before .before .before .before .before .before .before .before .before .before .before .before .before .enter-lift .ensures))
+    let g = c .before .before .before .before .before .before .before .before .before .before .before .before .before .before .before .before .before .before .before .before .before .before .before .before .before .before .before .before .lift-params .ensures in
+    let e = sym (g .0) ∙ c .before .before .before .before .before .before .before .before .before .before .before .before .before .before .before .before .before .before .before .before .found .given .1 in
+    rw (c .named-of .ensures) (
+      (entered-lift (c .before .before .before .before .before .before .before .before .before .before .before .before .before .before .before .before .before .before .before .before .before .before .before .before .before .before .before .before .before .before .before .before .before .before .before .before .before .fresh-generated-name .ensures .0 .named) (c .before .before .before .before .before .before .before .before .before .before .before .before .before .before .before .before .before .before .before .before .before .before .before .before .before .before .before .before .before .before .before .before .before .before .before .before .before .fresh-generated-name .ensures .0 .kept) (omega (arith, p .3, c .before .before .before .before .before .before .before .before .before .before .before .before .before .before .before .before .before .before .before .before .before .before .before .before .before .before .before .before .before .before .before .before .before .before .before .before .path .given)) (omega (arith, p .3, c .before .before .before .before .before .before .before .before .before .before .before .before .before .before .before .before .before .before .before .before .before .before .before .before .before .before .before .before .before .before .before .before .before .before .before .before .path .given, c .before .before .before .before .before .before .before .before .before .before .before .before .before .before .before .before .before .before .before .before .before .before .before .before .before .before .before .before .before .before .before .before .if1 .left)) _ _
+          (λ a w. (clear w (s .args .bound .now) (s .args .uses .now) (s .args .spare .now) (p .2) (p .0 .source) e, rw (g .2) (are-sorted w (s .args .bound .now) (s .args .uses .now) (s .args .spare .now) (p .2) (p .0 .source) e)))
+          (c .before .before .before .before .before .before .before .before .before .before .before .enter-lift .ensures .0)),
+      c .before .before .before .before .before .before .before .before .before .before .before .enter-lift .ensures .1,
+    )
 
 pub lift-anonymous-combinator-spec : {M : Type 1} → statement M
 lift-anonymous-combinator-spec =
@@ -91,7 +93,5 @@ lift-anonymous-combinator-spec =
     (λ c. search needs)
     (λ c. search needs)
     same-21
-    (λ c. search needs)
-    (λ c. search needs)
     (λ c. search needs)
     returns-3)
