@@ -51,9 +51,7 @@ pub starts : {s ends made sheet binders bound uses spare : List ℕ} → Expande
 starts {sheet} x u a =
     let l = part-lengths sheet (omega (arith, u .long)) in
     record {
-      of = x .of;
-      book = x .book;
-      isBook = x .isBook;
+      book = x;
       made-long = omega arith;
       rows-long = omega (arith, l .1);
       params-long = omega (arith, l .2);

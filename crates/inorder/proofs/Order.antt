@@ -26,7 +26,7 @@ use Rattle.body.specs.declared.Body.the-variants.{Named, Refused}
 use Rattle.steps.specs.Good.{Good}
 use Rattle.body.specs.Walks.{Ends}
 use Rattle.body.proofs.Rounds.{Lengths}
-use Rattle.start.specs.Rows.{Book}
+use Rattle.report.specs.Elaborates.{Expanded}
 use Rattle.format.specs.Formats.{Space, Format, EndsIn, Defined}
 use Rattle.inorder.specs.InOrder.{InOrder}
 
@@ -92,7 +92,7 @@ module _ {s made₀ places₀ rows₀ params₀ order₀ : List ℕ} {w₀ : Cou
       of (d ∷ ds) e = absurd (omega arith)
 
   module _ (more : 0 < left) {kind : ℕ} (ek : kind ≡ byteAt s entry) where
-    pub going-format : Book s → kind ≡ 1 → Format s at
+    pub going-format : Expanded s → kind ≡ 1 → Format s at
     going-format b k = let r = g .goes (b .of) (b .book) (b .isBook) in of (r .rest) (r .listed) (r .count)
       where
         of : (rest : List Definition) → Listed s entry at rest → left ≡ length rest → Format s at
@@ -114,7 +114,7 @@ module _ {s made₀ places₀ rows₀ params₀ order₀ : List ℕ} {w₀ : Cou
             → (walkAll (d ∷ []) at (sheetOf s made places rows params (take n order) w) ≡ ok tt (sheetOf s made′ places′ rows′ params′ (take k order′) v)) × Good s made′ places′ hashes′ hints′ rows′ params′ number′ order′ v k
         first {d} {ds} l = ends-named _ _ _ v k (x .says d (wAll wDefinition ds []) (listed-body l) (ek ∙ listed-kind l) (listed-deep l))
 
-        pub going-step : Book s → {size at₁ entry₁ : ℕ} → size ≡ numberAt s (pastAt s entry 4) → at₁ ≡ pastAt s at size → entry₁ ≡ pastAt s entry 6
+        pub going-step : Expanded s → {size at₁ entry₁ : ℕ} → size ≡ numberAt s (pastAt s entry 4) → at₁ ≡ pastAt s at size → entry₁ ≡ pastAt s entry 6
             → Going s made₀ places₀ rows₀ params₀ order₀ w₀ made′ places′ hashes′ hints′ rows′ params′ number′ order′ v k entry₁ at₁ (left - 1)
         going-step b {size} {at₁} {entry₁} ez ea ee = record {
           good = let r = g .goes (b .of) (b .book) (b .isBook) in well (r .rest) (r .listed) (r .count);

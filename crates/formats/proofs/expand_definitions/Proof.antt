@@ -4,7 +4,7 @@ use Prim.Native.Nat.{ℕ}
 use native.Mathlib.Omega.{arith}
 use lib.ListN.{length-replicate}
 use borrow.Author.Needs.{needs}
-use Rattle.formats.proofs.Start.{the-book, good, expands}
+use Rattle.formats.proofs.Start.{good, expands}
 use Rattle.formats.proofs.expand_definitions.Statement.{statement}
 use Rattle.formats.proofs.expand_definitions.Tie as tie
 
@@ -13,7 +13,7 @@ expand-in-order-requires c κs =
     let p = c .before .before .before .before .before .before .before .before .before .before .before .before .before .before .before .before .before .before .before .before .before .before .before .before .before .before .pre in (
       good (p .0) (c .before .before .before .before .before .before .before .before .before .before .before .before .before .before .take-at-start .ensures) (c .before .before .before .before .before .before .before .before .before .before .number .ensures) (omega (arith, c .before .before .before .before .before .before .before .before .before .before .before .before .before .places2 .given)) (omega (arith, c .before .before .before .before .before .before .before .before .before .before .before .before .hashes2 .given)) (omega (arith, c .before .before .before .before .before .before .before .before .before .before .before .hints2 .given)),
       record { scratch = p .1; path-long = length-replicate {0} {A = ℕ} 255 0; binders-long = p .2 },
-      the-book (p .0),
+      p .0 .book,
       p .3,
     )
 
