@@ -14,8 +14,8 @@ use Rattle.seek.specs.At.{byteAt, pastAt, numberAt, namePast}
 use Rattle.seek.specs.Here.{Here}
 use Rattle.seek.proofs.Here.{name-here}
 use Rattle.writer.proofs.Put.{take-written}
-use Rattle.marks.specs.declared.Walk.{Walk}
-use Rattle.marks.specs.Steps.{walk}
+use Rattle.walk.specs.declared.Walk.{Walk}
+use Rattle.walk.specs.Steps.{walk}
 use Rattle.calls.specs.Walk.{combinatorAt}
 use Rattle.calls.specs.Walked.{Walked}
 use Rattle.pieces.specs.Pieces.{pieces, places}

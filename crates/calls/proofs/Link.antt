@@ -18,8 +18,9 @@ use Rattle.seek.proofs.Here.{place, next-here, number-past, name-here, text-her
 use Rattle.seek.proofs.Stands.{stands}
 use Rattle.writer.proofs.Put.{put-past}
 use Rattle.writer.proofs.Wrote.{place-is, place-fits}
-use Rattle.marks.specs.declared.Walk.{Walk}
-use Rattle.marks.specs.Steps.{walk, moved, entered, silent, back, State, callAt}
+use Rattle.walk.specs.declared.Walk.{Walk}
+use Rattle.marks.specs.Steps.{State, callAt}
+use Rattle.walk.specs.Steps.{walk, moved, entered, silent, back}
 use Rattle.calls.specs.Walk.{times, fieldAt, caseBy, caseAt, wrapBy, arrayBy, macroBy, combinatorAt, argumentAt, innerAt, skipAt}
 use Rattle.pieces.specs.Pieces.{Piece, call, macro-call, pieces, piecesI, piecesF, piecesC, places}
 use Rattle.calls.specs.Walked.{Walked, Skipped}

@@ -9,8 +9,9 @@ use Rattle.definition.specs.Write.{wU16, wSelector, caseByte, leafTag, fieldByt
 use Rattle.seek.specs.At.{byteAt, pastAt, namePast, textPast, lengthPast, selectorPast, standsOn}
 use Rattle.seek.specs.Here.{Here}
 use Rattle.seek.proofs.Here.{byte-here, number-here, selector-here}
-use Rattle.marks.specs.declared.Walk.{Walk}
-use Rattle.marks.specs.Steps.{walk, moved, entered, chainedTo, State, textOrLength, callAt}
+use Rattle.walk.specs.declared.Walk.{Walk}
+use Rattle.marks.specs.Steps.{State, callAt}
+use Rattle.walk.specs.Steps.{walk, moved, entered, chainedTo, textOrLength}
 use Rattle.calls.specs.Walk.{Step, times, many, fieldBy, wrapBy, caseBy, choiceBy, arrayBy, macroBy, innerBy, tailBy, combinatorBy, argumentBy, combinatorAt, argumentAt, innerAt}
 use Rattle.pieces.proofs.Bools.{and-true, and-false}
 

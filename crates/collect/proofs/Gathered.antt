@@ -10,9 +10,9 @@ use Rattle.definition.specs.Tree.{Name}
 use Rattle.definition.specs.Names.{remove}
 use Rattle.laws.proofs.Splits.{Splits}
 use Rattle.laws.proofs.Sizes.{adds}
-use Rattle.writer.specs.Buf.{after, Wrote}
-use Rattle.writer.proofs.Put.{put-nil, put-past}
-use Rattle.writer.proofs.Wrote.{glue, place-is, same-length}
+use Rattle.writer.specs.Buf.{Wrote}
+use Rattle.writer.proofs.Put.{put-past}
+use Rattle.writer.proofs.Wrote.{glue, place-within, wrote-none}
 use Rattle.seek.specs.Here.{Here}
 use Rattle.lookup.specs.Name.{nameAt}
 use Rattle.labels.specs.Labels.{labelsIn, unbindAt}
@@ -65,7 +65,7 @@ module _ {s z : List ℕ} {ns : List Name} {l : Bool} {n b : ℕ} {f : Bool} {bo
     few = omega (arith, adds w split z, r .few, p .same);
     room = omega (arith, r .room, p .long);
     finds = rw (p .same) (finds-same s (p .kept) (r .finds));
-    fits = omega (arith, place-is (p .wrote), same-length (p .wrote));
+    fits = place-within (p .wrote);
   }
 
   -- at another place
@@ -91,8 +91,7 @@ module _ {s z : List ℕ} {ns : List Name} {l : Bool} {n b : ℕ} {f : Bool} {bo
       }
 
 pub wrote-nothing : {s : List ℕ} {p : ℕ} {y : List ℕ} {n b : ℕ} {bound uses : List ℕ} → Ready s p y n b bound uses → Wrote uses n [] uses n
-unfolding after
-wrote-nothing {n = n} {uses = uses} r = record { place = omega (arith, r .fits); holds = sym (put-nil uses n) }
+wrote-nothing r = wrote-none _ _ (r .fits)
 
 -- nothing was used
 pub nothing-used : {s : List ℕ} {p : ℕ} {y : List ℕ} {n b : ℕ} {bound uses : List ℕ} (f : Bool) {q : ℕ} {z : List ℕ} → Ready s p y n b bound uses → Here s q z → Gathered s z [] false n b f bound uses (walk q n b f, bound, uses)

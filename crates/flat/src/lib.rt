@@ -1,7 +1,6 @@
 // A flat book, out of which nothing is lifted: it is told by one walk, by position over validated bytes, and copied.
 use contents::params_past;
 use ends::inner_end;
-use marks::text_or_length;
 use seek::byte;
 use seek::label_past;
 use seek::length_past;
@@ -11,6 +10,7 @@ use seek::number;
 use seek::past;
 use seek::selector_past;
 use seek::text_past;
+use walk::text_or_length;
 use writer::put_bytes;
 ghost use mathlib.Core.Path.{_≡_};
 ghost use Rattle.bodies.specs.Tested.{FormatTested, DefinitionTested};

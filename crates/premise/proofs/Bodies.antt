@@ -11,8 +11,8 @@ use Rattle.definition.specs.Names.{elem}
 use Rattle.definition.specs.Bodies.{everyInvocation, chainsOk, everyBody}
 use Rattle.definition.specs.Premise.{callsKnown, chainsPlain}
 use Rattle.seek.specs.At.{namePast}
-use Rattle.marks.specs.declared.Walk.{Walk}
-use Rattle.marks.specs.Steps.{walk}
+use Rattle.walk.specs.declared.Walk.{Walk}
+use Rattle.walk.specs.Steps.{walk}
 use Rattle.calls.specs.Walk.{combinatorAt}
 use Rattle.pieces.specs.Marked.{everyPlace}
 use Rattle.pieces.proofs.Marked.{every-by}

@@ -13,8 +13,9 @@ use Rattle.writer.proofs.Put.{length-put, put-nil, put-put, put-fits, take-put,
 use Rattle.writer.proofs.Wrote.{same-length, place-fits}
 use Rattle.seek.specs.At.{byteAt, numberAt}
 use Rattle.entries.specs.Entry.{entryBytes}
-use Rattle.splice.specs.Model.{Tables, row}
-use Rattle.result.specs.Model.{liftedBytes, keptBytes, Piece, entries, bodies, keptFrom, liftedFrom, bookBytes, resultBytes}
+use Rattle.splice.specs.Model.{Tables, row, spliced}
+use Rattle.lifted.specs.Model.{liftedBytes}
+use Rattle.result.specs.Model.{keptBytes, Piece, entries, bodies, keptFrom, liftedFrom, bookBytes, resultBytes}
 use Rattle.result.specs.Adds.{Adds, Filled}
 
 -- two writes that do not meet
@@ -141,6 +142,10 @@ pub adds-as : {d : List ℕ} {i o : ℕ} {ps qs : List Piece} {d′ : List ℕ} 
 adds-as e a = rw e a
 
 module _ (t : Tables) where
+  pub kept-is : (i from n : ℕ) → from ≡ numberAt (t .book) (2 + 6 * i + 2) → n ≡ numberAt (t .book) (2 + 6 * i + 4) → keptBytes t i ≡ spliced t from (from + n)
+  unfolding keptBytes
+  kept-is i from n a b = rw (a, b)
+
   pub kept-of : (i kind : ℕ) → kind ≡ byteAt (t .book) (2 + 6 * i) → keptFrom t i 1 ≡ record { kind = kind; bytes = keptBytes t i } ∷ []
   unfolding keptFrom
   kept-of i kind e = rw e
