@@ -46,7 +46,7 @@ cut-out [] (suc from) to h = rw (take-nil to, take-nil (to - suc from))
 cut-out (b ∷ s) (suc from) zero h = absurd (omega arith)
 cut-out (b ∷ s) (suc from) (suc to) h = let e : to - from ≡ suc to - suc from = omega arith in cut-out s from to (omega arith) ∙ ap (λ (n : ℕ). take n (drop from s)) e
 
-unsound : (c d p q : ℕ) → c ≡ d → p ≡ q → Unsound (record { code = c; at = p }) ≡ Unsound (record { code = d; at = q })
+pub unsound : (c d p q : ℕ) → c ≡ d → p ≡ q → Unsound (record { code = c; at = p }) ≡ Unsound (record { code = d; at = q })
 unsound c d p q e h = rw (e, h)
 
 -- what is left where a reading ended, of bytes that end at `to`

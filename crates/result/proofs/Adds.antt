@@ -11,6 +11,7 @@ use Rattle.definition.specs.Write.{wU16}
 use Rattle.writer.specs.Buf.{put, Wrote}
 use Rattle.writer.proofs.Put.{length-put, put-nil, put-put, put-fits, take-put, drop-put}
 use Rattle.writer.proofs.Wrote.{same-length, place-fits}
+use Rattle.laws.proofs.Sizes.{length-u16}
 use Rattle.seek.specs.At.{byteAt, numberAt}
 use Rattle.entries.specs.Entry.{entryBytes}
 use Rattle.splice.specs.Model.{Tables, row, spliced}
@@ -44,10 +45,6 @@ module _ (d : List ℕ) (x : ℕ) (p : List ℕ) (o : ℕ) (q : List ℕ) (h : x
           ap (drop n) (put-fits d o q k ∙ rw (a, append-assoc, append-assoc))
           ∙ drop-at (take n d) (take m (drop n d) ++ (q ++ drop (o + length q) d)) n (length-take-le n d (omega arith))
           ∙ sym (append-assoc (take m (drop n d)) q (drop (o + length q) d))
-
-length-u16 : (n : ℕ) → length (wU16 n []) ≡ 2
-unfolding wU16
-length-u16 n = refl
 
 pub length-entry : (kind at n : ℕ) → length (entryBytes kind at n) ≡ 6
 unfolding entryBytes wU16
