@@ -118,8 +118,8 @@ module _ {s : List ℕ} {at : ℕ} {path₀ : List ℕ} {len : ℕ} {binders₀ 
   pub pass-safe : f .child ≤ 65536
   pass-safe = let g = R .goes (R .root) in omega (arith, source, g .sound .child, g .sound .ends, g .top .ends)
 
-  pub close-safe : (n ≤ 65536) × (512 ≤ length order)
-  close-safe = let g = R .goes (R .root) in let t = g .good .tables in (omega (arith, g .good .finished, t .few .0, t .defns-most), g .good .order-long)
+  pub close-safe : n ≤ 65536
+  close-safe = let g = R .goes (R .root) in let t = g .good .tables in omega (arith, g .good .finished, t .few .0, t .defns-most)
 
   abbrev p : Frame
   p = getD frames (d - 1) no-frame

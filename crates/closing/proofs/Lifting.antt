@@ -3,11 +3,11 @@
 use mathlib.Core.Path.{_≡_, refl, sym, ap, _∙_}
 use mathlib.Core.Logic.{inl, inr}
 use mathlib.Core.List.{List, [], _∷_, _++_, map, append-nil}
-use Prim.Native.Nat.{ℕ, zero, suc, _+_, _-_, _≤_, _<_}
+use Prim.Native.Nat.{ℕ, zero, suc, _+_, _≤_, _<_}
 use native.Mathlib.Omega.{arith}
 use lib.Dec.{leb}
-use lib.ListN.{length, take, drop, getD, length-drop}
-use lib.Seq.{getD-take, length-take-le, take-all}
+use lib.ListN.{length, take, drop, getD}
+use lib.Seq.{getD-take, length-take-le}
 use borrow.Author.Tests.{le-leb, lt-leb}
 use Rattle.definition.specs.Code.{Code, number, output-short}
 use Rattle.definition.specs.Res.{Res, bad, ok}
@@ -59,11 +59,6 @@ starts {sheet} x u a =
       order-long = omega (arith, l .0);
       blank = u .blank;
     }
-
--- the last part of the sheet, as it is lent
-pub number-lent : (t : List ℕ) → take (length t - 16180) (drop 16180 t) ≡ numberIn t
-unfolding numberIn
-number-lent t = take-all (length t - 16180) (drop 16180 t) (simp length-drop (omega arith))
 
 comes : (ds : List Definition) → Comes (wBook ds ++ []) ds (traceBook treeHead ds) (outcome (liftBook ds))
 comes ds = rw (counted-in-bytes ds []) (elaborated-by-places ds [])

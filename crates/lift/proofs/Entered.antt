@@ -168,9 +168,9 @@ module _ {s uses : List ℕ} {k : ℕ} {env : List Bound} {at end : ℕ} {n : Na
   }
 
 -- the same where the parameters were put into their part of the sheet, then the row and the number into theirs
-pub made-in-parts : (t t₂ : List ℕ) {s uses : List ℕ} {k : ℕ} {env : List Bound} {at end : ℕ} {n : Name} {made places hashes hints t₁ : List ℕ} {w : Counts} {params′ : List ℕ} {names types : ℕ}
-    → Parts t₁ (orderIn t) (rowsIn t) params′ (numberIn t) → paramsIn t₂ ≡ paramsIn t₁ → Tables s made places hashes hints (rowsIn t) (paramsIn t) w → Filled s uses k env (paramsIn t) (w .params) params′ names types → Within k names types
+pub made-in-parts : (t t₁ t₂ : List ℕ) {s uses : List ℕ} {k : ℕ} {env : List Bound} {at end : ℕ} {n : Name} {made places hashes hints : List ℕ} {w : Counts} {names types : ℕ}
+    → Parts t₁ (orderIn t) (rowsIn t) (paramsIn t₁) (numberIn t) → paramsIn t₂ ≡ paramsIn t₁ → Tables s made places hashes hints (rowsIn t) (paramsIn t) w → Filled s uses k env (paramsIn t) (w .params) (paramsIn t₁) names types → Within k names types
     → length n ≤ 255 → (bytes : ℕ) → bytes ≡ w .bytes + 6 + (length n + 3 + names + types) + (length n + names + 5) → bytes ≤ 16384 → w .defns < 512
     → {made′ places′ hashes′ hints′ : List ℕ} {v : Counts} → Adds n at end k made places hashes hints (rowsIn t₁) (numberIn t₁) w bytes made′ places′ hashes′ hints′ (rowsIn t₂) (numberIn t₂) v
     → Enters s at end n (namesIn s (take k uses)) env made places (rowsIn t) (paramsIn t) (numberIn t) w made′ places′ hashes′ hints′ (rowsIn t₂) (paramsIn t₂) (numberIn t₂) (Made (length n + names + 5) v)
-made-in-parts t t₂ b e ts f wi short bytes sum small few a = rw (e ∙ b .params) (made-lift ts f wi short bytes sum small few (rw (b .rows, b .number) at a))
+made-in-parts t t₁ t₂ b e ts f wi short bytes sum small few a = rw e (made-lift ts f wi short bytes sum small few (rw (b .rows, b .number) at a))

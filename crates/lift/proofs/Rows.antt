@@ -7,9 +7,8 @@ use native.Mathlib.Omega.{arith}
 use native.Mathlib.Nat.{eq-or-lt-of-le}
 use native.Mathlib.Numerals.{add-one}
 use mathlib.Core.Logic.{⊎-elim}
-use lib.ListN.{length, take, drop, getD, set, length-set, length-drop}
-use lib.Seq.{getD-set-same, getD-set-other, take-all}
-use borrow.Rule.Slice.PartMut.{putMid, same-len-mid}
+use lib.ListN.{length, take, drop, getD, set, length-set}
+use lib.Seq.{getD-set-same, getD-set-other}
 use borrow.Author.Tests.{le-ltb}
 use Rattle.definition.specs.Tree.{Name}
 use Rattle.lookup.specs.declared.Place.the-variants.{Made}
@@ -17,9 +16,9 @@ use Rattle.lookup.specs.Name.{nameAt, nameOf, placeOf}
 use Rattle.writer.specs.Buf.{put, nameBytes}
 use Rattle.writer.proofs.Put.{length-put, part-put-before, getD-put-before}
 use Rattle.tables.specs.Rows.{Row, TypeAt, namesFrom, typesFrom, rowAt, rowsOf}
-use Rattle.tables.specs.Parts.{orderIn, rowsIn, paramsIn, numberIn, Parts}
+use Rattle.tables.specs.Parts.{Parts}
 use Rattle.tables.proofs.Params.{Same, names-kept, types-kept}
-use Rattle.tables.proofs.Parts.{rows-back, number-back}
+use Rattle.tables.proofs.Parts.{number-stored}
 use Rattle.taken.specs.Taken.{both, row, taken, Took}
 use Rattle.lift.specs.declared.Counts.{Counts}
 use Rattle.lift.specs.Sheet.{RowIn, withRow}
@@ -90,32 +89,12 @@ row-put d i a e n f k v w x y z ha he hn hf hk =
     let k′ : min k 65535 ≡ k = omega arith in
     rw (z, y, x, w, v, a′, e′, n′, f′, k′)
 
-pub number-put : (t : List ℕ) (at x : ℕ) → x ≤ 65535 → set t at (min x 65535) ≡ set t at x
-number-put t at x h = let e : min x 65535 ≡ x = omega arith in rw e
-
--- the row and then the number of a lift, each in its part of the sheet
-module _ (t p q : List ℕ) (g : 16180 ≤ length t) (l : length p ≡ length (rowsIn t)) where
-  abbrev pub withRows : List ℕ
-  withRows = putMid 512 2560 t p
-
-  abbrev pub withBoth : List ℕ
-  withBoth = putMid 16180 (length withRows - 16180) withRows q
-
-  as-long : length withRows ≡ length t
-  unfolding rowsIn
-  as-long = same-len-mid 512 2560 t p l
-
-  pub both-back : Parts withBoth (orderIn t) p (paramsIn t) q
-  both-back =
-      let r = rows-back t p (omega arith) l in
-      let b = number-back withRows q (omega (arith, as-long)) in
-      record { order = b .order ∙ r .order; rows = b .rows ∙ r .rows; params = b .params ∙ r .params; number = b .number }
-
-  pub numbered-back : (at x : ℕ) → x ≤ 65535 → q ≡ set (take (length withRows - 16180) (drop 16180 withRows)) at (min x 65535) → numberIn withBoth ≡ set (numberIn t) at x
-  unfolding numberIn
-  numbered-back at x h e =
-      let whole : take (length withRows - 16180) (drop 16180 withRows) ≡ drop 16180 withRows = take-all (length withRows - 16180) (drop 16180 withRows) (simp length-drop (omega arith)) in
-      both-back .number ∙ (e ∙ (rw (whole, rows-back t p (omega arith) l .number) (number-put (drop 16180 t) at x h)))
+-- the number at a place, in the last part of the sheet
+pub numbered-in : {t t′ o r p n : List ℕ} (at x : ℕ) → x ≤ 65535 → Parts t o r p n → t′ ≡ set t (16180 + at) (min x 65535) → Parts t′ o r p (set n at x)
+numbered-in {t} {n} at x h b e =
+    let m : min x 65535 ≡ x = omega arith in
+    let q = number-stored t at x in
+    rw (e, m) (record { order = q .order ∙ b .order; rows = q .rows ∙ b .rows; params = q .params ∙ b .params; number = q .number ∙ ap (λ (z : List ℕ). set z at x) (b .number) })
 
 -- a name that stands before a write
 module _ (s : List ℕ) (q end : ℕ) (p : List ℕ) (h : q + 1 + getD s q 0 ≤ end) where

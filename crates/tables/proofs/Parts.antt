@@ -1,92 +1,96 @@
--- A part of the sheet was lent and is back: it is as it was handed back, and the others are as they were.
+-- A number more in one part of the sheet, and the lengths of the parts.
 -- Assumes nothing.
 use mathlib.Core.Path.{_≡_, refl, sym, ap, _∙_}
-use mathlib.Core.List.{List, [], _++_, append-nil}
-use Prim.Native.Nat.{ℕ, _+_, _-_, _≤_}
+use mathlib.Core.List.{List, [], _∷_}
+use Prim.Native.Nat.{ℕ, zero, suc, _+_, _-_, _≤_, _<_, min}
 use native.Mathlib.Omega.{arith}
-use lib.ListN.{length, take, drop, length-take, length-drop, take-append-drop, drop-of-length-le}
-use lib.Seq.{take-at, drop-at, drop-drop, length-take-le, take-append-le, drop-append-le}
-use borrow.Rule.Slice.PartMut.{putMid, mid-len, drop-put}
-use Rattle.tables.specs.Parts.{orderIn, rowsIn, paramsIn, numberIn, Parts}
+use lib.ListN.{length, take, drop, set, length-take, length-drop}
+use lib.Seq.{drop-drop, take-take, take-nil, take-all, take-set-le, take-set-lt, drop-set-add, drop-set-lt, set-out, length-take-le}
+use Rattle.tables.specs.Parts.{orderIn, rowsIn, paramsIn, numberIn, Parts, StoredIn}
 
--- ---- the part of a table from a up to e
-left : (m b : ℕ) (xs ys : List ℕ) → b + m ≤ length xs → take m (drop b (xs ++ ys)) ≡ take m (drop b xs)
-left m b xs ys h = rw (drop-append-le b xs ys (omega arith)) (take-append-le m (drop b xs) ys (simp length-drop (omega arith)))
+-- ---- the part of any table from a on, n long
+module _ (t : List ℕ) (a n i x : ℕ) where
+  -- past the part's end, or the table's, nothing is stored
+  pub stored-out : length (take n (drop a t)) ≤ i → StoredIn t a n i x t
+  stored-out h = record { part = sym (set-out (take n (drop a t)) i x h); before = refl; behind = refl }
 
-module _ (a e : ℕ) (t p : List ℕ) (h : a ≤ e) (g : e ≤ length t) where
-  from : drop a (putMid a (e - a) t p) ≡ p ++ drop (e - a) (drop a t)
-  from = drop-at (take a t) (p ++ drop (e - a) (drop a t)) a (length-take-le a t (omega arith))
-
-  before : (m b : ℕ) → b + m ≤ a → take m (drop b (putMid a (e - a) t p)) ≡ take m (drop b t)
-  before m b k =
-      let l : b + m ≤ length (take a t) = simp length-take (omega arith) in
-      left m b (take a t) (p ++ drop (e - a) (drop a t)) l ∙ sym (left m b (take a t) (drop a t) l) ∙ ap (λ (z : List ℕ). take m (drop b z)) (take-append-drop a t)
-
-  module _ (l : length p ≡ e - a) where
-    written : take (e - a) (drop a (putMid a (e - a) t p)) ≡ p
-    written = rw from (take-at p (drop (e - a) (drop a t)) (e - a) l)
-
-    behind : (b : ℕ) → e ≤ b → drop b (putMid a (e - a) t p) ≡ drop b t
-    behind b k =
-        let w : e + (b - e) ≡ b = omega arith in
-        ap (λ (n : ℕ). drop n (putMid a (e - a) t p)) (sym w) ∙ sym (drop-drop (b - e) e (putMid a (e - a) t p)) ∙ ap (λ (z : List ℕ). drop (b - e) z) (drop-put a e t p h g l)
-        ∙ drop-drop (b - e) e t ∙ ap (λ (n : ℕ). drop n t) w
-
--- ---- each of the four
-module _ (t p : List ℕ) where
-  pub order-back : 512 ≤ length t → length p ≡ length (orderIn t) → Parts (p ++ drop 512 t) p (rowsIn t) (paramsIn t) (numberIn t)
-  unfolding orderIn rowsIn paramsIn numberIn
-  order-back g e =
-      let l = e ∙ mid-len 0 512 t g in
-      record {
-        order = written 0 512 t p (omega arith) g l;
-        rows = ap (λ (z : List ℕ). take 2560 z) (behind 0 512 t p (omega arith) g l 512 (omega arith));
-        params = ap (λ (z : List ℕ). take 13108 z) (behind 0 512 t p (omega arith) g l 3072 (omega arith));
-        number = behind 0 512 t p (omega arith) g l 16180 (omega arith);
-      }
-
-  pub rows-back : 3072 ≤ length t → length p ≡ length (rowsIn t) → Parts (putMid 512 2560 t p) (orderIn t) p (paramsIn t) (numberIn t)
-  unfolding orderIn rowsIn paramsIn numberIn
-  rows-back g e =
-      let l = e ∙ mid-len 512 3072 t g in
-      record {
-        order = before 512 3072 t p (omega arith) g 512 0 (omega arith);
-        rows = written 512 3072 t p (omega arith) g l;
-        params = ap (λ (z : List ℕ). take 13108 z) (behind 512 3072 t p (omega arith) g l 3072 (omega arith));
-        number = behind 512 3072 t p (omega arith) g l 16180 (omega arith);
-      }
-
-  pub params-back : 16180 ≤ length t → length p ≡ length (paramsIn t) → Parts (putMid 3072 13108 t p) (orderIn t) (rowsIn t) p (numberIn t)
-  unfolding orderIn rowsIn paramsIn numberIn
-  params-back g e =
-      let l = e ∙ mid-len 3072 16180 t g in
-      record {
-        order = before 3072 16180 t p (omega arith) g 512 0 (omega arith);
-        rows = before 3072 16180 t p (omega arith) g 2560 512 (omega arith);
-        params = written 3072 16180 t p (omega arith) g l;
-        number = behind 3072 16180 t p (omega arith) g l 16180 (omega arith);
-      }
-
-  pub number-back : 16180 ≤ length t → Parts (putMid 16180 (length t - 16180) t p) (orderIn t) (rowsIn t) (paramsIn t) p
-  unfolding orderIn rowsIn paramsIn numberIn
-  number-back g = record {
-    order = before 16180 (length t) t p g (omega arith) 512 0 (omega arith);
-    rows = before 16180 (length t) t p g (omega arith) 2560 512 (omega arith);
-    params = before 16180 (length t) t p g (omega arith) 13108 3072 (omega arith);
-    number =
-        let none : drop (length t - 16180) (drop 16180 t) ≡ [] = drop-of-length-le (drop 16180 t) {i = length t - 16180} (simp length-drop (omega arith)) in
-        from 16180 (length t) t p g (omega arith) ∙ (rw none (append-nil p));
+  pub stored-in : i < n → StoredIn t a n i x (set t (a + i) x)
+  stored-in h = record {
+    part = rw (drop-set-add a t i x) (take-set-lt n (drop a t) i x h);
+    before = take-set-le a t (a + i) x (omega arith);
+    behind = drop-set-lt (a + n) t (a + i) x (omega arith);
   }
 
--- how long the parts of a long table are, and a table with a long part
+cut : (b m : ℕ) (t : List ℕ) → take m (drop b t) ≡ drop b (take (b + m) t)
+cut zero m t = let e : 0 + m ≡ m = omega arith in rw e
+cut (suc b) m [] = let e : suc b + m ≡ suc (b + m) = omega arith in rw e (take-nil m)
+cut (suc b) m (y ∷ t) = let e : suc b + m ≡ suc (b + m) = omega arith in rw e (cut b m t)
+
+-- a part before it, and what stands behind it
+module _ {t : List ℕ} {a n i x : ℕ} {t′ : List ℕ} (s : StoredIn t a n i x t′) where
+  front : (b : ℕ) → b ≤ a → take b t′ ≡ take b t
+  front b h = sym (take-take b a t′ h) ∙ ap (λ (z : List ℕ). take b z) (s .before) ∙ take-take b a t h
+
+  rest : (b : ℕ) → a + n ≤ b → drop b t′ ≡ drop b t
+  rest b h =
+      let e : a + n + (b - (a + n)) ≡ b = omega arith in
+      ap (λ (k : ℕ). drop k t′) (sym e) ∙ sym (drop-drop (b - (a + n)) (a + n) t′) ∙ ap (λ (z : List ℕ). drop (b - (a + n)) z) (s .behind) ∙ drop-drop (b - (a + n)) (a + n) t
+      ∙ ap (λ (k : ℕ). drop k t) e
+
+  taken : (b m : ℕ) → b + m ≤ a → take m (drop b t′) ≡ take m (drop b t)
+  taken b m h = cut b m t′ ∙ ap (λ (z : List ℕ). drop b z) (front (b + m) h) ∙ sym (cut b m t)
+
+-- ---- each of the four
+module _ {t : List ℕ} {i x : ℕ} {t′ : List ℕ} where
+  pub order-stored : StoredIn t 0 512 i x t′ → Parts t′ (set (orderIn t) i x) (rowsIn t) (paramsIn t) (numberIn t)
+  unfolding orderIn rowsIn paramsIn numberIn
+  order-stored s = record {
+    order = s .part;
+    rows = ap (λ (z : List ℕ). take 2560 z) (rest s 512 (omega arith));
+    params = ap (λ (z : List ℕ). take 13108 z) (rest s 3072 (omega arith));
+    number = rest s 16180 (omega arith);
+  }
+
+  pub rows-stored : StoredIn t 512 2560 i x t′ → Parts t′ (orderIn t) (set (rowsIn t) i x) (paramsIn t) (numberIn t)
+  unfolding orderIn rowsIn paramsIn numberIn
+  rows-stored s = record {
+    order = front s 512 (omega arith);
+    rows = s .part;
+    params = ap (λ (z : List ℕ). take 13108 z) (rest s 3072 (omega arith));
+    number = rest s 16180 (omega arith);
+  }
+
+  pub params-stored : StoredIn t 3072 13108 i x t′ → Parts t′ (orderIn t) (rowsIn t) (set (paramsIn t) i x) (numberIn t)
+  unfolding orderIn rowsIn paramsIn numberIn
+  params-stored s = record {
+    order = front s 512 (omega arith);
+    rows = taken s 512 2560 (omega arith);
+    params = s .part;
+    number = rest s 16180 (omega arith);
+  }
+
+-- the last part has no end but the table's
+pub number-stored : (t : List ℕ) (i x : ℕ) → Parts (set t (16180 + i) x) (orderIn t) (rowsIn t) (paramsIn t) (set (numberIn t) i x)
+unfolding orderIn rowsIn paramsIn numberIn
+number-stored t i x =
+    let s = stored-in t 16180 (i + 1) i x (omega arith) in
+    record {
+      order = front s 512 (omega arith);
+      rows = taken s 512 2560 (omega arith);
+      params = taken s 3072 13108 (omega arith);
+      number = drop-set-add 16180 t i x;
+    }
+
+-- ---- how long the parts of a long table are, and how the last one is lent
 pub part-lengths : (t : List ℕ) → 16180 ≤ length t → (length (orderIn t) ≡ 512) × (length (rowsIn t) ≡ 2560) × (length (paramsIn t) ≡ 13108) × (length (numberIn t) ≡ length t - 16180)
 unfolding orderIn rowsIn paramsIn numberIn
-part-lengths t h = (mid-len 0 512 t (omega arith), mid-len 512 3072 t (omega arith), mid-len 3072 16180 t h, length-drop 16180 t)
+part-lengths t h = (
+  length-take-le 512 t (omega arith),
+  length-take-le 2560 (drop 512 t) (simp length-drop (omega arith)),
+  length-take-le 13108 (drop 3072 t) (simp length-drop (omega arith)),
+  length-drop 16180 t,
+)
 
-pub order-long : (t : List ℕ) → 512 ≤ length (orderIn t) → 512 ≤ length t
-unfolding orderIn
-order-long t h = omega (arith, rw (length-take 512 t) at h)
-
-pub params-long : (t : List ℕ) → 13108 ≤ length (paramsIn t) → 16180 ≤ length t
-unfolding paramsIn
-params-long t h = omega (arith, rw (length-take 13108 (drop 3072 t), length-drop 3072 t) at h)
+pub number-lent : (t : List ℕ) → take (length t - 16180) (drop 16180 t) ≡ numberIn t
+unfolding numberIn
+number-lent t = take-all (length t - 16180) (drop 16180 t) (simp length-drop (omega arith))

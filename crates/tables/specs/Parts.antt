@@ -1,9 +1,9 @@
--- The naming pass's sheet: `order`, `rows`, `params` and `number` (Rows.antt) one behind the other in one table.
--- A call that hands down four tables where one would do costs the checker more than all else in it.
+-- The naming pass's sheet: `order`, `rows`, `params` and `number` (Rows.antt) one behind the other in one table. Each table that a call hands down
+-- to be written costs the checker seconds, with the cube of their count.
 use mathlib.Core.Path.{_≡_}
 use mathlib.Core.List.{List}
-use Prim.Native.Nat.{ℕ}
-use lib.ListN.{take, drop}
+use Prim.Native.Nat.{ℕ, _+_}
+use lib.ListN.{take, drop, set}
 
 -- a number for each of 512 lifts
 unfoldable pub orderIn : List ℕ → List ℕ
@@ -27,3 +27,9 @@ pub record Parts (t o r p n : List ℕ) : Type 0 where
   pub rows : rowsIn t ≡ r
   pub params : paramsIn t ≡ p
   pub number : numberIn t ≡ n
+
+-- the part of n numbers from a on has x at i, as far as it reaches; what stands before it and behind it is as it was
+pub record StoredIn (t : List ℕ) (a n i x : ℕ) (t′ : List ℕ) : Type 0 where
+  pub part : take n (drop a t′) ≡ set (take n (drop a t)) i x
+  pub before : take a t′ ≡ take a t
+  pub behind : drop (a + n) t′ ≡ drop (a + n) t

@@ -1,12 +1,11 @@
 -- `lift::add_row` meets its contract.
 -- Assumes nothing.
-use mathlib.Core.Path.{refl, _∙_}
+use mathlib.Core.Path.{refl}
 use Prim.Native.Nat.{_+_}
 use native.Mathlib.Omega.{arith}
 use lib.ListN.{length-take}
 use borrow.Author.Needs.{needs}
-use Rattle.tables.specs.Parts.{rowsIn}
-use Rattle.lift.proofs.Rows.{both-back, numbered-back}
+use Rattle.lift.proofs.Rows.{numbered-in}
 use Rattle.lift.proofs.add_row.Statement.{statement}
 use Rattle.lift.proofs.add_row.Tie as tie
 
@@ -22,17 +21,12 @@ take-name-requires c κs =
     (simp length-take (omega arith), simp length-take (omega arith), p .5, omega arith, omega arith, omega arith)
 
 returns : tie.Need-returns
-unfolding rowsIn
 returns c =
     let s = c .before .before .before .before .before .before .before .before .before .before .before .before .before .before .before .before .before .before .before .before .before .before .before .before .before .before .before .before in
-    let t = s .args .sheet .now in
-    let p = c .before .before .before .before .before .before .before .before .before .before .before .before .before .before .before .before .before .before .before .before .put-row .last .0 in
-    let q = c .before .before .before .before .before .before .before .before .before .before .before .before .before .before .before .before .store .last .0 in
-    let l = c .before .before .before .before .before .before .before .before .before .before .before .before .before .before .before .before .before .before .before .sheet .given .0 in
-    let b = both-back t p q (s .pre .13) l in (
+    let b = numbered-in (s .args .at) (s .args .w .lifts + 1) (omega arith) (c .before .before .before .before .before .before .before .before .before .before .before .before .before .before .before .before .before .before .before .before .put-row .ensures) (c .before .before .before .before .before .before .before .before .before .before .before .before .before .before .before .before .store .ensures) in (
       record {
-        row = b .rows ∙ c .before .before .before .before .before .before .before .before .before .before .before .before .before .before .before .before .before .before .before .before .put-row .ensures;
-        numbered = numbered-back t p q (s .pre .13) l (s .args .at) (s .args .w .lifts + 1) (omega arith) (c .before .before .before .before .before .before .before .before .before .before .before .before .before .before .before .before .store .ensures);
+        row = b .rows;
+        numbered = b .number;
         took = c .before .before .before .before .before .before .before .before .take-name .ensures;
         counted = (refl, refl, refl, refl, refl);
       },
@@ -44,12 +38,7 @@ pub add-row-spec : {M : Type 1} → statement M
 add-row-spec =
     tie.close
     (tie.spec
-    (λ c. search needs)
-    (λ c. search needs)
-    (λ c. search needs)
     put-row-requires
-    (λ c. search needs)
-    (λ c. search needs)
     (λ c. search needs)
     (λ c. search needs)
     (λ c κs. search needs)
