@@ -17,18 +17,20 @@ use Rattle.definition.specs.Tree.{Name}
 use Rattle.lookup.specs.Name.{nameAt}
 use Rattle.writer.specs.Buf.{put, nameBytes}
 use Rattle.writer.proofs.Put.{length-put, getD-put-at}
+use Rattle.lifting.specs.Calls.{namesRoom}
 use Rattle.uses.specs.Uses.{namesIn}
 use Rattle.tables.specs.Rows.{Row, rowAt, rowsOf, namesFrom, typesFrom}
 use Rattle.tables.specs.Parts.{orderIn, rowsIn, paramsIn, numberIn, Parts}
 use Rattle.tables.proofs.Params.{Same}
 use Rattle.taken.specs.Taken.{both, taken, Table, Hints, Packed, Grown, Took}
+use Rattle.taken.proofs.Take.{byte-before}
 use Rattle.lift.specs.declared.Counts.{Counts}
 use Rattle.lift.specs.declared.Lifted.{Lifted}
 use Rattle.lift.specs.declared.Lifted.the-variants.{Made, Refused}
-use Rattle.lift.specs.Bound.{Bound, typeOf, bindersOf, namesSize, typesSize, Filled, Within}
+use Rattle.lift.specs.Bound.{Bound, typeOf, bindersOf, typesSize, Filled, Within}
 use Rattle.lift.specs.Sheet.{Sheet, callSize, headSize, entered, fits, enterWith, sheetOf, RowIn, Tables, withRow, Gives}
 use Rattle.lift.specs.Enters.{Adds, Enters}
-use Rattle.lift.proofs.Rows.{row-length, row-before, row-at, row-end, row-name, row-first, row-count, byte-before, rows-kept, name-taken}
+use Rattle.lift.proofs.Rows.{row-length, row-before, row-at, row-end, row-name, row-first, row-count, rows-kept, name-taken}
 
 fits-ok : (t : Sheet) → t .bytes ≤ 16384 → t .defns ≤ 512 → fits t ≡ ok tt t
 unfolding fits
@@ -53,7 +55,7 @@ module _ {s : List ℕ} {at end : ℕ} {n : Name} {ns : List Name} {env : List B
   refused-binder e = record { gives = λ finished. rw e refl }
 
   module _ (bs : List Bound) (all : bindersOf env ns ≡ just bs) where
-    pub refused-bytes : 16384 < w .bytes + 6 + (length n + 3 + namesSize ns + typesSize bs) + (length n + namesSize ns + 5)
+    pub refused-bytes : 16384 < w .bytes + 6 + (length n + 3 + namesRoom ns + typesSize bs) + (length n + namesRoom ns + 5)
         → Enters s at end n ns env made places rows params number w made′ places′ hashes′ hints′ rows′ params′ number′ (Refused 10)
     unfolding Gives enterWith number entered callSize headSize sheetOf
     refused-bytes h = record { gives = λ finished. rw (all, fits-bytes (entered at end n ns bs (sheetOf s made places rows params finished w)) h) refl }

@@ -20,6 +20,7 @@ use Rattle.tables.specs.Parts.{Parts}
 use Rattle.tables.proofs.Params.{Same, names-kept, types-kept}
 use Rattle.tables.proofs.Parts.{number-stored}
 use Rattle.taken.specs.Taken.{both, row, taken, Took}
+use Rattle.taken.proofs.Take.{made-place, byte-before, name-before}
 use Rattle.lift.specs.declared.Counts.{Counts}
 use Rattle.lift.specs.Sheet.{RowIn, withRow}
 
@@ -96,15 +97,6 @@ numbered-in {t} {n} at x h b e =
     let q = number-stored t at x in
     rw (e, m) (record { order = q .order ∙ b .order; rows = q .rows ∙ b .rows; params = q .params ∙ b .params; number = q .number ∙ ap (λ (z : List ℕ). set z at x) (b .number) })
 
--- a name that stands before a write
-module _ (s : List ℕ) (q end : ℕ) (p : List ℕ) (h : q + 1 + getD s q 0 ≤ end) where
-  pub byte-before : getD (put s end p) q 0 ≡ getD s q 0
-  byte-before = getD-put-before s end p q (omega arith)
-
-  pub name-before : nameAt (put s end p) q ≡ nameAt s q
-  unfolding nameAt
-  name-before = rw byte-before (part-put-before (q + 1) (getD s q 0) s end p h)
-
 -- a row before the new one says the same
 module _ (s made rows params made′ rows′ params′ : List ℕ) (w : Counts) (x : List ℕ) (em : made′ ≡ put made (w .end) x) (er : Same (5 * w .lifts) rows′ rows) (ep : Same (4 * w .params) params′ params) where
   row-kept : (i : ℕ) → i < w .lifts → RowIn made rows w i → rowAt s made′ rows′ params′ i ≡ rowAt s made rows params i
@@ -127,10 +119,6 @@ module _ (s made rows params made′ rows′ params′ : List ℕ) (w : Counts) 
   unfolding rowsOf
   rows-kept zero h r = refl
   rows-kept (suc n) h r = rw (rows-kept n (omega arith) r, row-kept n (omega arith) (r n (omega arith)))
-
-made-place : (at : ℕ) → placeOf (32768 + at) ≡ Made at
-unfolding placeOf
-made-place at = rw (le-ltb (32768 + at) 32768 (omega arith)) (ap Made (omega arith))
 
 -- the name that was taken stands where its row says
 pub name-taken : (book : List ℕ) {n : Name} {made places hashes hints made′ places′ hashes′ hints′ : List ℕ} {end k r : ℕ} → Took n made end places hashes hints k made′ places′ hashes′ hints′ r → k < length places

@@ -10,9 +10,10 @@ use Rattle.definition.specs.Code.{number, leftover-macro, name-long, no-binder,
 use Rattle.definition.specs.Res.{Maybe, absent, just, Res, bad, ok, _>>=_, require}
 use Rattle.definition.specs.Tree.{Name}
 use Rattle.definition.specs.Names.{fresh}
+use Rattle.lifting.specs.Calls.{namesRoom}
 use Rattle.taken.specs.Taken.{both, taken, Table, Hints, Packed}
 use Rattle.tables.specs.Rows.{Row, rowsOf}
-use Rattle.lift.specs.Bound.{Bound, typeOf, bindersOf, namesSize, typesSize}
+use Rattle.lift.specs.Bound.{Bound, typeOf, bindersOf, typesSize}
 use Rattle.lift.specs.declared.Counts.{Counts}
 use Rattle.lift.specs.declared.Lifted.{Lifted}
 use Rattle.lift.specs.declared.Lifted.the-variants.{Made, Refused}
@@ -27,10 +28,10 @@ pub record Sheet : Type 0 where
 
 -- a call: tag, name, count, arguments, and the byte that says that no chain follows; a definition up to its combinator: name, count, parameters
 unfoldable pub callSize : Name → List Name → ℕ
-callSize n ns = length n + namesSize ns + 5
+callSize n ns = length n + namesRoom ns + 5
 
 unfoldable pub headSize : Name → List Name → List Bound → ℕ
-headSize n ns bs = length n + 3 + namesSize ns + typesSize bs
+headSize n ns bs = length n + 3 + namesRoom ns + typesSize bs
 
 -- "for each lift so far, 6 bytes of contents, the new body and the call, less the combinator moved"
 unfoldable pub entered : ℕ → ℕ → Name → List Name → List Bound → Sheet → Sheet
