@@ -1,6 +1,6 @@
 -- `lift::add_row` meets its contract.
 -- Assumes nothing.
-use mathlib.Core.Path.{refl}
+use mathlib.Core.Path.{refl, _∙_}
 use Prim.Native.Nat.{_+_}
 use native.Mathlib.Omega.{arith}
 use lib.ListN.{length-take}
@@ -19,6 +19,21 @@ take-name-requires : tie.Need-take-name-requires
 take-name-requires c κs =
     let p = c .before .before .before .before .before .before .before .before .before .before .before .before .before .before .before .before .before .before .before .pre in
     (simp length-take (omega arith), simp length-take (omega arith), p .5, omega arith, omega arith, omega arith)
+
+same : tie.Need-same-length
+same c = c .before .before .before .before .before .before .before .made .given
+
+same-2 : tie.Need-same-length-2
+same-2 c = c .before .before .before .before .before .places .given
+
+same-3 : tie.Need-same-length-3
+same-3 c = c .before .before .before .hashes .given
+
+same-4 : tie.Need-same-length-4
+same-4 c = c .before .hints .given
+
+same-5 : tie.Need-same-length-5
+same-5 c = c .before .before .before .before .before .before .before .before .before .before .before .before .before .before .before .sheet2 .given ∙ c .before .before .before .before .before .before .before .before .before .before .before .before .before .before .before .before .before .before .before .sheet .given
 
 returns : tie.Need-returns
 returns c =
@@ -48,9 +63,9 @@ add-row-spec =
     (λ c. search needs)
     (λ c. search needs)
     (λ c. search needs)
-    (λ c. search needs)
-    (λ c. search needs)
-    (λ c. search needs)
-    (λ c. search needs)
-    (λ c. search needs)
+    same
+    same-2
+    same-3
+    same-4
+    same-5
     returns)

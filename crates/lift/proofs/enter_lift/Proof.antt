@@ -31,6 +31,30 @@ add-bytes-5 c = let b = builds-all _ (c .before .before .before .before .before 
 add-bytes-6 : tie.Need-add-bytes-6
 add-bytes-6 c = let b = builds-all _ (c .before .before .before .before .before .before .build-param-defns .ensures .0) (c .before .before .built .given .1) .1 in let p = c .before .before .before .before .before .before .before .before .before .before .before .before .before .before .before .before .before .pre in omega (arith, p .6, p .4, p .0 .bytes-most)
 
+same : tie.Need-same-length
+same c = c .before .before .before .before .before .before .sheet .given
+
+same-2 : tie.Need-same-length-2
+same-2 c = c .before .before .before .before .before .before .before .sheet .given
+
+same-3 : tie.Need-same-length-3
+same-3 c = c .before .before .before .sheet .given
+
+same-4 : tie.Need-same-length-4
+same-4 c = c .before .before .before .before .before .before .before .before .before .made .given
+
+same-5 : tie.Need-same-length-5
+same-5 c = c .before .before .before .before .before .before .before .places .given
+
+same-6 : tie.Need-same-length-6
+same-6 c = c .before .before .before .before .before .hashes .given
+
+same-7 : tie.Need-same-length-7
+same-7 c = c .before .before .before .hints .given
+
+same-8 : tie.Need-same-length-8
+same-8 c = c .before .sheet2 .given ∙ c .before .before .before .before .before .before .before .before .before .before .before .before .before .before .before .before .before .before .before .before .before .before .before .sheet .given
+
 returns : tie.Need-returns
 returns c =
     let s = c .before .before .before .before .before .before .before .before .before .before .before .before .before .before .before .before .before .before in
@@ -65,9 +89,6 @@ returns-4 c =
     let a = c .before .before .before .before .before .before .before .before .before .before .add-row .ensures in
     (rw e at (made-in-parts (s .args .sheet .now) (c .before .before .before .before .before .before .before .before .before .before .before .before .before .before .before .before .before .before .before .before .before .before .before .before .build-param-defns .last .1 .1 .1 .1 .1 .0) (c .before .before .before .before .before .before .before .before .before .before .add-row .last .1 .1 .1 .1 .1 .1 .1 .1 .1 .0) k (a .2) (p .0) (b .0) (b .1) (omega (arith, p .4)) (s .args .w .bytes + 6 + (s .args .n + 3 + m .0 + m .1 .0) + (s .args .n + m .0 + 5)) (omega arith) (c .before .before .before .before .before .before .before .before .before .before .before .before .before .before .before .before .before .if1 .left) (omega (arith, c .before .before .before .before .before .before .before .before .before .before .before .before .before .before .before .before .if2 .left)) (a .0)), a .1 ∙ k .order)
 
-same-sheet : tie.Need-same-length-8
-same-sheet c = c .before .sheet2 .given ∙ c .before .before .before .before .before .before .before .before .before .before .before .before .before .before .before .before .before .before .before .before .before .before .before .sheet .given
-
 pub enter-lift-spec : {M : Type 1} → statement M
 enter-lift-spec =
     tie.close
@@ -83,16 +104,16 @@ enter-lift-spec =
     add-bytes-4
     add-bytes-5
     add-bytes-6
-    (λ c. search needs)
+    same
     returns
-    (λ c. search needs)
+    same-2
     returns-2
     add-row-requires
-    (λ c. search needs)
+    same-3
     returns-3
-    (λ c. search needs)
-    (λ c. search needs)
-    (λ c. search needs)
-    (λ c. search needs)
-    same-sheet
+    same-4
+    same-5
+    same-6
+    same-7
+    same-8
     returns-4)
