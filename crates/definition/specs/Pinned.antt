@@ -7,7 +7,7 @@ use lib.ListN.{length, replicate}
 use Rattle.definition.specs.Utf8.{utf8}
 use Rattle.definition.specs.Code.{number}
 use Rattle.definition.specs.Res.{Res, bad, ok}
-use Rattle.definition.specs.Tree.{Name, leaf, enum, struct, none, by, enums, ints, arrays, choice, invocation, no-field, const, no-case, Inner, Combinator, plain, chained, Definition, format, constant, byte-order}
+use Rattle.definition.specs.Tree.{leaf, enum, struct, none, by, enums, ints, arrays, choice, invocation, no-field, const, no-case, Inner, Combinator, plain, chained, Definition, format, constant, byte-order}
 use Rattle.definition.specs.Contents.{readBook}
 use Rattle.definition.specs.Write.{wBook}
 use Rattle.definition.specs.Answer.{Answer, answer, output, place}

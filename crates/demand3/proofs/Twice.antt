@@ -13,7 +13,7 @@ use Rattle.definition.specs.Contents.{book}
 use Rattle.definition.specs.Write.{wBook}
 use Rattle.definition.specs.Size.{sizeBook, levelsBook}
 use Rattle.definition.specs.Names.{child, segment, caseSegment, shellSegment}
-use Rattle.definition.specs.Macros.{Macro, macros, expand, expandAll, expandList, expandBook}
+use Rattle.definition.specs.Macros.{Macro, macros, expandAll, expandList, expandBook}
 use Rattle.definition.specs.Collect.{anonymousLeaf, anonymous, anonymousI}
 use Rattle.definition.specs.Lift.{full, State, Walk, childBy, bind, walk, walkI, walkF, walkC, walkAll, start, liftBook}
 use Rattle.definition.specs.Answer.{Result, all, out, outcome, source, expanded, elaborated, answered, attempt, answer}

@@ -1,20 +1,17 @@
 -- The naming pass over one definition.
 use mathlib.Core.Path.{_≡_}
 use mathlib.Core.List.{List, [], _∷_}
-use Prim.Native.Nat.{ℕ, _+_, _≤_}
+use Prim.Native.Nat.{ℕ, _≤_}
 use lib.ListN.{length, take}
 use Rattle.definition.specs.Res.{Res}
 use Rattle.definition.specs.Tree.{Name, Combinator, Param, Definition, format}
 use Rattle.definition.specs.Write.{wDefinition, kindOf, kindByte}
 use Rattle.definition.specs.Size.{levels, levelsP, levelsBook}
-use Rattle.laws.proofs.Sizes.{head}
 use Rattle.seek.specs.Here.{Here}
-use Rattle.lifting.specs.Trace.{paramsAt}
 use Rattle.lift.specs.declared.Counts.{Counts}
 use Rattle.lift.specs.Sheet.{Sheet, sheetOf}
-use Rattle.naming.specs.Walk.{walk}
 use Rattle.naming.specs.Lifts.{Scratch}
-use Rattle.walked.specs.Book.{ownBound, walkAll}
+use Rattle.walked.specs.Book.{walkAll}
 use Rattle.body.specs.declared.Body.{Body}
 use Rattle.steps.specs.Good.{Good}
 use Rattle.body.specs.Walks.{Ends}

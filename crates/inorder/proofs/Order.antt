@@ -20,7 +20,7 @@ use Rattle.lifting.specs.After.{firstAt}
 use Rattle.lifting.specs.Trace.{paramsAt}
 use Rattle.lift.specs.declared.Counts.{Counts}
 use Rattle.lift.specs.Sheet.{Sheet, sheetOf}
-use Rattle.naming.specs.Walk.{Extent, walk}
+use Rattle.naming.specs.Walk.{walk}
 use Rattle.walked.specs.Book.{ownBound, walkAll}
 use Rattle.body.specs.declared.Body.the-variants.{Named, Refused}
 use Rattle.steps.specs.Good.{Good}

@@ -4,31 +4,29 @@ use mathlib.Core.Path.{_≡_, refl, sym, ap, _∙_}
 use mathlib.Core.Logic.{⊎-elim}
 use mathlib.Core.Bool.{true, false, _&&_}
 use mathlib.Core.List.{List, [], _∷_, _++_, map}
-use Prim.Native.Nat.{ℕ, zero, suc, _+_, _-_, _*_, _%_, _≤_, _<_}
+use Prim.Native.Nat.{ℕ, _+_, _-_, _*_, _%_, _≤_, _<_}
 use native.Mathlib.Omega.{arith}
 use native.Mathlib.Nat.{eq-or-lt-of-le}
 use native.Mathlib.Numerals.{add-one}
 use lib.Dec.{leb}
-use lib.ListN.{length, take, getD, set, length-set, length-take}
+use lib.ListN.{length, take, getD, length-set, length-take}
 use borrow.Author.Tests.{le-leb, lt-leb}
-use Rattle.definition.specs.Code.{number, no-binder, result-long}
-use Rattle.definition.specs.Res.{Maybe, absent, just, Res, bad, ok, _>>=_, require}
+use Rattle.definition.specs.Code.{number, result-long}
+use Rattle.definition.specs.Res.{absent, just, bad, ok}
 use Rattle.definition.specs.Tree.{Name}
-use Rattle.lookup.specs.Name.{nameAt}
 use Rattle.writer.specs.Buf.{put, nameBytes}
 use Rattle.writer.proofs.Put.{length-put, getD-put-at}
 use Rattle.lifting.specs.Calls.{namesRoom}
 use Rattle.uses.specs.Uses.{namesIn}
-use Rattle.tables.specs.Rows.{Row, rowAt, rowsOf, namesFrom, typesFrom}
+use Rattle.tables.specs.Rows.{Row, rowAt, rowsOf}
 use Rattle.tables.specs.Parts.{orderIn, rowsIn, paramsIn, numberIn, Parts}
 use Rattle.tables.proofs.Params.{Same}
-use Rattle.taken.specs.Taken.{both, taken, Table, Hints, Packed, Grown, Took}
+use Rattle.taken.specs.Taken.{both, taken, Grown, Took}
 use Rattle.taken.proofs.Take.{byte-before}
 use Rattle.lift.specs.declared.Counts.{Counts}
-use Rattle.lift.specs.declared.Lifted.{Lifted}
 use Rattle.lift.specs.declared.Lifted.the-variants.{Made, Refused}
 use Rattle.lift.specs.Bound.{Bound, typeOf, bindersOf, typesSize, Filled, Within}
-use Rattle.lift.specs.Sheet.{Sheet, callSize, headSize, entered, fits, enterWith, sheetOf, RowIn, Tables, withRow, Gives}
+use Rattle.lift.specs.Sheet.{Sheet, callSize, headSize, entered, fits, enterWith, sheetOf, RowIn, Tables, Gives}
 use Rattle.lift.specs.Enters.{Adds, Enters}
 use Rattle.lift.proofs.Rows.{row-length, row-before, row-at, row-end, row-name, row-first, row-count, rows-kept, name-taken}
 

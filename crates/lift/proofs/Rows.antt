@@ -1,26 +1,21 @@
 -- Rows one by one: what a row more leaves, and what it says.
 -- Assumes nothing.
-use mathlib.Core.Path.{_≡_, refl, sym, ap, _∙_}
-use mathlib.Core.List.{List, [], _∷_, _++_}
+use mathlib.Core.Path.{_≡_, refl, ap, _∙_}
+use mathlib.Core.List.{List, _∷_}
 use Prim.Native.Nat.{ℕ, zero, suc, _+_, _-_, _*_, _≤_, _<_, min}
 use native.Mathlib.Omega.{arith}
-use native.Mathlib.Nat.{eq-or-lt-of-le}
 use native.Mathlib.Numerals.{add-one}
-use mathlib.Core.Logic.{⊎-elim}
-use lib.ListN.{length, take, drop, getD, set, length-set}
+use lib.ListN.{length, getD, set, length-set}
 use lib.Seq.{getD-set-same, getD-set-other}
-use borrow.Author.Tests.{le-ltb}
 use Rattle.definition.specs.Tree.{Name}
-use Rattle.lookup.specs.declared.Place.the-variants.{Made}
 use Rattle.lookup.specs.Name.{nameAt, nameOf, placeOf}
-use Rattle.writer.specs.Buf.{put, nameBytes}
-use Rattle.writer.proofs.Put.{length-put, part-put-before, getD-put-before}
-use Rattle.tables.specs.Rows.{Row, TypeAt, namesFrom, typesFrom, rowAt, rowsOf}
+use Rattle.writer.specs.Buf.{put}
+use Rattle.tables.specs.Rows.{rowAt, rowsOf}
 use Rattle.tables.specs.Parts.{Parts}
 use Rattle.tables.proofs.Params.{Same, names-kept, types-kept}
 use Rattle.tables.proofs.Parts.{number-stored}
 use Rattle.taken.specs.Taken.{both, row, taken, Took}
-use Rattle.taken.proofs.Take.{made-place, byte-before, name-before}
+use Rattle.taken.proofs.Take.{made-place, name-before}
 use Rattle.lift.specs.declared.Counts.{Counts}
 use Rattle.lift.specs.Sheet.{RowIn, withRow}
 

@@ -1,11 +1,11 @@
 -- Binders by place, as their records say (crate binders).
 -- Document 01: "the definition's own parameters, then the Dependent fields passed on the way, outermost first, types as they stand after lifting".
-use mathlib.Core.Bool.{Bool, true, false, cond}
-use mathlib.Core.List.{List, [], _∷_, _++_, map}
+use mathlib.Core.Bool.{cond}
+use mathlib.Core.List.{List, [], _∷_, map}
 use mathlib.Core.Path.{_≡_}
 use Prim.Native.Nat.{ℕ, zero, suc, _+_, _*_, _≤_, _<_}
 use lib.Dec.{eqb}
-use lib.ListN.{length, take, drop, getD}
+use lib.ListN.{length, take, getD}
 use Rattle.definition.specs.Res.{Maybe, absent, just}
 use Rattle.definition.specs.Tree.{Name}
 use Rattle.definition.specs.Names.{eqName}
@@ -14,7 +14,7 @@ use Rattle.lifting.specs.Calls.{namesRoom}
 use Rattle.tables.specs.Rows.{TypeAt, namesFrom, typesFrom}
 use Rattle.binders.specs.declared.Binder.{Binder}
 use Rattle.binders.specs.Row.{binderAt}
-use Rattle.uses.specs.Uses.{nameIn, namesIn}
+use Rattle.uses.specs.Uses.{namesIn}
 use Rattle.lift.specs.declared.Built.{Built}
 use Rattle.lift.specs.declared.Built.the-variants.{All, Missing}
 

@@ -7,7 +7,7 @@ use native.Mathlib.Omega.{arith}
 use lib.Dec.{leb}
 use lib.ListN.{length}
 use borrow.Author.Tests.{le-leb}
-use Rattle.definition.specs.Code.{work-short, output-short}
+use Rattle.definition.specs.Code.{output-short}
 use Rattle.definition.specs.Out.{Out, refused, done, _>>=_, given}
 use Rattle.definition.specs.Write.{wBook}
 use Rattle.definition.specs.Size.{sizeBook}

@@ -5,7 +5,7 @@ use Prim.Native.Nat.{ℕ, zero, suc, _+_, _-_, max}
 use Prim.Native.String.{String}
 use lib.ListN.{length, replicate}
 use Rattle.definition.specs.Utf8.{utf8}
-use Rattle.definition.specs.Tree.{Name, leaf, enum, struct, none, ints, choice, macro-invocation, Fields, no-field, no-case, no-inner, Combinator, plain, chained, Definition, format, constant, byte-order, macro}
+use Rattle.definition.specs.Tree.{Name, struct, none, ints, choice, macro-invocation, Fields, no-field, no-case, no-inner, Combinator, plain, chained, Definition, format, constant, byte-order, macro}
 use Rattle.definition.specs.Write.{wBook}
 use Rattle.definition.specs.Answer.{Answer, answer, output}
 use Rattle.definition.specs.Notation.{Int, Enum, Tail, Nothing, Bytes, Vec, Option, Array, Wrap, Call, ord, on, one, vecs, Macro, param, fmt, mac, m, long, fat}

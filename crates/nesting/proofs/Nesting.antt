@@ -7,17 +7,16 @@ use Prim.Native.Nat.{ℕ, _≤_}
 use native.Mathlib.Omega.{arith}
 use lib.Dec.{leb}
 use lib.ListN.{length, take}
-use Rattle.definition.specs.Code.{Code, number, work-short, output-short, macro-growth, macro-left}
-use Rattle.definition.specs.Out.{Out, refused, done, _>>=_, given}
+use Rattle.definition.specs.Code.{number, work-short, output-short, macro-growth, macro-left}
+use Rattle.definition.specs.Out.{Out, _>>=_, given}
 use Rattle.definition.specs.Tree.{Definition}
 use Rattle.definition.specs.Write.{wBook}
 use Rattle.definition.specs.Macros.{macros}
 use Rattle.definition.specs.Lift.{liftBook}
-use Rattle.definition.specs.Answer.{Result, all, outcome, source}
+use Rattle.definition.specs.Answer.{Result, all, outcome}
 use Rattle.laws.specs.Book.{Bytes}
 use Rattle.nested.specs.Nested.{again, expandedNested, attemptNested, answerNested, outputNested}
 use Rattle.opening.specs.declared.Opened.the-variants.{Book, Refused as Stopped}
-use Rattle.beginning.specs.Begins.{opened}
 use Rattle.opening.specs.Opens.{Opens}
 use Rattle.passes.specs.declared.Passes.{Passes}
 use Rattle.passes.specs.declared.Passes.the-variants.{Book as Last, Grown, Left}

@@ -11,7 +11,6 @@ use seek::byte;
 use seek::number;
 use seek::past;
 ghost use mathlib.Core.Path.{_≡_};
-ghost use Prim.Native.Nat.{_≤_};
 ghost use lib.ListN.{length};
 
 // How many answers were right and wrong, by code.

@@ -3,7 +3,7 @@
 use native.Mathlib.Omega.{arith}
 use lib.ListN.{length-take}
 use borrow.Author.Needs.{needs}
-use Rattle.tables.specs.Parts.{orderIn, rowsIn, paramsIn, numberIn}
+use Rattle.tables.specs.Parts.{orderIn, rowsIn, paramsIn}
 use Rattle.tables.proofs.Parts.{number-lent}
 use Rattle.closing.proofs.write_parts.Statement.{statement}
 use Rattle.closing.proofs.write_parts.Tie as tie

@@ -1,9 +1,8 @@
 -- `lift::enter_lift` meets its contract.
 -- Assumes nothing.
-use mathlib.Core.Path.{_≡_, refl, sym, ap, _∙_}
-use Prim.Native.Nat.{_+_, _*_, _≤_}
+use mathlib.Core.Path.{_∙_}
+use Prim.Native.Nat.{_+_}
 use native.Mathlib.Omega.{arith}
-use lib.ListN.{length, take, length-take}
 use borrow.Author.Needs.{needs}
 use Rattle.lift.proofs.Params.{builds-all, builds-none}
 use Rattle.lift.proofs.Entered.{refused-binder, refused-bytes, refused-defns, made-in-parts, cut-length}

@@ -1,9 +1,7 @@
 -- `naming::lift_anonymous_combinator` meets its contract.
 -- Assumes nothing.
-use mathlib.Core.Path.{_≡_, refl, sym, ap, _∙_}
-use Prim.Native.Nat.{_+_, _≤_}
+use mathlib.Core.Path.{refl, sym, _∙_}
 use native.Mathlib.Omega.{arith}
-use lib.ListN.{length}
 use borrow.Author.Needs.{needs}
 use Rattle.naming.proofs.Lifting.{clear, left-over, count-short, are-sorted, tables-hinted, whole-within, refused-name, refused-macro, entered-lift}
 use Rattle.naming.proofs.lift_anonymous_combinator.Statement.{statement}

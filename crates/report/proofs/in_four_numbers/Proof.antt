@@ -4,8 +4,6 @@ use borrow.Author.Needs.{needs}
 use Rattle.report.specs.Elaborates.{reported}
 use Rattle.report.proofs.in_four_numbers.Statement.{statement}
 use Rattle.report.proofs.in_four_numbers.Tie as tie
-use Rattle.report.proofs.in_four_numbers.Reads as reads
-use Rattle.report.proofs.in_four_numbers.Lts as lts
 
 enum-known-e : tie.Need-enum-known-e
 enum-known-e c = search needs

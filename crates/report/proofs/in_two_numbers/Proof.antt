@@ -5,8 +5,6 @@ use Rattle.report.specs.Tells.{told}
 use mathlib.Core.Path.{refl}
 use Rattle.report.proofs.in_two_numbers.Statement.{statement}
 use Rattle.report.proofs.in_two_numbers.Tie as tie
-use Rattle.report.proofs.in_two_numbers.Reads as reads
-use Rattle.report.proofs.in_two_numbers.Lts as lts
 
 enum-told : tie.Need-enum-told
 enum-told c = search needs
