@@ -1,7 +1,7 @@
 -- A walk over some pieces, and such walks one after the other.
 -- Assumes nothing.
 use mathlib.Core.List.{List, [], _∷_, _++_, append-assoc}
-use mathlib.Core.Bool.{Bool, true, _&&_}
+use mathlib.Core.Bool.{Bool, true, _&&_, and-true, and-comm, and-assoc}
 use mathlib.Core.Path.{_≡_, refl, sym, ap, _∙_}
 use Prim.Native.Nat.{ℕ, suc, _+_, _-_, _%_, _≤_, min, max}
 use native.Mathlib.Omega.{arith}
@@ -17,7 +17,6 @@ use Rattle.marks.specs.Steps.{State, pairOf, markAt}
 use Rattle.walk.specs.Steps.{walk, moved, entered}
 use Rattle.pieces.specs.Pieces.{Piece, raw, places}
 use Rattle.laws.proofs.Splits.{s-inner}
-use Rattle.pieces.proofs.Bools.{and-true, and-comm, and-assoc}
 
 max-sub : (k d d′ : ℕ) → min (k - d) (k - d′) ≡ k - max d d′
 max-sub k d d′ = omega arith

@@ -2,7 +2,7 @@
 -- Assumes nothing.
 use mathlib.Core.Path.{_≡_, refl, sym, ap, _∙_}
 use mathlib.Core.List.{List, [], _++_}
-use mathlib.Core.Bool.{Bool, true, false, _||_}
+use mathlib.Core.Bool.{Bool, false, _||_, or-assoc, or-false}
 use Prim.Native.Nat.{ℕ, suc, _+_, _*_, _≤_, _<_}
 use native.Mathlib.Omega.{arith}
 use lib.ListN.{length}
@@ -41,18 +41,6 @@ pub record Ready (s : List ℕ) (p : ℕ) (l : List ℕ) (n b : ℕ) (bound uses
   pub room : length s + 1024 ≤ 2 * length bound
   pub finds : Finds s bound b
   pub fits : n ≤ suc (length uses)
-
-or-assoc : (a b c : Bool) → (a || b) || c ≡ a || (b || c)
-or-assoc true b c = refl
-or-assoc false b c = refl
-
-pub or-false : (a : Bool) → a ≡ a || false
-or-false true = refl
-or-false false = refl
-
-pub or-true : (a : Bool) → true ≡ a || true
-or-true true = refl
-or-true false = refl
 
 -- behind what was written
 pub ready-past : (w : List ℕ → List ℕ) → Splits w → {s : List ℕ} {p q n b : ℕ} {bound uses : List ℕ} (z : List ℕ) → Ready s p (w z) n b bound uses → Here s q z → Ready s q z n b bound uses
@@ -98,7 +86,7 @@ pub nothing-used : {s : List ℕ} {p : ℕ} {y : List ℕ} {n b : ℕ} {bound us
 unfolding namesIn without
 nothing-used f r h = record {
   here = h;
-  left = or-false f;
+  left = sym (or-false f);
   used = [];
   wrote = wrote-nothing r;
   named = refl;

@@ -3,7 +3,7 @@
 use borrow.Author.Needs.{needs}
 use Rattle.bodies.specs.Tested.{BodiesLeft}
 use Rattle.bodies.proofs.Tested.{left-none, left-out, left-step, bodies-tested}
-use Rattle.called.specs.Known.{rowNames}
+use Rattle.callable.specs.Named.{rowNames}
 use borrow.Author.Tests.{not-true, not-false}
 use Rattle.premise.specs.Holds.{passes}
 use lib.ListN.{length}

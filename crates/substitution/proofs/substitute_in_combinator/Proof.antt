@@ -38,29 +38,4 @@ returns : tie.Need-returns Inv-loop μ-loop
 returns c = copied-all _ _ _ _ _ (c .before .before .before .before .before .loop .inv) (omega arith) (c .before .before .put-across2 .ensures)
 
 pub substitute-in-combinator-spec : {M : Type 1} → statement M
-substitute-in-combinator-spec =
-    tie.close
-    (tie.spec
-    Inv-loop
-    μ-loop
-    loop-holds
-    (λ c. search needs)
-    (λ c. search needs)
-    (λ c. search needs)
-    cast-call
-    (λ c. search needs)
-    (λ c. search needs)
-    (λ c. search needs)
-    cast-end
-    (λ c. search needs)
-    (λ c κs. search needs)
-    (λ c κs. search needs)
-    (λ c κs. search needs)
-    (λ c κs. search needs)
-    (λ c. search needs)
-    loop-again
-    (λ c. search needs)
-    loop-again-2
-    (λ c κs. search needs)
-    same-length
-    returns)
+substitute-in-combinator-spec = tie.close (tie.spec Inv-loop μ-loop loop-holds (λ c. search needs) (λ c. search needs) (λ c. search needs) cast-call (λ c. search needs) (λ c. search needs) (λ c. search needs) cast-end (λ c. search needs) (λ c κs. search needs) (λ c κs. search needs) (λ c κs. search needs) (λ c κs. search needs) (λ c. search needs) loop-again (λ c. search needs) loop-again-2 (λ c κs. search needs) same-length returns)

@@ -2,7 +2,7 @@
 -- Assumes nothing.
 use mathlib.Core.Path.{_≡_, refl, sym, ap, _∙_}
 use mathlib.Core.List.{List, [], _∷_}
-use mathlib.Core.Bool.{Bool, _||_}
+use mathlib.Core.Bool.{Bool, true, false, cond, _||_, or-false}
 use Prim.Native.Nat.{ℕ, _+_, _-_, _*_, _≤_, _<_}
 use native.Mathlib.Omega.{arith}
 use lib.ListN.{length}
@@ -18,8 +18,17 @@ use Rattle.lookup.proofs.Names.{stands}
 use Rattle.taken.specs.Taken.{both, taken, Grown, Listed as Row}
 use Rattle.contents.specs.Listed.{Listed}
 use Rattle.contents.proofs.Listed.{listed-kind, listed-size, listed-body, listed-next, book-listed}
-use Rattle.called.specs.Known.{Hinted, rowNames, Room, Adds, Takes, Taking, Named}
-use Rattle.called.proofs.Bools.{or-one, or-more, or-false}
+use Rattle.callable.specs.Named.{Hinted, rowNames, Room, Adds, Takes, Taking, Named}
+
+-- a name in front
+or-one : (b e : Bool) → cond b true e ≡ cond b true false || e
+or-one true e = refl
+or-one false e = refl
+
+or-more : (b x e : Bool) → cond b true x || e ≡ x || (cond b true false || e)
+or-more true true e = refl
+or-more true false e = refl
+or-more false x e = refl
 
 -- a definition that gets no row
 module _ {s : List ℕ} {kind at : ℕ} {pl hs hi : List ℕ} {n : ℕ} where

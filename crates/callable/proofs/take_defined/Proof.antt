@@ -1,12 +1,9 @@
 -- `known::take_defined` meets its contract.
 -- Assumes nothing.
 use borrow.Author.Needs.{needs}
-use Rattle.called.proofs.Known.{takes-low, takes-high, takes-far, takes-full, takes-full-2, takes-full-3, takes-row}
-use Rattle.called.proofs.take_defined.Statement.{statement}
-use Rattle.called.proofs.take_defined.Tie as tie
-use Rattle.called.proofs.take_defined.Reads as reads
-use Rattle.called.proofs.take_defined.Lts as lts
-use Rattle.taken.proofs.take_source_name.Reads as take-source-name-reads
+use Rattle.callable.proofs.Named.{takes-low, takes-high, takes-far, takes-full, takes-full-2, takes-full-3, takes-row}
+use Rattle.callable.proofs.take_defined.Statement.{statement}
+use Rattle.callable.proofs.take_defined.Tie as tie
 
 returns : tie.Need-returns
 returns c = takes-low (c .if1 .taken)

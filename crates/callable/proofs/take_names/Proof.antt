@@ -1,11 +1,11 @@
 -- `known::take_names` meets its contract.
 -- Assumes nothing.
 use borrow.Author.Needs.{needs}
-use Rattle.called.proofs.Known.{Going, taking-none, taking-step, named}
+use Rattle.callable.proofs.Named.{Going, taking-none, taking-step, named}
 use mathlib.Core.Path.{refl, _∙_}
 use native.Mathlib.Omega.{arith}
-use Rattle.called.proofs.take_names.Statement.{statement}
-use Rattle.called.proofs.take_names.Tie as tie
+use Rattle.callable.proofs.take_names.Statement.{statement}
+use Rattle.callable.proofs.take_names.Tie as tie
 
 abbrev Inv-loop : tie.InvT-loop
 Inv-loop s places₀ hashes₀ hints₀ left₀ entry₀ at₀ n₀ places hashes hints left entry at n = Going s places₀ hashes₀ hints₀ n₀ entry₀ at₀ left₀ places hashes hints n entry at left
