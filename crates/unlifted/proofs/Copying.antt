@@ -3,9 +3,11 @@
 use mathlib.Core.Path.{_≡_, sym, _∙_}
 use mathlib.Core.List.{List, [], _++_, append-nil}
 use mathlib.Core.Bool.{Bool, true, false}
-use Prim.Native.Nat.{ℕ}
+use Prim.Native.Nat.{ℕ, _+_, _≤_}
+use native.Mathlib.Omega.{arith}
 use lib.Dec.{leb}
 use lib.ListN.{length}
+use borrow.Author.Tests.{le-leb}
 use Rattle.definition.specs.Code.{number}
 use Rattle.definition.specs.Out.{done}
 use Rattle.definition.specs.Tree.{Definition}
@@ -15,13 +17,21 @@ use Rattle.definition.specs.Answer.{outcome, answered, filled}
 use Rattle.laws.specs.Book.{IsBook}
 use Rattle.seek.specs.At.{numberAt}
 use Rattle.contents.proofs.Listed.{book-listed}
-use Rattle.flat.specs.Told.{Told, Copied}
+use Rattle.writer.specs.Buf.{Wrote}
+use Rattle.writer.proofs.Put.{put-fits}
+use Rattle.flat.specs.Told.{Told}
 use Rattle.flat.proofs.Still.{book-stays}
 use Rattle.report.specs.declared.Elaborated.the-variants.{Done, Refused}
 use Rattle.report.specs.Elaborates.{reported, lifted, Lifts}
+use Rattle.unlifted.specs.Copied.{Copied}
 
 pub told-flat : {s : List ℕ} {r : Bool} → Told s r → r ≡ true → Told s true
 told-flat t e = record { says = λ ds w b. sym e ∙ t .says ds w b }
+
+pub copied : {s out out′ : List ℕ} {n : ℕ} → length s ≤ length out → Wrote out 0 s out′ n → Copied s out out′ true
+copied {s} {out} l w =
+    let z : 0 + length s ≡ length s = omega arith in
+    record { fits = sym (le-leb (length s) (length out) l); holds = w .holds ∙ (rw z at (put-fits out 0 s (omega arith))) }
 
 module _ {s : List ℕ} (t : Told s true) {out out′ : List ℕ} {r : Bool} (k : Copied s out out′ r) where
   stays : (ds : List Definition) → s ≡ wBook ds → IsBook ds → outcome (liftBook ds) ≡ done (record { kept = ds; lifted = [] })

@@ -1,11 +1,11 @@
--- `flat::copy_book` meets its contract.
+-- `unlifted::copy_book` meets its contract.
 -- Assumes nothing.
 use borrow.Author.Needs.{needs}
 use mathlib.Core.Path.{refl, sym}
 use borrow.Author.Tests.{lt-leb}
-use Rattle.flat.proofs.Telling.{copied}
-use Rattle.flat.proofs.copy_book.Statement.{statement}
-use Rattle.flat.proofs.copy_book.Tie as tie
+use Rattle.unlifted.proofs.Copying.{copied}
+use Rattle.unlifted.proofs.copy_book.Statement.{statement}
+use Rattle.unlifted.proofs.copy_book.Tie as tie
 
 returns : tie.Need-returns
 returns c = record { fits = sym (lt-leb _ _ (c .if1 .taken)); holds = refl }
