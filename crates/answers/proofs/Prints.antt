@@ -18,9 +18,9 @@ use Rattle.laws.proofs.Steps.{of-result}
 use Rattle.writer.specs.Buf.{Wrote}
 use Rattle.writer.proofs.Put.{take-written}
 use Rattle.writer.proofs.Wrote.{place-fits}
-use Rattle.closing.specs.declared.Elaborated.{Elaborated}
-use Rattle.closing.specs.declared.Elaborated.the-variants.{Done, Refused}
-use Rattle.closing.specs.Elaborates.{reported, Reports}
+use Rattle.report.specs.declared.Elaborated.{Elaborated}
+use Rattle.report.specs.declared.Elaborated.the-variants.{Done, Refused}
+use Rattle.report.specs.Elaborates.{reported}
 use Rattle.refusal.specs.Refusal.{refusal}
 use Rattle.printed.specs.Lines.{Lists}
 use Rattle.printed.proofs.Room.{code-some, listed-room}

@@ -7,8 +7,8 @@ use Rattle.definition.specs.Out.{Out, done}
 use Rattle.definition.specs.Answer.{Result, all}
 use Rattle.definition.specs.Listing.{listed}
 use Rattle.laws.specs.Book.{IsBook}
-use Rattle.closing.specs.declared.Elaborated.{Elaborated}
-use Rattle.closing.specs.Elaborates.{Reports}
+use Rattle.report.specs.declared.Elaborated.{Elaborated}
+use Rattle.report.specs.Elaborates.{Reports}
 
 -- the lines fill the text's first n bytes
 pub record Filled (lines text text′ : List ℕ) (n : ℕ) : Type 0 where

@@ -1,7 +1,7 @@
 // The lines of an answer, written into a buffer.
-use closing::Elaborated;
 use printed::put_result;
 use refusal::put_refusal;
+use report::Elaborated;
 ghost use mathlib.Core.Path.{_≡_};
 ghost use lib.ListN.{take};
 ghost use Rattle.answers.specs.Prints.{Prints};

@@ -48,7 +48,7 @@ module _ (l : List ℕ) (a e end : ℕ) (h : end ≡ min e 16384) (at : ℕ) (fa
   length-first = rw part-first (simp (length-take, length-drop) (omega arith))
 
   pub across-none : end ≤ a → Wrote l at (part a e (first l)) l at
-  across-none k = let z : end - a ≡ 0 = omega arith in rw (part-first, z) (wrote-none l at room)
+  across-none k = let z : end - a ≡ 0 = omega arith in rw (part-first, z) (wrote-none l at (omega arith))
 
   module _ {d : List ℕ} where
     pub across-cut : length l - at < end - a → d ≡ put l at (take (length l - at) (drop a l)) → Wrote l at (part a e (first l)) d (length d + 1)

@@ -2,7 +2,7 @@
 -- Assumes nothing.
 use mathlib.Core.Path.{_≡_, refl, sym, ap, _∙_}
 use mathlib.Core.List.{List, [], _∷_}
-use mathlib.Core.Bool.{Bool, true, false, _&&_}
+use mathlib.Core.Bool.{Bool, true, false, _&&_, and-true}
 use Prim.Native.Nat.{ℕ, _+_, _-_, _*_, _≤_, _<_}
 use native.Mathlib.Omega.{arith}
 use lib.ListN.{length, take}
@@ -14,8 +14,8 @@ use Rattle.seek.specs.At.{byteAt, pastAt, numberAt, namePast}
 use Rattle.seek.specs.Here.{Here}
 use Rattle.seek.proofs.Here.{name-here}
 use Rattle.writer.proofs.Put.{take-written}
-use Rattle.marks.specs.declared.Walk.{Walk}
-use Rattle.marks.specs.Steps.{walk}
+use Rattle.walk.specs.declared.Walk.{Walk}
+use Rattle.walk.specs.Steps.{walk}
 use Rattle.calls.specs.Walk.{combinatorAt}
 use Rattle.calls.specs.Walked.{Walked}
 use Rattle.pieces.specs.Pieces.{pieces, places}
@@ -25,7 +25,6 @@ use Rattle.contents.specs.Listed.{Listed}
 use Rattle.contents.specs.Params.{ParamsPast}
 use Rattle.contents.proofs.Listed.{listed-kind, listed-size, listed-body, listed-deep, listed-next, book-listed}
 use Rattle.bodies.specs.Tested.{FormatTested, DefinitionTested, BodiesLeft, BodiesTested}
-use Rattle.pieces.proofs.Bools.{and-true}
 
 -- a format: the walk over its body leaves the marks of its calls
 module _ {s : List ℕ} (at : ℕ) {params body : ℕ} (e : params ≡ namePast s at) (p : ParamsPast s params body) (m₁ m₂ : List ℕ) (w : Walk)

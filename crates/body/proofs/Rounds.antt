@@ -20,6 +20,7 @@ use Rattle.children.specs.Next.{nextOf}
 use Rattle.children.specs.Steps.{StepAt}
 use Rattle.done.specs.declared.Closed.{Closed}
 use Rattle.done.specs.Done.{passed, bindBy, boundAfter, delivered, closedOf, orderOf}
+use Rattle.tables.specs.Parts.{orderIn, rowsIn, paramsIn, numberIn, Parts}
 use Rattle.lift.specs.declared.Counts.{Counts}
 use Rattle.lift.specs.Bound.{boundFrom, Sized}
 use Rattle.lift.specs.Sheet.{sheetOf, Tables}
@@ -150,7 +151,7 @@ module _ {s : List ℕ} {at : ℕ} {path₀ : List ℕ} {len : ℕ} {binders₀ 
     round-less-pass q eh = rw eh (omega (arith, less-pass (passing q (R .root))))
 
     -- ---- the end of a node
-    module _ (q : r ≡ step.Done) {z : Closed} {order′ : List ℕ} (ez : z ≡ closedOf f n) (eo : order′ ≡ orderOf f order n) where
+    module _ (q : r ≡ step.Done) {z : Closed} {sheet : List ℕ} (ez : z ≡ closedOf f n) (es : Parts sheet (orderOf f order n) rows params number) where
       done-path : path′ ≡ path
       unfolding StepIs
       done-path = (rw q at (step-is s f path path′ r st)) .0
@@ -159,17 +160,17 @@ module _ {s : List ℕ} {at : ℕ} {path₀ : List ℕ} {len : ℕ} {binders₀ 
       unfolding StepIs
       closing x = (rw q at (step-is s f path path′ r st)) .1 binders (63 - d) (R .goes x .node) source (R .goes x .top)
 
-      pub walks-last : d ≡ 0 → Walks s at path₀ len binders₀ b made₀ places₀ rows₀ params₀ order₀ w₀ n₀ made places hashes hints rows params number order′ (Named w (z .finished))
+      pub walks-last : d ≡ 0 → Walks s at path₀ len binders₀ b made₀ places₀ rows₀ params₀ order₀ w₀ n₀ made places hashes hints (rowsIn sheet) (paramsIn sheet) (numberIn sheet) (orderIn sheet) (Named w (z .finished))
       unfolding Ends
-      walks-last e = rw (ez, eo) (record {
+      walks-last e = rw (ez, es .order, es .rows, es .params, es .number) (record {
         walks = λ c name st deep held.
             let x : Root s at path₀ len = record { tree = c; name = name; stands = st; deep = deep; held = held } in
             rw (← (ends-last (R .goes x) (closing x) e)) (refl, good-closed (R .goes x));
       })
 
       module _ (some : 0 < d) {h : Frame} {binders′ : List ℕ} (eh : h ≡ delivered p (f .place) (f .last) (z .whole) (boundAfter s p)) (eb : binders′ ≡ bindBy s p (f .place) (z .inner) binders) where
-        pub round-back : Round s at path₀ len binders₀ b made₀ places₀ rows₀ params₀ order₀ w₀ n₀ path′ binders′ bound uses spare made places hashes hints rows params number order′ frames h (d - 1) w (z .finished)
-        round-back = rw (done-path, eb, eo, eh, ez) (record { root = R .root; goes = λ x. goes-back (R .goes x) (closing x) some })
+        pub round-back : Round s at path₀ len binders₀ b made₀ places₀ rows₀ params₀ order₀ w₀ n₀ path′ binders′ bound uses spare made places hashes hints (rowsIn sheet) (paramsIn sheet) (numberIn sheet) (orderIn sheet) frames h (d - 1) w (z .finished)
+        round-back = rw (done-path, eb, es .order, es .rows, es .params, es .number, eh, ez) (record { root = R .root; goes = λ x. goes-back (R .goes x) (closing x) some })
 
         pub round-less-back : left s frames h (d - 1) < left s frames f d
         round-less-back = rw (eh, ez) (less-back (R .goes (R .root)) some)
@@ -205,13 +206,13 @@ module _ {s : List ℕ} {at : ℕ} {path₀ : List ℕ} {len : ℕ} {binders₀ 
             let y = reached x in
             come .comes (y .opening .child) (y .base) (63 - (d + 1)) (g .node) (y .opening .wait) order n (y .opening .stands) (child-levels g y) (omega arith) (y .held) (y .opening .opens) (g .top .env) (child-few g y) (g .good)
 
-        pub walks-refused : {e : ℕ} → t ≡ comes.Refused e → Walks s at path₀ len binders₀ b made₀ places₀ rows₀ params₀ order₀ w₀ n₀ made′ places′ hashes′ hints′ rows′ params′ number′ order (Refused e)
+        pub walks-refused : {e : ℕ} → t ≡ comes.Refused e → {order′ : List ℕ} → order′ ≡ order → Walks s at path₀ len binders₀ b made₀ places₀ rows₀ params₀ order₀ w₀ n₀ made′ places′ hashes′ hints′ rows′ params′ number′ order′ (Refused e)
         unfolding ChildIs
-        walks-refused et = record {
+        walks-refused et eo = rw eo (record {
           walks = λ c name st deep held.
               let x : Root s at path₀ len = record { tree = c; name = name; stands = st; deep = deep; held = held } in
               ends-refused (R .goes x) (reached x) _ _ ((rw et at (child-is x)) (R .goes x .waits));
-        }
+        })
 
         module _ {h : Frame} {v : Counts} (et : t ≡ comes.Opened h v) where
           opened : (x : Root s at path₀ len) → Opened s path₂ binders (63 - (d + 1)) place l (f .bound) (reached x .opening .child) (R .goes x .node) (reached x .opening .wait) (sheetOf s made places rows params (take n order) w) (sheetOf s made′ places′ rows′ params′ (take n order) v) (w .lifts) h v
@@ -222,9 +223,9 @@ module _ {s : List ℕ} {at : ℕ} {path₀ : List ℕ} {len : ℕ} {binders₀ 
           unfolding ChildIs
           good-opened x = (rw et at (child-is x)) .1
 
-          pub round-open : {bound′ uses′ spare′ : List ℕ} → length path₂ ≡ length path′ → length bound′ ≡ length bound → length uses′ ≡ length uses → length spare′ ≡ length spare
-              → Round s at path₀ len binders₀ b made₀ places₀ rows₀ params₀ order₀ w₀ n₀ path₂ binders bound′ uses′ spare′ made′ places′ hashes′ hints′ rows′ params′ number′ order (set frames d f) h (d + 1) v n
-          round-open l₂ lb lu ls = record { root = R .root; goes = λ x. goes-open (R .goes x) (reached x) (opened x) refl (good-opened x) long (l₂ ∙ long) step-kept (come .kept) lb lu ls }
+          pub round-open : {order′ : List ℕ} → order′ ≡ order → {bound′ uses′ spare′ : List ℕ} → length path₂ ≡ length path′ → length bound′ ≡ length bound → length uses′ ≡ length uses → length spare′ ≡ length spare
+              → Round s at path₀ len binders₀ b made₀ places₀ rows₀ params₀ order₀ w₀ n₀ path₂ binders bound′ uses′ spare′ made′ places′ hashes′ hints′ rows′ params′ number′ order′ (set frames d f) h (d + 1) v n
+          round-open eo l₂ lb lu ls = rw eo (record { root = R .root; goes = λ x. goes-open (R .goes x) (reached x) (opened x) refl (good-opened x) long (l₂ ∙ long) step-kept (come .kept) lb lu ls })
 
           pub round-less-open : left s (set frames d f) h (d + 1) < left s frames f d
           round-less-open = less-open (R .goes (R .root)) (reached (R .root)) (opened (R .root))
@@ -234,7 +235,7 @@ some zero h = absurd (h refl)
 some (suc a) h = omega arith
 
 -- ---- what is lent keeps its length
-pub record Lengths (path₀ binders₀ bound₀ uses₀ spare₀ made₀ places₀ hashes₀ hints₀ rows₀ params₀ number₀ order₀ path₁ binders₁ bound₁ uses₁ spare₁ made₁ places₁ hashes₁ hints₁ rows₁ params₁ number₁ order₁ : List ℕ) : Type 0 where
+pub record Lengths (path₀ binders₀ bound₀ uses₀ spare₀ made₀ places₀ hashes₀ hints₀ sheet₀ path₁ binders₁ bound₁ uses₁ spare₁ made₁ places₁ hashes₁ hints₁ sheet₁ : List ℕ) : Type 0 where
   pub path : length path₁ ≡ length path₀
   pub binders : length binders₁ ≡ length binders₀
   pub bound : length bound₁ ≡ length bound₀
@@ -244,12 +245,9 @@ pub record Lengths (path₀ binders₀ bound₀ uses₀ spare₀ made₀ places�
   pub places : length places₁ ≡ length places₀
   pub hashes : length hashes₁ ≡ length hashes₀
   pub hints : length hints₁ ≡ length hints₀
-  pub rows : length rows₁ ≡ length rows₀
-  pub params : length params₁ ≡ length params₀
-  pub number : length number₁ ≡ length number₀
-  pub order : length order₁ ≡ length order₀
+  pub sheet : length sheet₁ ≡ length sheet₀
 
-pub lengths-on : {path₀ binders₀ bound₀ uses₀ spare₀ made₀ places₀ hashes₀ hints₀ rows₀ params₀ number₀ order₀ path binders bound uses spare made places hashes hints rows params number order path′ binders′ bound′ uses′ spare′ made′ places′ hashes′ hints′ rows′ params′ number′ order′ : List ℕ} → Lengths path₀ binders₀ bound₀ uses₀ spare₀ made₀ places₀ hashes₀ hints₀ rows₀ params₀ number₀ order₀ path binders bound uses spare made places hashes hints rows params number order → Lengths path binders bound uses spare made places hashes hints rows params number order path′ binders′ bound′ uses′ spare′ made′ places′ hashes′ hints′ rows′ params′ number′ order′ → Lengths path₀ binders₀ bound₀ uses₀ spare₀ made₀ places₀ hashes₀ hints₀ rows₀ params₀ number₀ order₀ path′ binders′ bound′ uses′ spare′ made′ places′ hashes′ hints′ rows′ params′ number′ order′
+pub lengths-on : {path₀ binders₀ bound₀ uses₀ spare₀ made₀ places₀ hashes₀ hints₀ sheet₀ path binders bound uses spare made places hashes hints sheet path′ binders′ bound′ uses′ spare′ made′ places′ hashes′ hints′ sheet′ : List ℕ} → Lengths path₀ binders₀ bound₀ uses₀ spare₀ made₀ places₀ hashes₀ hints₀ sheet₀ path binders bound uses spare made places hashes hints sheet → Lengths path binders bound uses spare made places hashes hints sheet path′ binders′ bound′ uses′ spare′ made′ places′ hashes′ hints′ sheet′ → Lengths path₀ binders₀ bound₀ uses₀ spare₀ made₀ places₀ hashes₀ hints₀ sheet₀ path′ binders′ bound′ uses′ spare′ made′ places′ hashes′ hints′ sheet′
 lengths-on x y = record {
   path = y .path ∙ x .path;
   binders = y .binders ∙ x .binders;
@@ -260,8 +258,5 @@ lengths-on x y = record {
   places = y .places ∙ x .places;
   hashes = y .hashes ∙ x .hashes;
   hints = y .hints ∙ x .hints;
-  rows = y .rows ∙ x .rows;
-  params = y .params ∙ x .params;
-  number = y .number ∙ x .number;
-  order = y .order ∙ x .order;
+  sheet = y .sheet ∙ x .sheet;
 }

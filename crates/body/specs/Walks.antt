@@ -12,7 +12,7 @@ use Rattle.lift.specs.declared.Counts.{Counts}
 use Rattle.frames.specs.Frames.{Stands, Standing}
 use Rattle.lift.specs.Bound.{boundFrom, Sized}
 use Rattle.lift.specs.Sheet.{Sheet, sheetOf}
-use Rattle.naming.specs.Walk.{Extent, walk}
+use Rattle.naming.specs.Walk.{walk}
 use Rattle.naming.specs.Lifts.{Scratch}
 use Rattle.steps.specs.Good.{Good}
 use Rattle.body.specs.declared.Body.{Body}

@@ -12,6 +12,7 @@ use steps::Child;
 use steps::open_child;
 ghost use Prim.Native.Nat.{_≤_};
 ghost use Rattle.ends.specs.Ends.{Right};
+ghost use Rattle.tables.specs.Parts.{orderIn, rowsIn, paramsIn, numberIn};
 ghost use Rattle.steps.specs.Good.{Good};
 ghost use Rattle.body.specs.Walks.{Ready, Walks};
 
@@ -37,15 +38,12 @@ pub fn expand_combinator(
     places: &mut [u16],
     hashes: &mut [u16],
     hints: &mut [u16],
-    rows: &mut [u16],
-    params: &mut [u16],
-    number: &mut [u16],
-    order: &mut [u16],
+    sheet: &mut [u16],
     w: Counts,
     n: usize,
 ) -> Body
-    requires { ⌜ Good (now s) (now made) (now places) (now hashes) (now hints) (now rows) (now params) (now number) (now order) w n × Ready (now s) at (now path) (now binders) b (now bound) (now uses) (now spare) × (len ≤ 256) × Right (now s) (now ends) ⌝ }
-    ensures { λ r. ⌜ Walks (now (s .entry)) at (now (path .entry)) len (now (binders .entry)) b (now (made .entry)) (now (places .entry)) (now (rows .entry)) (now (params .entry)) (now (order .entry)) w n (now (made .exit)) (now (places .exit)) (now (hashes .exit)) (now (hints .exit)) (now (rows .exit)) (now (params .exit)) (now (number .exit)) (now (order .exit)) r ⌝ }
+    requires { ⌜ Good (now s) (now made) (now places) (now hashes) (now hints) (rowsIn (now sheet)) (paramsIn (now sheet)) (numberIn (now sheet)) (orderIn (now sheet)) w n × Ready (now s) at (now path) (now binders) b (now bound) (now uses) (now spare) × (len ≤ 256) × Right (now s) (now ends) ⌝ }
+    ensures { λ r. ⌜ Walks (now (s .entry)) at (now (path .entry)) len (now (binders .entry)) b (now (made .entry)) (now (places .entry)) (rowsIn (now (sheet .entry))) (paramsIn (now (sheet .entry))) (orderIn (now (sheet .entry))) w n (now (made .exit)) (now (places .exit)) (now (hashes .exit)) (now (hints .exit)) (rowsIn (now (sheet .exit))) (paramsIn (now (sheet .exit))) (numberIn (now (sheet .exit))) (orderIn (now (sheet .exit))) r ⌝ }
 {
     let end = end_of(s, ends, at);
     let last = combinator_past(s, ends, end);
@@ -63,7 +61,7 @@ pub fn expand_combinator(
                 continue;
             }
             Step::Done => {
-                let z = close_node(f, order, finished);
+                let z = close_node(f, sheet, finished);
                 finished = z.finished;
                 if d == 0 {
                     return Body::Named(counts, finished);
@@ -90,9 +88,7 @@ pub fn expand_combinator(
                     places,
                     hashes,
                     hints,
-                    rows,
-                    params,
-                    number,
+                    sheet,
                     counts,
                 );
                 match child {

@@ -1,25 +1,25 @@
 -- The bodies in order.
-use mathlib.Core.Path.{_≡_, refl, ap, sym, _∙_, subst}
+use mathlib.Core.Path.{_≡_, refl, sym, _∙_}
 use mathlib.Core.List.{List, [], _∷_, _++_}
-use mathlib.Core.Bool.{Bool, true, false}
-use Prim.Native.Nat.{ℕ, zero, suc, _+_, _-_, _*_, _≤_, _<_}
-use native.Mathlib.Nat.{add-sub-cancel-left, add-zero}
+use Prim.Native.Nat.{ℕ, _+_, _-_, _*_, _≤_, _<_}
 use native.Mathlib.Omega.{arith}
 use borrow.Author.Tests.{le-leb}
 use lib.ListN.{length, take, drop, length-drop, length-append, getD}
-use Rattle.definition.specs.Code.{Code, number, not-a-book}
-use Rattle.definition.specs.Res.{Maybe, absent, just, Res, bad, ok, _>>=_}
+use Rattle.seek.specs.At.{numberAt}
+use Rattle.seek.proofs.Laws.{number-inside}
+use Rattle.definition.specs.Res.{absent, just, Res, bad, ok, _>>=_}
 use Rattle.definition.specs.Tree.{Entry, Definition}
-use Rattle.definition.specs.Read.{part, known, kinds, definition}
-use Rattle.definition.specs.Contents.{entries, contents, cut, whole, atEnd, within, bodies, book, Body}
+use Rattle.definition.specs.Read.{known, kinds, definition}
+use Rattle.definition.specs.Contents.{entries, contents, cut, whole, atEnd, within, bodies, book}
 use Rattle.cursor.specs.declared.Fault.{Fault}
 use Rattle.cursor.proofs.Lists.{part-at}
+use Rattle.cursor.proofs.Only.{no-value}
 use Rattle.reader.specs.Verdict.{verdict, ofKind, bodyVerdict}
 use Rattle.reader.specs.declared.Verdict.{Verdict}
 use Rattle.reader.specs.declared.Verdict.the-variants.{Sound, Refused as Unsound}
 use Rattle.index.specs.Table.{total, Holds}
-use Rattle.index.proofs.Entries.{Opened, opened, sizeAt}
-use Rattle.index.proofs.Rows.{First, first-of, none-of, cut-fits, no-value}
+use Rattle.entry.proofs.Entries.{Opened, opened}
+use Rattle.index.proofs.Rows.{First, first-of, none-of, cut-fits}
 
 -- the bodies of entries, of which the first starts at `at`
 unfoldable pub bodiesAt : List ℕ → ℕ → List Entry → Res (List ℕ) (List Definition)
@@ -77,9 +77,9 @@ module _ (s : List ℕ) (at : ℕ) (e : Entry) (es : List Entry) (h : at + e .si
 
 whole-open : {A : Type 0} (m : Res (List ℕ) A) (a : A) (r : List ℕ) → whole m ≡ ok a r → (z : List ℕ) × (m ≡ ok a z)
 unfolding whole atEnd
-whole-open (bad k x) a r e = absurd (no-value k x r a e)
+whole-open (bad k x) a r e = absurd (no-value e)
 whole-open (ok b []) a r e = let v : b ≡ a = cc in ([], rw v)
-whole-open (ok b (x ∷ l)) a r e = absurd (no-value not-a-book (x ∷ l) r a e)
+whole-open (ok b (x ∷ l)) a r e = absurd (no-value e)
 
 -- the loop's invariant: the entries that are left, and that the verdict on their bodies is the book's
 pub record Going (s : List ℕ) (more left want here : ℕ) : Type 0 where
@@ -116,27 +116,31 @@ module _ (s : List ℕ) (more left want here : ℕ) (g : Going s more left want 
     pub room : here + (6 + more) ≤ length s
     room = taken .room
 
-    pub in-book : want + sizeAt s here ≤ length s
-    in-book = rw (← (taken .sized)) (taken .fits)
+    -- the size that the code reads
+    size-is : numberAt s (here + 4) ≡ first .first .size
+    size-is = number-inside s (here + 4) (omega (arith, room)) ∙ sym (taken .sized)
+
+    pub in-book : want + numberAt s (here + 4) ≤ length s
+    in-book = rw size-is (taken .fits)
 
     ends : want + first .first .size + total (first .others) ≡ length s
     unfolding total
     ends = let e = g .full in let w = first .both in omega (arith, rw (← w) at e)
 
-    pub go-bad : (t : ℕ) (f : Fault) → t ≡ sizeAt s here → Unsound f ≡ bodyVerdict (getD s here 0) want (want + t) s → Unsound f ≡ verdict (length s) (book (6 + more) s)
+    pub go-bad : (t : ℕ) (f : Fault) → t ≡ numberAt s (here + 4) → Unsound f ≡ bodyVerdict (getD s here 0) want (want + t) s → Unsound f ≡ verdict (length s) (book (6 + more) s)
     go-bad t f e w =
         let o = taken in
         let d = first in
         let i = ends in
-        g .goes (Unsound f) (rw (← (d .both)) (first-bad s want (d .first) (d .others) (omega arith) (getD s here 0) f (o .kinded) (rw (e, ← (o .sized)) at w)))
+        g .goes (Unsound f) (rw (← (d .both)) (first-bad s want (d .first) (d .others) (omega arith) (getD s here 0) f (o .kinded) (rw (e ∙ size-is) at w)))
 
-    pub go-on : (t w : ℕ) → t ≡ sizeAt s here → w ≡ 6 + more → Sound ≡ bodyVerdict (getD s here 0) want (want + t) s → Going s more (left - 1) (want + t) (here + w)
-    go-on t w e q v =
+    pub go-on : (t : ℕ) → t ≡ numberAt s (here + 4) → Sound ≡ bodyVerdict (getD s here 0) want (want + t) s → Going s more (left - 1) (want + t) (here + (6 + more))
+    go-on t e v =
         let o = taken in
         let d = first in
         let i = ends in
-        let y : Sound ≡ bodyVerdict (getD s here 0) want (want + d .first .size) s = rw (e, ← (o .sized)) at v in
-        rw (e, ← (o .sized), q)
+        let y : Sound ≡ bodyVerdict (getD s here 0) want (want + d .first .size) s = rw (e ∙ size-is) at v in
+        rw (e ∙ size-is)
         (record {
           rows = d .others;
           after = g .after;
@@ -144,6 +148,3 @@ module _ (s : List ℕ) (more left want here : ℕ) (g : Going s more left want 
           full = i;
           goes = λ x u. g .goes x (rw (← (d .both)) (u ∙ sym (first-sound s want (d .first) (d .others) (omega arith) (getD s here 0) (o .kinded) y)));
         })
-
-pub start-going : (s : List ℕ) (more w n : ℕ) → w ≡ more → Holds s (6 + more) n → Going s more n (2 + (6 + w) * n) 2
-start-going s more w n e h = rw e (begin s more n h)

@@ -16,12 +16,10 @@ use Rattle.cursor.specs.declared.NumberStep.the-variants.{Number, NoNumber}
 use Rattle.reader.specs.Verdict.{verdict}
 use Rattle.reader.specs.declared.Verdict.the-variants.{Refused as Unsound}
 use Rattle.index.specs.Table.{table, Holds, Tabled, TabledBy}
+use Rattle.reader.proofs.Judge.{unsound}
 
 place-of : (s : List ℕ) (p : ℕ) → Along s 0 p → p ≡ length s - length (drop p s)
 place-of s p a = omega arith
-
-unsound : (c d p q : ℕ) → c ≡ d → p ≡ q → Unsound (record { code = c; at = p }) ≡ Unsound (record { code = d; at = q })
-unsound c d p q e h = rw (e, h)
 
 regroup : (m : Res (List ℕ) (List Entry)) → (m >>= λ y. whole (cut (y .0) (y .1)) >>= λ z. bodies (z .0)) ≡ ((m >>= λ y. whole (cut (y .0) (y .1))) >>= λ z. bodies (z .0))
 regroup (bad k r) = refl

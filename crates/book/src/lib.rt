@@ -3,42 +3,27 @@
 use cursor::NumberStep;
 use index::contents;
 use reader::Verdict;
+use seek::number;
 ghost use mathlib.Core.Path.{_≡_};
-ghost use Prim.Native.Nat.{_+_, _*_, _<_};
-ghost use lib.ListN.{length, getD};
+ghost use Prim.Native.Nat.{_+_};
+ghost use lib.ListN.{length};
 ghost use Rattle.definition.specs.Contents.{book as bookOf};
 ghost use Rattle.reader.specs.Verdict.{verdict};
 ghost use Rattle.index.specs.Table.{Holds};
-
-fn wide(b: u8) -> usize
-    ensures { λ r. ⌜ (r ≡ b) × (r < 256) ⌝ }
-{
-    b as usize
-}
-
-fn two(s: &[u8], at: usize) -> usize
-    requires { ⌜ at + 1 < length (now s) ⌝ }
-    ensures { λ r. ⌜ (r ≡ getD (now (s .entry)) at 0 + 256 * getD (now (s .entry)) (at + 1) 0) × (r < 65536) ⌝ }
-{
-    let second = at + 1;
-    let low = wide(s[at]);
-    let high = wide(s[second]);
-    low + 256 * high
-}
 
 // The bodies in order, of a book whose contents hold.
 fn bodies(s: &[u8], n: usize, more: u8) -> Verdict
     requires { ⌜ Holds (now s) (6 + more) n ⌝ }
     ensures { λ r. ⌜ r ≡ verdict (length (now (s .entry))) (bookOf (6 + more) (now (s .entry))) ⌝ }
 {
-    let width = 6 + wide(more);
+    let width = 6 + (more as usize);
     let mut left = n;
     let mut here = 2;
     let mut want = 2 + width * n;
     while 0 < left {
         let kind = s[here];
         let fifth = here + 4;
-        let end = want + two(s, fifth);
+        let end = want + (number(s, fifth) as usize);
         match reader::body(s, kind, want, end) {
             Verdict::Refused(f) => {
                 return Verdict::Refused(f);

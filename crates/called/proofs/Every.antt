@@ -20,7 +20,8 @@ use Rattle.writer.proofs.Put.{within}
 use Rattle.taken.specs.Taken.{both}
 use Rattle.found.specs.Found.{Found}
 use Rattle.found.proofs.Rows.{found-not, found-is}
-use Rattle.called.specs.Known.{rowNames, knownAt}
+use Rattle.callable.specs.Named.{rowNames}
+use Rattle.called.specs.Known.{knownAt}
 
 -- a call
 module _ (s places : List ℕ) (n at tag : ℕ) (et : tag ≡ byteAt s at) where

@@ -1,3 +1,1 @@
-pub mod Bools
-mod Known
 pub mod Every

@@ -1,7 +1,7 @@
 -- Where a combinator stands in the bytes, the walk by position is the walk over its tree.
 -- Assumes nothing.
 use mathlib.Core.List.{List, [], _∷_, _++_, append-nil}
-use mathlib.Core.Bool.{Bool, _&&_}
+use mathlib.Core.Bool.{Bool, _&&_, and-assoc}
 use mathlib.Core.Path.{_≡_, refl, sym, ap, _∙_}
 use Prim.Native.Nat.{ℕ, zero, suc, _+_, _-_, _≤_, min}
 use native.Mathlib.Nat.{not-suc-le-zero}
@@ -18,12 +18,12 @@ use Rattle.seek.proofs.Here.{place, next-here, number-past, name-here, text-her
 use Rattle.seek.proofs.Stands.{stands}
 use Rattle.writer.proofs.Put.{put-past}
 use Rattle.writer.proofs.Wrote.{place-is, place-fits}
-use Rattle.marks.specs.declared.Walk.{Walk}
-use Rattle.marks.specs.Steps.{walk, moved, entered, silent, back, State, callAt}
+use Rattle.walk.specs.declared.Walk.{Walk}
+use Rattle.marks.specs.Steps.{State, callAt}
+use Rattle.walk.specs.Steps.{walk, moved, entered, silent, back}
 use Rattle.calls.specs.Walk.{times, fieldAt, caseBy, caseAt, wrapBy, arrayBy, macroBy, combinatorAt, argumentAt, innerAt, skipAt}
 use Rattle.pieces.specs.Pieces.{Piece, call, macro-call, pieces, piecesI, piecesF, piecesC, places}
 use Rattle.calls.specs.Walked.{Walked, Skipped}
-use Rattle.pieces.proofs.Bools.{and-assoc}
 use Rattle.laws.proofs.Splits.{s-name, s-text, s-len, s-selector, s-label, s-comb, s-inner}
 use Rattle.calls.proofs.Steps.{many-is, field-is, const-is, choice-is, inner-4, inner-5, inner-7, inner-8, inner-9, inner-10, inner-12, inner-15, inner-16, inner-leaf, chained-is, tail-plain, tail-chain, combinator-suc, argument-suc, times-zero, times-suc}
 use Rattle.calls.proofs.Over.{deepest, Over, stay, skip, enter, shut, up, chain, then, mark}

@@ -1,7 +1,7 @@
 -- A walk over some pieces, and such walks one after the other.
 -- Assumes nothing.
 use mathlib.Core.List.{List, [], _∷_, _++_, append-assoc}
-use mathlib.Core.Bool.{Bool, true, _&&_}
+use mathlib.Core.Bool.{Bool, true, _&&_, and-true, and-comm, and-assoc}
 use mathlib.Core.Path.{_≡_, refl, sym, ap, _∙_}
 use Prim.Native.Nat.{ℕ, suc, _+_, _-_, _%_, _≤_, min, max}
 use native.Mathlib.Omega.{arith}
@@ -11,13 +11,12 @@ use Rattle.definition.specs.Write.{wInner}
 use Rattle.seek.specs.Here.{Here}
 use Rattle.seek.proofs.Here.{place}
 use Rattle.writer.specs.Buf.{after, Wrote}
-use Rattle.writer.proofs.Put.{put-nil}
-use Rattle.writer.proofs.Wrote.{glue, place-is, same-length}
-use Rattle.marks.specs.declared.Walk.{Walk}
-use Rattle.marks.specs.Steps.{walk, moved, entered, State, pairOf, markAt}
+use Rattle.writer.proofs.Wrote.{glue, place-within, wrote-none}
+use Rattle.walk.specs.declared.Walk.{Walk}
+use Rattle.marks.specs.Steps.{State, pairOf, markAt}
+use Rattle.walk.specs.Steps.{walk, moved, entered}
 use Rattle.pieces.specs.Pieces.{Piece, raw, places}
 use Rattle.laws.proofs.Splits.{s-inner}
-use Rattle.pieces.proofs.Bools.{and-true, and-comm, and-assoc}
 
 max-sub : (k d d′ : ℕ) → min (k - d) (k - d′) ≡ k - max d d′
 max-sub k d d′ = omega arith
@@ -27,11 +26,6 @@ min-assoc x y z = omega arith
 
 pub deepest : {l l′ : ℕ} (a k d d′ : ℕ) → l ≡ min a (k - d) → l′ ≡ min l (k - d′) → l′ ≡ min a (k - max d d′)
 deepest a k d d′ e h = h ∙ rw e (min-assoc a (k - d) (k - d′) ∙ ap (min a) (max-sub k d d′))
-
--- nothing was written
-wrote-none : (m : List ℕ) (n : ℕ) → n ≤ suc (length m) → Wrote m n [] m n
-unfolding after
-wrote-none m n h = record { place = omega arith; holds = sym (put-nil m n) }
 
 -- from w and the marks m to g, over the pieces that f puts in front of others: the bytes z stand behind them. With k levels left
 -- they go d levels down, and their chains are ok
@@ -74,7 +68,7 @@ module _ {s : List ℕ} {k : ℕ} where
       left = deepest (w .left) k d d′ (o .left) (q .left);
       plain = q .plain ∙ rw (o .plain) (and-assoc (w .plain) ok ok′);
       found = o .found ++ q .found;
-      marks = λ b. let u = o .marks b in glue u (q .marks (omega (arith, place-is u, same-length u)));
+      marks = λ b. let u = o .marks b in glue u (q .marks (place-within u));
       splits = λ ps. o .splits (f′ ps) ∙ ap (λ (l : List ℕ). o .found ++ l) (q .splits ps) ∙ sym (append-assoc (o .found) (q .found) (places (g′ .0 .at) ps));
     }
 

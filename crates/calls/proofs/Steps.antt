@@ -1,7 +1,7 @@
 -- One step of the walk, where it is known what stands at its place.
 -- Assumes nothing.
 use mathlib.Core.List.{List, _∷_}
-use mathlib.Core.Bool.{Bool, true, false, _&&_}
+use mathlib.Core.Bool.{Bool, true, false, _&&_, and-true, and-false}
 use mathlib.Core.Path.{_≡_, refl}
 use Prim.Native.Nat.{ℕ, suc}
 use Rattle.definition.specs.Tree.{Leaf, constraint-int, constraint-enum, bits, enum, tail, nothing, never, Selector, CaseKind, FieldKind, ordinary, dependent}
@@ -9,10 +9,10 @@ use Rattle.definition.specs.Write.{wU16, wSelector, caseByte, leafTag, fieldByt
 use Rattle.seek.specs.At.{byteAt, pastAt, namePast, textPast, lengthPast, selectorPast, standsOn}
 use Rattle.seek.specs.Here.{Here}
 use Rattle.seek.proofs.Here.{byte-here, number-here, selector-here}
-use Rattle.marks.specs.declared.Walk.{Walk}
-use Rattle.marks.specs.Steps.{walk, moved, entered, chainedTo, State, textOrLength, callAt}
+use Rattle.walk.specs.declared.Walk.{Walk}
+use Rattle.marks.specs.Steps.{State, callAt}
+use Rattle.walk.specs.Steps.{walk, moved, entered, chainedTo, textOrLength}
 use Rattle.calls.specs.Walk.{Step, times, many, fieldBy, wrapBy, caseBy, choiceBy, arrayBy, macroBy, innerBy, tailBy, combinatorBy, argumentBy, combinatorAt, argumentAt, innerAt}
-use Rattle.pieces.proofs.Bools.{and-true, and-false}
 
 module _ (s : List ℕ) (w : Walk) (m : List ℕ) where
   pub many-is : (step : Step) (n : ℕ) (z : List ℕ) → Here s (w .at) (wU16 n z) → many step s w m ≡ times step n (moved w (pastAt s (w .at) 2)) m

@@ -6,8 +6,9 @@ use Prim.Native.Nat.{ℕ, zero, suc, _+_}
 use lib.Dec.{eqb}
 use lib.ListN.{length}
 use Rattle.seek.specs.At.{byteAt, pastAt, numberAt, namePast, textPast, lengthPast, selectorPast, labelPast, pick}
-use Rattle.marks.specs.declared.Walk.{Walk}
-use Rattle.marks.specs.Steps.{State, moved, entered, silent, back, chainedTo, markAt, textOrLength, callAt}
+use Rattle.walk.specs.declared.Walk.{Walk}
+use Rattle.marks.specs.Steps.{State, markAt, callAt}
+use Rattle.walk.specs.Steps.{moved, entered, silent, back, chainedTo, textOrLength}
 
 abbrev pub Step : Type 0
 Step = Walk → List ℕ → State

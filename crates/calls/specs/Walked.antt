@@ -10,7 +10,7 @@ use Rattle.definition.specs.Size.{size, levels, levelsI}
 use Rattle.definition.specs.Bodies.{chainsOk}
 use Rattle.seek.specs.Here.{Here}
 use Rattle.writer.specs.Buf.{put}
-use Rattle.marks.specs.declared.Walk.{Walk}
+use Rattle.walk.specs.declared.Walk.{Walk}
 use Rattle.pieces.specs.Pieces.{pieces, places}
 
 -- w walked over c with k levels left, the marks were m; now it is g, the marks are l, and the bytes z follow

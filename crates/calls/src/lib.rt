@@ -1,14 +1,7 @@
 // The walker over the calls and chains of a combinator, by position over validated bytes. It goes over all of the combinator in layout order and
 // records where each Invocation and MacroInvocation stands that is at a walked position: not those inside macro arguments.
-use marks::Walk;
-use marks::back;
 use marks::call;
-use marks::chained_to;
-use marks::entered;
 use marks::mark;
-use marks::moved;
-use marks::silent;
-use marks::text_or_length;
 use seek::byte;
 use seek::label_past;
 use seek::length_past;
@@ -17,6 +10,13 @@ use seek::number;
 use seek::past;
 use seek::selector_past;
 use seek::text_past;
+use walk::Walk;
+use walk::back;
+use walk::chained_to;
+use walk::entered;
+use walk::moved;
+use walk::silent;
+use walk::text_or_length;
 ghost use mathlib.Core.Path.{_≡_};
 ghost use Prim.Native.Nat.{_+_};
 ghost use Rattle.calls.specs.Walk.{combinatorAt, innerAt, fieldsAt, fieldAt, wrapAt, choiceAt, casesAt, caseAt, arrayAt, macroAt, argumentsAt, argumentAt};

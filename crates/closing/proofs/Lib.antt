@@ -1,2 +1,1 @@
 pub mod Lifting
-pub mod Reporting

@@ -6,11 +6,11 @@ use mathlib.Core.List.{List, [], _∷_, _++_, map, append-nil}
 use Prim.Native.Nat.{ℕ, zero, suc, _+_, _≤_, _<_}
 use native.Mathlib.Omega.{arith}
 use lib.Dec.{leb}
-use lib.ListN.{length, take, drop, getD}
+use lib.ListN.{length, take, getD}
 use lib.Seq.{getD-take, length-take-le}
 use borrow.Author.Tests.{le-leb, lt-leb}
 use Rattle.definition.specs.Code.{Code, number, output-short}
-use Rattle.definition.specs.Res.{Res, bad, ok}
+use Rattle.definition.specs.Res.{Res, ok}
 use Rattle.definition.specs.Out.{Out, refused, done, _>>=_, given}
 use Rattle.definition.specs.Tree.{Definition}
 use Rattle.definition.specs.Write.{wBook}
@@ -25,43 +25,36 @@ use Rattle.lifting.specs.Trace.{Trace, treeHead, traceBook}
 use Rattle.lifting.proofs.Book.{in-rangeAll}
 use Rattle.lifting.proofs.Both.{Both, refusals, values}
 use Rattle.lifting.proofs.Laws.{records-of-lifts, counted-in-bytes, elaborated-by-places}
-use Rattle.tables.specs.Rows.{Row, rowOf, rowsOf, lastFrom}
+use Rattle.tables.specs.Rows.{Row, lastFrom}
+use Rattle.tables.specs.Parts.{orderIn, rowsIn, paramsIn, numberIn}
+use Rattle.tables.proofs.Parts.{part-lengths}
 use Rattle.lift.specs.declared.Counts.{Counts}
 use Rattle.lift.specs.Sheet.{Sheet, sheetOf}
-use Rattle.walked.specs.Book.{walkBook}
 use Rattle.walked.specs.Hands.{Hands}
 use Rattle.walked.proofs.Agree.{walks-as-traced}
-use Rattle.body.specs.declared.Body.{Body}
 use Rattle.body.specs.declared.Body.the-variants.{Named, Refused as Stopped}
 use Rattle.steps.specs.Good.{Good}
 use Rattle.body.specs.Walks.{Ends}
-use Rattle.start.proofs.Rows.{book-short}
 use Rattle.formats.specs.Expands.{Starts, Expands}
 use Rattle.result.specs.Model.{tables}
-use Rattle.result.specs.Adds.{Filled}
 use Rattle.result.specs.Held.{Held, Writes}
 use Rattle.result.proofs.Numbered.{numbered-by}
-use Rattle.closing.specs.declared.Elaborated.{Elaborated}
-use Rattle.closing.specs.declared.Elaborated.the-variants.{Done, Refused}
-use Rattle.closing.specs.Elaborates.{reported, Reports, lifted, Expanded, Lent, Lifts}
+use Rattle.report.specs.declared.Elaborated.the-variants.{Done, Refused}
+use Rattle.report.specs.Elaborates.{reported, Reports, lifted, Expanded, Lifts}
+use Rattle.closing.specs.Lent.{Lent}
 
-pub starts : {s ends made rows params number order binders bound uses spare : List ℕ} → Expanded s → Lent s ends number binders bound uses spare → length made ≡ 8192 → length rows ≡ 2560 → length params ≡ 13108 → length order ≡ 512
-    → Starts s made rows params number order
-starts x u a b c e = record {
-  of = x .of;
-  book = x .book;
-  isBook = x .isBook;
-  made-long = omega arith;
-  rows-long = omega arith;
-  params-long = omega arith;
-  number-long = u .long;
-  order-long = omega arith;
-  blank = u .blank;
-}
-
--- no expanded book is longer than the input may be
-pub expanded-short : {s : List ℕ} → Expanded s → length s ≤ 16384
-expanded-short x = book-short (record { of = x .of; book = x .book; isBook = x .isBook })
+pub starts : {s ends made sheet binders bound uses spare : List ℕ} → Expanded s → Lent s ends sheet binders bound uses spare → length made ≡ 8192 → Starts s made (rowsIn sheet) (paramsIn sheet) (numberIn sheet) (orderIn sheet)
+starts {sheet} x u a =
+    let l = part-lengths sheet (omega (arith, u .long)) in
+    record {
+      book = x;
+      made-long = omega arith;
+      rows-long = omega (arith, l .1);
+      params-long = omega (arith, l .2);
+      number-long = omega (arith, u .long, l .3);
+      order-long = omega (arith, l .0);
+      blank = u .blank;
+    }
 
 comes : (ds : List Definition) → Comes (wBook ds ++ []) ds (traceBook treeHead ds) (outcome (liftBook ds))
 comes ds = rw (counted-in-bytes ds []) (elaborated-by-places ds [])

@@ -1,1 +1,1 @@
-pub mod Elaborates
+pub mod Lent

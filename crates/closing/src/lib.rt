@@ -1,52 +1,49 @@
 // From the expanded book to the result: the lifts are named, then the result is written. Codes 7 to 11.
 use body::Body;
 use formats::expand_definitions;
+use report::Elaborated;
 use result::write_result;
-ghost use Rattle.closing.specs.Elaborates.{Expanded, Lent, Lifts};
+ghost use Prim.Native.Nat.{_≤_};
+ghost use lib.ListN.{length};
+ghost use Rattle.tables.specs.Parts.{orderIn, rowsIn, paramsIn, numberIn};
+ghost use Rattle.report.specs.Elaborates.{Expanded, Lifts};
+ghost use Rattle.result.specs.Held.{Writes};
+ghost use Rattle.result.specs.Model.{tables};
+ghost use Rattle.closing.specs.Lent.{Lent};
 
-// The result's length, its count of definitions and the count lifted, or a code.
-pub enum Elaborated {
-    Done {
-        length: u16,
-        definitions: u16,
-        lifted: u16,
-    },
-    Refused {
-        code: u8,
-    },
+// The result, from the parts of the sheet.
+fn write_parts(s: &[u8], made: &[u8], sheet: &[u16], n: u16, out: &mut [u8]) -> usize
+    requires { ⌜ 16180 ≤ length (now sheet) ⌝ }
+    ensures { λ r. ⌜ Writes (tables (now (s .entry)) (now (made .entry)) (rowsIn (now (sheet .entry))) (paramsIn (now (sheet .entry))) (numberIn (now (sheet .entry)))) (orderIn (now (sheet .entry))) n (now (out .entry)) (now (out .exit)) r ⌝ }
+{
+    write_result(
+        s,
+        made,
+        &sheet[512..3072],
+        &sheet[3072..16180],
+        &sheet[16180..],
+        &sheet[..512],
+        n,
+        out,
+    )
 }
 
-// Codes 7 to 11, with the tables lent whose length the book's gives. Each other table is as long as code 10 lets it become.
+// Codes 7 to 11, with the tables lent whose length the book's gives. The generated names' is as long as code 10 lets it become.
 pub fn lift_with(
     s: &[u8],
     ends: &[u16],
-    number: &mut [u16],
+    sheet: &mut [u16],
     binders: &mut [u16],
     bound: &mut [u32],
     uses: &mut [u32],
     spare: &mut [u32],
     out: &mut [u8],
 ) -> Elaborated
-    requires { ⌜ Expanded (now s) × Lent (now s) (now ends) (now number) (now binders) (now bound) (now uses) (now spare) ⌝ }
+    requires { ⌜ Expanded (now s) × Lent (now s) (now ends) (now sheet) (now binders) (now bound) (now uses) (now spare) ⌝ }
     ensures { λ r. ⌜ Lifts (now (s .entry)) (now (out .entry)) (now (out .exit)) r ⌝ }
 {
     let mut made = [0u8; 8192];
-    let mut rows = [0u16; 2560];
-    let mut params = [0u16; 13108];
-    let mut order = [0u16; 512];
-    let body = expand_definitions(
-        s,
-        ends,
-        binders,
-        bound,
-        uses,
-        spare,
-        &mut made,
-        &mut rows,
-        &mut params,
-        number,
-        &mut order,
-    );
+    let body = expand_definitions(s, ends, binders, bound, uses, spare, &mut made, sheet);
     match body {
         Body::Refused(code) => Elaborated::Refused { code },
         Body::Named(counts, n) => {
@@ -56,7 +53,7 @@ pub fn lift_with(
             let length = counts.bytes as u16;
             let definitions = counts.defns as u16;
             let lifted = n as u16;
-            write_result(s, &made, &rows, &params, &number[..], &order, lifted, out);
+            write_parts(s, &made, &sheet[..], lifted, out);
             Elaborated::Done {
                 length,
                 definitions,

@@ -2,7 +2,7 @@
 -- Assumes nothing.
 use mathlib.Core.Path.{_≡_, refl, sym, ap, _∙_}
 use mathlib.Core.List.{List, [], _++_}
-use mathlib.Core.Bool.{Bool, true, false, _||_}
+use mathlib.Core.Bool.{Bool, false, _||_, or-assoc, or-false}
 use Prim.Native.Nat.{ℕ, suc, _+_, _*_, _≤_, _<_}
 use native.Mathlib.Omega.{arith}
 use lib.ListN.{length}
@@ -10,9 +10,9 @@ use Rattle.definition.specs.Tree.{Name}
 use Rattle.definition.specs.Names.{remove}
 use Rattle.laws.proofs.Splits.{Splits}
 use Rattle.laws.proofs.Sizes.{adds}
-use Rattle.writer.specs.Buf.{after, Wrote}
-use Rattle.writer.proofs.Put.{put-nil, put-past}
-use Rattle.writer.proofs.Wrote.{glue, place-is, same-length}
+use Rattle.writer.specs.Buf.{Wrote}
+use Rattle.writer.proofs.Put.{put-past}
+use Rattle.writer.proofs.Wrote.{glue, place-within, wrote-none}
 use Rattle.seek.specs.Here.{Here}
 use Rattle.lookup.specs.Name.{nameAt}
 use Rattle.labels.specs.Labels.{labelsIn, unbindAt}
@@ -42,18 +42,6 @@ pub record Ready (s : List ℕ) (p : ℕ) (l : List ℕ) (n b : ℕ) (bound uses
   pub finds : Finds s bound b
   pub fits : n ≤ suc (length uses)
 
-or-assoc : (a b c : Bool) → (a || b) || c ≡ a || (b || c)
-or-assoc true b c = refl
-or-assoc false b c = refl
-
-pub or-false : (a : Bool) → a ≡ a || false
-or-false true = refl
-or-false false = refl
-
-pub or-true : (a : Bool) → true ≡ a || true
-or-true true = refl
-or-true false = refl
-
 -- behind what was written
 pub ready-past : (w : List ℕ → List ℕ) → Splits w → {s : List ℕ} {p q n b : ℕ} {bound uses : List ℕ} (z : List ℕ) → Ready s p (w z) n b bound uses → Here s q z → Ready s q z n b bound uses
 ready-past w split z r h = record { here = h; few = omega (arith, adds w split z, r .few); room = r .room; finds = r .finds; fits = r .fits }
@@ -65,7 +53,7 @@ module _ {s z : List ℕ} {ns : List Name} {l : Bool} {n b : ℕ} {f : Bool} {bo
     few = omega (arith, adds w split z, r .few, p .same);
     room = omega (arith, r .room, p .long);
     finds = rw (p .same) (finds-same s (p .kept) (r .finds));
-    fits = omega (arith, place-is (p .wrote), same-length (p .wrote));
+    fits = place-within (p .wrote);
   }
 
   -- at another place
@@ -91,15 +79,14 @@ module _ {s z : List ℕ} {ns : List Name} {l : Bool} {n b : ℕ} {f : Bool} {bo
       }
 
 pub wrote-nothing : {s : List ℕ} {p : ℕ} {y : List ℕ} {n b : ℕ} {bound uses : List ℕ} → Ready s p y n b bound uses → Wrote uses n [] uses n
-unfolding after
-wrote-nothing {n = n} {uses = uses} r = record { place = omega (arith, r .fits); holds = sym (put-nil uses n) }
+wrote-nothing r = wrote-none _ _ (r .fits)
 
 -- nothing was used
 pub nothing-used : {s : List ℕ} {p : ℕ} {y : List ℕ} {n b : ℕ} {bound uses : List ℕ} (f : Bool) {q : ℕ} {z : List ℕ} → Ready s p y n b bound uses → Here s q z → Gathered s z [] false n b f bound uses (walk q n b f, bound, uses)
 unfolding namesIn without
 nothing-used f r h = record {
   here = h;
-  left = or-false f;
+  left = sym (or-false f);
   used = [];
   wrote = wrote-nothing r;
   named = refl;

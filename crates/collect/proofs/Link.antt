@@ -3,7 +3,7 @@
 use mathlib.Core.Path.{_≡_, refl, sym, ap, _∙_}
 use mathlib.Core.Logic.{⊎-elim}
 use mathlib.Core.List.{List, [], _∷_, _++_, map}
-use mathlib.Core.Bool.{Bool, true, false, _||_}
+use mathlib.Core.Bool.{Bool, true, false, _||_, or-false, or-true}
 use Prim.Native.Nat.{ℕ, zero, suc, _+_, _*_, _≤_, _<_}
 use native.Mathlib.Nat.{not-suc-le-zero}
 use native.Mathlib.Omega.{arith}
@@ -30,7 +30,7 @@ use Rattle.roots.specs.Recorded.{isBound, timesUse, nameBy, namesBy, lengthBy, 
 use Rattle.collect.specs.Walk.{State, Step, times, many, fieldBy, fieldsBy, wrapBy, caseBy, choiceBy, arrayBy, macroBy, innerBy, chainBy, tailBy, combinatorBy, argumentBy, combinatorAt, argumentAt}
 use Rattle.uses.proofs.Without.{cutBy, use-here, without-here, without-new}
 use Rattle.collect.proofs.Room.{name-long, combinator-long}
-use Rattle.collect.proofs.Gathered.{Gathered, Ready, or-false, or-true, ready-past, ready-on, moves, then, wrote-nothing, nothing-used, hushed, Closed, closed-none, closed-then, binds}
+use Rattle.collect.proofs.Gathered.{Gathered, Ready, ready-past, ready-on, moves, then, wrote-nothing, nothing-used, hushed, Closed, closed-none, closed-then, binds}
 
 same-names : (ns : List Name) → map (cutBy false) ns ≡ ns
 same-names [] = refl
@@ -57,9 +57,9 @@ module _ (s : List ℕ) (small : (i : ℕ) → byteAt s i < 256) (short : length
         let same : Same bound bound (w .b) = record { at = λ j h. refl } in
         ⊎-elim
         (λ (e : isBound s x bound (w .b) ≡ true).
-        rw e record { here = name-here m (r .here); left = or-false (w .leftover); used = []; wrote = wrote-nothing r; named = sym (without-here _ _ (sym found ∙ e)); same = refl; kept = same; long = refl })
+        rw e record { here = name-here m (r .here); left = sym (or-false (w .leftover)); used = []; wrote = wrote-nothing r; named = sym (without-here _ _ (sym found ∙ e)); same = refl; kept = same; long = refl })
         (λ (e : isBound s x bound (w .b) ≡ false).
-        rw e record { here = name-here m (r .here); left = or-false (w .leftover); used = x ∷ []; wrote = record { place = refl; holds = refl }; named = ap (λ (n : Name). n ∷ []) named ∙ sym (without-new _ _ (sym found ∙ e)); same = refl; kept = same; long = refl })
+        rw e record { here = name-here m (r .here); left = sym (or-false (w .leftover)); used = x ∷ []; wrote = record { place = refl; holds = refl }; named = ap (λ (n : Name). n ∷ []) named ∙ sym (without-new _ _ (sym found ∙ e)); same = refl; kept = same; long = refl })
         (yes-no (isBound s x bound (w .b)))
 
     all-names : (cut : Bool) (ns : List Name) (z : List ℕ) (w : Walk) (uses : List ℕ) → Ready s (w .at) (wAll wName ns z) (w .n) (w .b) bound uses
@@ -155,7 +155,7 @@ module _ (s : List ℕ) (small : (i : ℕ) → byteAt s i < 256) (short : length
       (λ (e : bytesOrTail i ≡ false).
       let v : Walk = counted u (u .at) (length (G .2) + 1) in
       rw (byte-here (g .here), stands i (1 ∷ wCombinator c z) (r .here), e)
-      (then h (hushed false q (chain v (G .1) (G .2) record { here = q .here; few = q .few; room = q .room; finds = q .finds; fits = omega arith }) (or-false (u .leftover)))))
+      (then h (hushed false q (chain v (G .1) (G .2) record { here = q .here; few = q .few; room = q .room; finds = q .finds; fits = omega arith }) (sym (or-false (u .leftover))))))
       (yes-no (bytesOrTail i))
 
   -- each inner, from what is known of the combinators in it
@@ -232,7 +232,7 @@ module _ (s : List ℕ) (small : (i : ℕ) → byteAt s i < 256) (short : length
       let p = ready-past (wName n) (s-name n) rest q (name-here n (q .here)) in
       let o = ready-past (wU16 (countA a)) (s-u16 (countA a)) (wInners a z) p (number-past (countA a) (p .here)) in
       rw (byte-here (r .here), many-is u bound uses (argumentAt k s) (countA a) (wInners a z) (p .here))
-      (hushed true r (deep (moved u (pastAt s (u .at) 2)) record { here = o .here; few = o .few; room = o .room; finds = o .finds; fits = omega arith }) (or-true (w .leftover)))
+      (hushed true r (deep (moved u (pastAt s (u .at) 2)) record { here = o .here; few = o .few; room = o .room; finds = o .finds; fits = omega arith }) (sym (or-true (w .leftover))))
 
   -- a field and those after it
   fields-none : (k : ℕ) (w : Walk) (bound uses z : List ℕ) → Ready s (w .at) (wFields no-field z) (w .n) (w .b) bound uses → Closed s z [] false (w .n) (w .b) (w .leftover) bound uses (times (fieldBy (combinatorAt k s) s) 0 w bound uses)

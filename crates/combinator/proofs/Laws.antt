@@ -1,14 +1,14 @@
 -- The parts of a combinator, by the cases of the code.
-use mathlib.Core.Path.{_≡_, refl, ap, sym, _∙_}
+use mathlib.Core.Path.{_≡_, refl}
 use mathlib.Core.List.{List}
 use Prim.Native.Nat.{ℕ, zero, suc, _-_, _≤_, _<_}
 use native.Mathlib.Numerals.{sub-one}
 use native.Mathlib.Omega.{arith}
 use lib.ListN.{drop, getD}
 use Rattle.definition.specs.Code.{number, too-deep}
-use Rattle.definition.specs.Res.{Maybe, absent, just, Res, bad, ok, _>>=_}
-use Rattle.definition.specs.Tree.{Combinator, Inner, Selector, CaseKind, Leaf}
-use Rattle.definition.specs.Read.{Reader, oneOf, tags, flags, fieldKinds, Tag, isLeaf, isConst, holds, combinator, arg, level, tooDeep, items, chain, chainBy, text, name, nameBy, dotted, selector, selectorBy, fields, fieldBy, label, cases}
+use Rattle.definition.specs.Res.{absent, Res, bad, ok, _>>=_}
+use Rattle.definition.specs.Tree.{Combinator, CaseKind}
+use Rattle.definition.specs.Read.{Reader, oneOf, tags, fieldKinds, isConst, combinator, arg, level, tooDeep, items, chain, chainBy, text, name, nameBy, dotted, selector, selectorBy, fields, fieldBy, label, cases}
 use Rattle.cursor.specs.Item.{among}
 use Rattle.cursor.specs.Ends.{Step, got, none, Took, Ends}
 use Rattle.cursor.specs.declared.Cursor.{Cursor}
@@ -16,8 +16,8 @@ use Rattle.cursor.specs.declared.Fault.{Fault}
 use Rattle.cursor.specs.declared.Walked.{Walked}
 use Rattle.cursor.specs.declared.Walked.the-variants.{Past, Refused}
 use Rattle.rows.specs.Rows.{Leads}
-use Rattle.combinator.specs.Tags.{orElse, tagOf, caseKindOf, itemsAt}
-use Rattle.rows.proofs.Bind.{past, then, fails, made, made-in, after}
+use Rattle.combinator.specs.Tags.{orElse, tagOf, itemsAt}
+use Rattle.rows.proofs.Bind.{past, then, fails, made, made-in}
 use Rattle.rows.proofs.Rows.{last}
 use Rattle.combinator.proofs.Table.{entry, tabled, untabled, of-flags, of-tags, of-fields, flag-on, field-holds, leaf-tag}
 

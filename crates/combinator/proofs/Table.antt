@@ -1,33 +1,27 @@
 -- Bytes that stand in a table, by the numbers that the code compares them with.
-use mathlib.Core.Path.{_≡_, refl, sym, _∙_}
+use mathlib.Core.Path.{_≡_, refl}
 use mathlib.Core.List.{List, [], _∷_}
-use mathlib.Core.Bool.{Bool, true, false, _||_, _&&_}
-use mathlib.Core.Logic.{_⊎_, inl, inr, ⊎-elim}
+use mathlib.Core.Bool.{Bool, true, false, _||_, _&&_, false≢true}
+use mathlib.Core.Logic.{⊎-elim}
 use Prim.Native.Nat.{ℕ, zero, suc, _≤_, _<_}
 use native.Mathlib.Omega.{arith}
-use borrow.Author.Tests.{leb-true, leb-false, le-leb, lt-leb, ne-eqb}
-use lib.Dec.{leb, eqb}
+use borrow.Author.Tests.{le-leb, lt-leb, ne-eqb}
+use lib.Dec.{eqb}
 use lib.ListN.{length, getD, drop, List·getD-eq-default}
-use Rattle.definition.specs.Code.{Code, not-a-book}
+use Rattle.numbers.proofs.Order.{within}
+use Rattle.definition.specs.Code.{Code}
 use Rattle.definition.specs.Res.{Maybe, absent, just, Res, bad, ok, _>>=_}
-use Rattle.definition.specs.Tree.{Leaf, constraint-int, constraint-enum, bits, enum, tail, nothing, never, CaseKind, enums, ints, arrays, FieldKind, ordinary, dependent}
-use Rattle.definition.specs.Read.{Reader, byte, known, oneOf, flags, tags, caseKinds, fieldKinds, kinds, text, label, Tag, isLeaf, isStruct, isWrap, isChoice, isVec, isArray, isBytes, isOption, isInvocation, isMacroInvocation, FieldStart, holds, isConst}
+use Rattle.definition.specs.Tree.{Leaf, never, arrays, FieldKind, ordinary, dependent}
+use Rattle.definition.specs.Read.{byte, known, oneOf, flags, tags, caseKinds, fieldKinds, text, label, Tag, isLeaf, isStruct, isWrap, isChoice, isVec, isArray, isBytes, isOption, isInvocation, isMacroInvocation, holds, isConst}
 use Rattle.cursor.specs.Item.{among}
-use Rattle.cursor.specs.Ends.{Step, got, none, Took, Gives, Fails, Ends}
+use Rattle.cursor.specs.Ends.{Step, got, none, Took, Gives, Ends}
 use Rattle.cursor.specs.declared.Cursor.{Cursor}
 use Rattle.cursor.specs.declared.Fault.{Fault}
 use Rattle.cursor.specs.declared.Walked.{Walked}
-use Rattle.cursor.specs.declared.Walked.the-variants.{Past, Refused}
+use Rattle.cursor.specs.declared.Walked.the-variants.{Refused}
 use Rattle.cursor.proofs.Laws.{took-got, took-none, fails-as}
 use Rattle.combinator.specs.Tags.{orElse, tagOf, caseKindOf}
 use Rattle.rows.proofs.Bind.{after, stops, same-bad}
-
-either-by : (a b : ℕ) (t : Bool) → leb a b ≡ t → (a ≤ b) ⊎ (b < a)
-either-by a b true e = inl (leb-true a b e)
-either-by a b false e = inr (leb-false a b e)
-
-pub either : (a b : ℕ) → (a ≤ b) ⊎ (b < a)
-either a b = either-by a b (leb a b) refl
 
 -- a table with an entry for each number from low to high, and for no other
 pub record Spans {A : Type 0} (t : List (Maybe A)) (d : A) (low high : ℕ) : Type 0 where
@@ -79,9 +73,9 @@ module _ {A : Type 0} where
         (λ (g : low ≤ x). ⊎-elim
         (λ (h : x ≤ high). let e′ = rw (le-leb low x g, le-leb x high h) at e in let v : x ≡ b = cc in let w : l ≡ r = cc in rw (← v, ← w) (rw (sp .inside x g h), g, h))
         (λ (h : high < x). let e′ = rw (le-leb low x g, lt-leb x high h) at e in let z : _≡_ {A = ℕ} 0 1 = cc in absurd (omega arith))
-        (either x high))
+        (within x high))
         (λ (g : x < low). let e′ = rw (lt-leb low x g) at e in let z : _≡_ {A = ℕ} 0 1 = cc in absurd (omega arith))
-        (either low x)
+        (within low x)
 
     one-bad : (l : List ℕ) (k : Code) (r : List ℕ) → among low high l ≡ bad k r → oneOf t l ≡ bad k r
     unfolding among byte known oneOf
@@ -91,9 +85,9 @@ module _ {A : Type 0} where
         (λ (g : low ≤ x). ⊎-elim
         (λ (h : x ≤ high). let e′ = rw (le-leb low x g, le-leb x high h) at e in let z : _≡_ {A = ℕ} 0 1 = cc in absurd (omega arith))
         (λ (h : high < x). rw (sp .above x h) (same-bad (rw (le-leb low x g, lt-leb x high h) at e)))
-        (either x high))
+        (within x high))
         (λ (g : x < low). rw (sp .below x g) (same-bad (rw (lt-leb low x g) at e)))
-        (either low x)
+        (within low x)
 
 module _ {A : Type 0} {t : List (Maybe A)} {d : A} {low high : ℕ} (sp : Spans t d low high) {s : List ℕ} {p : ℕ} {x : Step} where
   pub entry : {b : ℕ} {c : Cursor} → Took s p x (among low high (drop p s)) → x ≡ got b c
@@ -148,9 +142,6 @@ all : (ℕ → Bool) → ℕ → Bool
 all f zero = true
 all f (suc n) = f n && all f n
 
-not-both : false ≡ true → ⊥
-not-both e = let z : _≡_ {A = ℕ} 0 1 = cc in omega arith
-
 and-left : (a b : Bool) → (a && b) ≡ true → a ≡ true
 and-left true b e = refl
 and-left false b e = e
@@ -163,7 +154,7 @@ all-at : (f : ℕ → Bool) (n : ℕ) → all f n ≡ true → (i : ℕ) → i <
 unfolding all
 all-at f zero e i h = absurd (omega arith)
 all-at f (suc n) e i h =
-    ⊎-elim (λ (g : n ≤ i). let w : i ≡ n = omega arith in rw w (and-left (f n) (all f n) e)) (λ (g : i < n). all-at f n (and-right (f n) (all f n) e) i g) (either n i)
+    ⊎-elim (λ (g : n ≤ i). let w : i ≡ n = omega arith in rw w (and-left (f n) (all f n) e)) (λ (g : i < n). all-at f n (and-right (f n) (all f n) e) i g) (within n i)
 
 leafy : Tag → Bool
 leafy (isLeaf k) = true
@@ -187,15 +178,15 @@ leaf-test = refl
 leaf-is : (t : Tag) → leafy t ≡ true → (k : Leaf) × (t ≡ isLeaf k)
 unfolding leafy
 leaf-is (isLeaf k) e = (k, refl)
-leaf-is isStruct e = absurd (not-both e)
-leaf-is isWrap e = absurd (not-both e)
-leaf-is isChoice e = absurd (not-both e)
-leaf-is isVec e = absurd (not-both e)
-leaf-is isArray e = absurd (not-both e)
-leaf-is isBytes e = absurd (not-both e)
-leaf-is isOption e = absurd (not-both e)
-leaf-is isInvocation e = absurd (not-both e)
-leaf-is isMacroInvocation e = absurd (not-both e)
+leaf-is isStruct e = absurd (false≢true e)
+leaf-is isWrap e = absurd (false≢true e)
+leaf-is isChoice e = absurd (false≢true e)
+leaf-is isVec e = absurd (false≢true e)
+leaf-is isArray e = absurd (false≢true e)
+leaf-is isBytes e = absurd (false≢true e)
+leaf-is isOption e = absurd (false≢true e)
+leaf-is isInvocation e = absurd (false≢true e)
+leaf-is isMacroInvocation e = absurd (false≢true e)
 
 -- a tag that is none of those with more than a text
 pub leaf-tag : (b : ℕ) → (b ≡ 4 → ⊥) → (b ≡ 5 → ⊥) → (b ≡ 7 → ⊥) → (b ≡ 8 → ⊥) → (b ≡ 9 → ⊥) → (b ≡ 10 → ⊥) → (b ≡ 12 → ⊥) → (b ≡ 15 → ⊥) → (b ≡ 16 → ⊥)
@@ -207,4 +198,4 @@ leaf-tag b f₄ f₅ f₇ f₈ f₉ f₁₀ f₁₂ f₁₅ f₁₆ =
     (λ (g : b < 17). leaf-is (tagOf b)
     (rw (ne-eqb b 4 f₄, ne-eqb b 5 f₅, ne-eqb b 7 f₇, ne-eqb b 8 f₈, ne-eqb b 9 f₉, ne-eqb b 10 f₁₀, ne-eqb b 12 f₁₂, ne-eqb b 15 f₁₅, ne-eqb b 16 f₁₆)
     at (all-at leafTest 17 leaf-test b g)))
-    (either 17 b)
+    (within 17 b)

@@ -1,11 +1,11 @@
 -- Definitions as a book's contents list them, from the first to the last.
 -- Assumes nothing.
-use mathlib.Core.Path.{_≡_, refl, sym, ap, _∙_}
+use mathlib.Core.Path.{_≡_, refl, _∙_}
 use mathlib.Core.List.{List, [], _∷_, _++_, map}
-use Prim.Native.Nat.{ℕ, _+_, _*_, _/_, _%_, _≤_, min, max}
+use Prim.Native.Nat.{ℕ, _+_, _*_, _/_, _%_, _≤_}
 use native.Mathlib.Omega.{arith}
 use lib.ListN.{length, length-append, length-map}
-use Rattle.definition.specs.Tree.{Definition, format, constant, byte-order, macro, Entry}
+use Rattle.definition.specs.Tree.{Definition, format, constant, byte-order, macro}
 use Rattle.definition.specs.Write.{wU16, wAll, wDefinition, kindOf, kindByte, sizeOf, wEntries, wParts, entryOf, wBook}
 use Rattle.definition.specs.Size.{levelsBook}
 use Rattle.laws.specs.Book.{IsBook}

@@ -12,8 +12,8 @@ use Rattle.definition.specs.Size.{levelsP}
 use Rattle.seek.specs.At.{pastAt, numberAt, namePast}
 use Rattle.seek.specs.Here.{Here}
 use Rattle.seek.proofs.Here.{number-here, number-past, name-here}
-use Rattle.marks.specs.declared.Walk.{Walk}
-use Rattle.marks.specs.Steps.{walk}
+use Rattle.walk.specs.declared.Walk.{Walk}
+use Rattle.walk.specs.Steps.{walk}
 use Rattle.calls.specs.Walk.{skipAt}
 use Rattle.calls.proofs.Link.{skipped}
 use Rattle.contents.specs.Params.{ParamPast, ParamsLeft, ParamsPast}

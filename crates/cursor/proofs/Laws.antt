@@ -1,24 +1,19 @@
 -- The answers of the cursor's methods.
-use mathlib.Core.Path.{_≡_, refl, ap, sym, _∙_, subst}
-use mathlib.Core.List.{List, [], _∷_}
+use mathlib.Core.Path.{_≡_, refl, _∙_, subst}
+use mathlib.Core.List.{List}
 use mathlib.Core.Bool.{Bool, true, false}
-use Prim.Native.Nat.{ℕ, zero, suc, _+_, _-_, _*_, _≤_, _<_}
+use Prim.Native.Nat.{ℕ, _+_, _-_, _*_, _≤_, _<_}
 use native.Mathlib.Omega.{arith}
 use borrow.Author.Tests.{le-leb, lt-leb}
 use lib.ListN.{length, getD, take, drop, length-drop}
 use Rattle.definition.specs.Code.{Code, number, not-a-book, bad-name}
-use Rattle.definition.specs.Res.{Res, bad, ok, _>>=_, from}
-use Rattle.definition.specs.Read.{byte, u16, part, text, nameBy, known}
+use Rattle.definition.specs.Res.{Res, bad, _>>=_}
+use Rattle.definition.specs.Read.{byte, u16, text, nameBy, known}
 use Rattle.utf8.specs.Tested.{tested}
 use Rattle.cursor.specs.Item.{among}
-use Rattle.cursor.specs.Ends.{Along, Gives, Fails, Step, got, none, Took, TookBy, Part, ofByte, ofNumber}
+use Rattle.cursor.specs.Ends.{Gives, Fails, Step, got, none, Took, TookBy, Part}
 use Rattle.cursor.specs.declared.Cursor.{Cursor}
 use Rattle.cursor.specs.declared.Fault.{Fault}
-use Rattle.cursor.specs.declared.ByteStep.{ByteStep}
-use Rattle.cursor.specs.declared.ByteStep.the-variants.{Byte, NoByte}
-use Rattle.cursor.specs.declared.NumberStep.{NumberStep}
-use Rattle.cursor.specs.declared.NumberStep.the-variants.{Number, NoNumber}
-use Rattle.cursor.specs.declared.Walked.{Walked}
 use Rattle.cursor.specs.declared.Walked.the-variants.{Past, Refused}
 use Rattle.cursor.proofs.Lists.{along, byte-end, byte-at, u16-none, u16-one, u16-at, part-at, part-past, u16-whole, u16-two}
 

@@ -1,7 +1,6 @@
 -- The readers of single items, at a place of a list.
-use mathlib.Core.Path.{_≡_, refl, sym, _∙_}
+use mathlib.Core.Path.{_≡_, refl}
 use mathlib.Core.List.{List, [], _∷_}
-use mathlib.Core.Bool.{Bool, true, false}
 use Prim.Native.Nat.{ℕ, zero, suc, _+_, _-_, _*_, _≤_, _<_}
 use native.Mathlib.Nat.{add-sub-cancel-left}
 use native.Mathlib.Numerals.{add-one}
@@ -9,7 +8,7 @@ use native.Mathlib.Omega.{arith}
 use lib.ListN.{length, getD, take, drop, drop-of-length-le, length-drop}
 use lib.Seq.{drop-cons, drop-drop}
 use Rattle.definition.specs.Code.{Code, not-a-book}
-use Rattle.definition.specs.Res.{Res, bad, ok, _>>=_}
+use Rattle.definition.specs.Res.{bad, ok, _>>=_}
 use Rattle.definition.specs.Read.{byte, u16, part}
 use Rattle.cursor.specs.Ends.{Along}
 

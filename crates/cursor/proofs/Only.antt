@@ -1,7 +1,7 @@
 -- No second answer fits: what the contracts say of a reading leaves one answer.
-use mathlib.Core.Path.{_≡_, refl, ap, sym, _∙_}
+use mathlib.Core.Path.{_≡_, ap, sym, _∙_}
 use mathlib.Core.List.{List}
-use Prim.Native.Nat.{ℕ, _+_}
+use Prim.Native.Nat.{ℕ}
 use native.Mathlib.Omega.{arith}
 use lib.ListN.{length, drop}
 use Rattle.definition.specs.Code.{Code, number}
@@ -11,6 +11,15 @@ use Rattle.cursor.specs.declared.Cursor.{Cursor}
 use Rattle.cursor.specs.declared.Fault.{Fault}
 use Rattle.cursor.specs.declared.Walked.{Walked}
 use Rattle.cursor.specs.declared.Walked.the-variants.{Past, Refused}
+
+-- a reading that failed gave no value
+pub no-value : {A : Type 0} {k : Code} {r r′ : List ℕ} {a : A} → bad k r ≡ ok a r′ → ⊥
+no-value e = let z : _≡_ {A = ℕ} 0 1 = cc in omega arith
+
+-- a name or a text, as any reading
+pub walked : {s : List ℕ} {p from : ℕ} {m : Res (List ℕ) (List ℕ)} {r : Walked} → Part s p from r m → Ends s p r m
+walked {r = Past c} e = record { told = (_, e .told) }
+walked {r = Refused f} e = record { told = e .told }
 
 same-fault : (f g : Fault) → f .code ≡ g .code → f .at ≡ g .at → f ≡ g
 same-fault f g e h = let r : _≡_ {A = Fault} (record { code = f .code; at = f .at }) (record { code = g .code; at = g .at }) = rw (e, h) in r
@@ -39,7 +48,7 @@ module _ (s : List ℕ) (p : ℕ) where
         same-fault f f′ (sym (x .coded) ∙ ap number k ∙ y .coded) (one-place (f .at) (f′ .at) (x .along) (y .along) w)
 
     pub not-both : {a : A} {q : ℕ} {f : Fault} → Gives s p a q m → Fails s p f m → ⊥
-    not-both x y = let e = sym (x .gives) ∙ y .fails in let z : _≡_ {A = ℕ} 0 1 = cc in omega arith
+    not-both x y = no-value (sym (y .fails) ∙ x .gives)
 
     pub one-walked : (r r′ : Walked) → Ends s p r m → Ends s p r′ m → r ≡ r′
     one-walked (Past c) (Past d) x y = let e = one-value (x .told .1) (y .told .1) in ap Past (same-at c d (e .1))
@@ -47,12 +56,8 @@ module _ (s : List ℕ) (p : ℕ) where
     one-walked (Refused f) (Past c) x y = absurd (not-both (y .told .1) (x .told))
     one-walked (Refused f) (Refused g) x y = ap Refused (one-fault f g (x .told) (y .told))
 
-  as-ends : {from : ℕ} {m : Res (List ℕ) (List ℕ)} (r : Walked) → Part s p from r m → Ends s p r m
-  as-ends (Past c) x = record { told = (_, x .told) }
-  as-ends (Refused f) x = record { told = x .told }
-
   pub one-part : {from : ℕ} {m : Res (List ℕ) (List ℕ)} (r r′ : Walked) → Part s p from r m → Part s p from r′ m → r ≡ r′
-  one-part r r′ x y = one-walked r r′ (as-ends r x) (as-ends r′ y)
+  one-part r r′ x y = one-walked r r′ (walked x) (walked y)
 
   pub one-step : {m : Res (List ℕ) ℕ} (r r′ : Step) → Took s p r m → Took s p r′ m → r ≡ r′
   one-step (got n c) (got k d) x y = let e = one-value (x .told) (y .told) in rw (e .0) (ap (λ (q : Cursor). got k q) (same-at c d (e .1)))

@@ -2,7 +2,7 @@
 use mathlib.Core.Bool.{_&&_, cond}
 use Prim.Native.Nat.{ℕ}
 use lib.Dec.{leb}
-use Rattle.definition.specs.Res.{Maybe, absent, just, Res, bad, ok, _>>=_}
+use Rattle.definition.specs.Res.{Maybe, absent, just, _>>=_}
 use Rattle.definition.specs.Read.{Reader, byte, known}
 
 -- the numbers from low to high, as a table

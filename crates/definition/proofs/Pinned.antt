@@ -2,8 +2,9 @@
 use mathlib.Core.Path.{refl}
 use Rattle.definition.specs.Utf8.{utf8}
 use Rattle.definition.specs.Write.{wBook}
+use Rattle.definition.specs.Rows.{all, _&_}
 use Rattle.definition.specs.Notation.{hex, vecs, args}
-use Rattle.definition.specs.Pinned.{nested, table, seen, expected, all, _&_, Pinned}
+use Rattle.definition.specs.Pinned.{nested, table, seen, expected, Pinned}
 
 pub pinned : Pinned
 unfolding utf8 hex vecs args nested wBook table seen expected

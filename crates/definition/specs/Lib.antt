@@ -15,6 +15,7 @@ pub mod Answer
 pub mod Bodies
 pub mod Premise
 pub mod Listing
+pub mod Rows
 pub mod Notation
 pub mod Worked
 pub mod Pinned

@@ -5,8 +5,9 @@ use Prim.Native.Nat.{ℕ, zero, suc, _+_, _-_, _*_}
 use Prim.Native.Char.{Char, code}
 use Prim.Native.String.{String}
 use lib.Dec.{ltb}
+use lib.ListN.{replicate}
 use Rattle.definition.specs.Utf8.{utf8}
-use Rattle.definition.specs.Tree.{constraint-int, bits, enum, tail, nothing, Len, wrap, vec, option, array, ordinary, dependent, Combinator, plain, Inner, leaf, struct, shell, bytes, invocation, macro-invocation, Fields, no-field, field, Cases, case, Inners, no-inner, inner, Param, Definition, format, macro}
+use Rattle.definition.specs.Tree.{Name, constraint-int, bits, enum, tail, nothing, Len, wrap, vec, option, array, ordinary, dependent, Combinator, plain, Inner, leaf, struct, shell, bytes, invocation, macro-invocation, Fields, no-field, field, Cases, case, Inners, no-inner, inner, Param, Definition, format, macro}
 
 -- bytes as document 01 writes them: two upper-case digits each, a space between
 abbrev digit : Char → ℕ
@@ -91,3 +92,14 @@ fmt n ps c = format (utf8 n) ps c
 
 abbrev pub mac : String → List String → Combinator → Definition
 mac n ps c = macro (utf8 n) (map utf8 ps) c
+
+-- a book of one format m, without parameters
+abbrev pub m : Combinator → List Definition
+m c = fmt "m" [] c ∷ []
+
+-- a name of n bytes, and a leaf whose text has n
+abbrev pub long : ℕ → Name
+long n = replicate n 107
+
+abbrev pub fat : ℕ → Combinator
+fat n = plain (leaf enum (replicate n 46))

@@ -1,6 +1,5 @@
 -- A second table, for what P1 to P10 leave open: each code, each tag and wrapper, parameters in byte order, the premise test, the listing,
 -- and the readings that docs/DECISIONS.md numbers. One theorem over it: `Pinned`, proved in proofs/Pinned.
-use mathlib.Core.Path.{_≡_}
 use mathlib.Core.List.{List, [], _∷_, _++_}
 use Prim.Native.Nat.{ℕ, zero, suc, _+_}
 use Prim.Native.String.{String}
@@ -8,13 +7,14 @@ use lib.ListN.{length, replicate}
 use Rattle.definition.specs.Utf8.{utf8}
 use Rattle.definition.specs.Code.{number}
 use Rattle.definition.specs.Res.{Res, bad, ok}
-use Rattle.definition.specs.Tree.{Name, leaf, enum, struct, none, by, enums, ints, arrays, choice, invocation, no-field, const, no-case, Inner, Combinator, plain, chained, Definition, format, constant, byte-order}
+use Rattle.definition.specs.Tree.{leaf, enum, struct, none, by, enums, ints, arrays, choice, invocation, no-field, const, no-case, Inner, Combinator, plain, chained, Definition, format, constant, byte-order}
 use Rattle.definition.specs.Contents.{readBook}
 use Rattle.definition.specs.Write.{wBook}
 use Rattle.definition.specs.Answer.{Answer, answer, output, place}
 use Rattle.definition.specs.Premise.{PremiseAnswer, premise}
 use Rattle.definition.specs.Listing.{listing}
-use Rattle.definition.specs.Notation.{hex, Int, Enum, Bits, Tail, Nothing, Bytes, Vec, Option, Array, Wrap, Call, ord, dep, on, one, vecs, Macro, param, fmt, mac}
+use Rattle.definition.specs.Rows.{Each}
+use Rattle.definition.specs.Notation.{hex, Int, Enum, Bits, Tail, Nothing, Bytes, Vec, Option, Array, Wrap, Call, ord, dep, on, one, vecs, Macro, param, fmt, mac, m, long, fat}
 use Rattle.definition.specs.Worked.{Outcome, refuses, gives, answerOf, noise}
 
 pub data Row : Type 0 where
@@ -26,7 +26,7 @@ pub data Row : Type 0 where
   tells : List ℕ → ℕ → ℕ → ℕ → Row
   lists : List ℕ → String → Row
 
-abbrev becomes : ℕ → List Definition → Outcome
+abbrev pub becomes : ℕ → List Definition → Outcome
 becomes n ds = gives n ds (wBook ds)
 
 abbrev room : Outcome → ℕ
@@ -39,10 +39,6 @@ raw b o = elaborates b (room o) 65536 o
 
 abbrev tree : List Definition → Outcome → Row
 tree ds o = raw (wBook ds) o
-
--- a book of one format m, without parameters
-abbrev m : Combinator → List Definition
-m c = fmt "m" [] c ∷ []
 
 abbrev uses : String → Combinator
 uses n = plain (Bytes (n ∷ []))
@@ -58,13 +54,6 @@ zz = plain (Macro "zz" [])
 unfoldable pub nested : ℕ → Inner
 nested zero = Nothing
 nested (suc k) = Macro "z" (nested k ∷ [])
-
--- a name of n bytes, and a leaf whose text has n
-abbrev long : ℕ → Name
-long n = replicate n 107
-
-abbrev fat : ℕ → Combinator
-fat n = plain (leaf enum (replicate n 46))
 
 unfoldable pub bytesRows : List Row
 bytesRows =
@@ -268,12 +257,6 @@ unfoldable pub table : List Row
 unfolding bytesRows macroRows liftRows saidRows
 table = bytesRows ++ macroRows ++ liftRows ++ saidRows
 
--- every row of a table comes out as it is written
-infixr 10 _&_
-pub data Each : List Row → Type 0 where
-  all : Each []
-  _&_ : {r : Row} {rs : List Row} → seen r ≡ expected r → Each rs → Each (r ∷ rs)
-
 -- the theorem
 abbrev pub Pinned : Type 0
-Pinned = Each table
+Pinned = Each seen expected table

@@ -40,7 +40,7 @@ pub record Range : Type 0 where
   pub low : ℕ
   pub high : ℕ
 
-abbrev range : ℕ → ℕ → Range
+abbrev pub range : ℕ → ℕ → Range
 range l h = record { low = l; high = h }
 
 abbrev pub inside : Range → ℕ → Bool

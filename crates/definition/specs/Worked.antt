@@ -1,7 +1,6 @@
 -- Document 01, "Worked books": P1 to P10 as one table, with one theorem over it (`Worked`, proved in proofs/Worked).
 -- A row has the book as a tree and as bytes, and what comes of it. The bytes were written by another program than the definition.
 -- "Run: 63 Vecs .." is run by the programs over the code.
-use mathlib.Core.Path.{_≡_}
 use mathlib.Core.List.{List, [], _∷_, _++_}
 use Prim.Native.Nat.{ℕ}
 use Prim.Native.String.{String}
@@ -12,6 +11,7 @@ use Rattle.definition.specs.Tree.{plain, chained, struct, no-field, Comb
 use Rattle.definition.specs.Write.{wBook}
 use Rattle.definition.specs.Answer.{Answer, answer, output}
 use Rattle.definition.specs.Listing.{listing}
+use Rattle.definition.specs.Rows.{Each}
 use Rattle.definition.specs.Notation.{hex, Int, Enum, Nothing, Bytes, Vec, Call, ord, dep, one, Macro, param, fmt, mac}
 
 -- what comes of a book: a code, or the result's tree and bytes and the count lifted
@@ -183,12 +183,6 @@ expected r = record {
   listing = given (r .listing);
 }
 
--- every row of a table comes out as it is written
-infixr 10 _&_
-pub data Each : List Row → Type 0 where
-  all : Each []
-  _&_ : {r : Row} {rs : List Row} → seen r ≡ expected r → Each rs → Each (r ∷ rs)
-
 -- the theorem
 abbrev pub Worked : Type 0
-Worked = Each table
+Worked = Each seen expected table

@@ -13,14 +13,14 @@ use Rattle.definition.specs.Contents.{book}
 use Rattle.definition.specs.Write.{wBook}
 use Rattle.definition.specs.Size.{sizeBook, levelsBook}
 use Rattle.definition.specs.Names.{child, segment, caseSegment, shellSegment}
-use Rattle.definition.specs.Macros.{Macro, macros, expand, expandAll, expandList, expandBook}
+use Rattle.definition.specs.Macros.{Macro, macros, expandAll, expandList, expandBook}
 use Rattle.definition.specs.Collect.{anonymousLeaf, anonymous, anonymousI}
 use Rattle.definition.specs.Lift.{full, State, Walk, childBy, bind, walk, walkI, walkF, walkC, walkAll, start, liftBook}
 use Rattle.definition.specs.Answer.{Result, all, out, outcome, source, expanded, elaborated, answered, attempt, answer}
 use Rattle.laws.specs.Book.{Bytes, IsBook}
 use Rattle.laws.proofs.Steps.{yielded}
 use Rattle.laws.proofs.NoneKnown.{none-known}
-use Rattle.laws.proofs.Results.{written-is-read, elaborated-book}
+use Rattle.laws.proofs.Results.{expand-says, lift-says, written-is-read, elaborated-book}
 use Rattle.demand3.specs.Words.{EachBody}
 use Rattle.demand3.specs.Flat.{CalmLeaf, Calm, CalmI, CalmF, CalmC, Flat, FlatI, FlatAll}
 use Rattle.demand3.proofs.Demand3.{comes}
@@ -49,10 +49,6 @@ same-all (format n ps c ∷ ds) h = rw (none-known c, same-all ds (h .1))
 same-all (constant n x ∷ ds) h = rw (same-all ds h)
 same-all (byte-order x ∷ ds) h = rw (same-all ds h)
 same-all (macro n ps c ∷ ds) h = absurd h
-
-expand-says : (ds : List Definition) → expandBook ds ≡ expandList ds
-unfolding expandBook
-expand-says ds = refl
 
 expand-again : (ds : List Definition) → Ends ds → expandBook ds ≡ done ds
 unfolding expandList
@@ -138,10 +134,6 @@ still-all (format n ps c ∷ ds) f s = rw (still c (f .0) n ps s, still-all ds (
 still-all (constant n x ∷ ds) f s = rw (still-all ds f s)
 still-all (byte-order x ∷ ds) f s = rw (still-all ds f s)
 still-all (macro n ps c ∷ ds) f s = rw (still-all ds f s)
-
-lift-says : (ds : List Definition) → liftBook ds ≡ walkAll full ds (start ds)
-unfolding liftBook
-lift-says ds = refl
 
 -- nothing is lifted out of flat bodies
 pub nothing-lifted : (ds : List Definition) → EachBody Flat ds → outcome (liftBook ds) ≡ done (record { kept = ds; lifted = [] })

@@ -5,9 +5,10 @@ use seek::byte;
 use seek::past;
 use tables::plus;
 use tables::put_binder;
-use tables::store;
+use tables::store_in;
 ghost use mathlib.Core.Path.{_≡_};
 ghost use Prim.Native.Nat.{_≤_};
+ghost use Rattle.tables.specs.Parts.{orderIn, rowsIn, paramsIn, numberIn, Parts};
 ghost use Rattle.done.specs.Done.{passed, bindBy, boundAfter, delivered, closedOf, orderOf};
 
 // What a node takes after lifting, its inner alone, and how many lifts are finished.
@@ -85,14 +86,14 @@ fn deliver(f: Frame, at: usize, end: usize, whole: usize, bound: usize) -> Frame
 }
 
 // The end of a node: "its definition is appended after theirs".
-pub fn close_node(f: Frame, order: &mut [u16], n: usize) -> Closed
+pub fn close_node(f: Frame, sheet: &mut [u16], n: usize) -> Closed
     requires { ⌜ n ≤ 65536 ⌝ }
-    ensures { λ r. ⌜ (r ≡ closedOf f n) × (now (order .exit) ≡ orderOf f (now (order .entry)) n) ⌝ }
+    ensures { λ r. ⌜ (r ≡ closedOf f n) × Parts (now (sheet .exit)) (orderOf f (orderIn (now (sheet .entry))) n) (rowsIn (now (sheet .entry))) (paramsIn (now (sheet .entry))) (numberIn (now (sheet .entry))) ⌝ }
 {
     let own = f.own;
     let call = f.call;
     if own != 0 {
-        store(order, n, own - 1);
+        store_in(sheet, 0, 512, n, own - 1);
         let inner = minus(call, 1);
         return Closed {
             whole: call,

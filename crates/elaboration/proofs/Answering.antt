@@ -9,17 +9,16 @@ use lib.Dec.{leb}
 use lib.ListN.{length, take}
 use lib.Seq.{take-all}
 use Rattle.definition.specs.Code.{work-short, output-short}
-use Rattle.definition.specs.Out.{Out, refused, done, _>>=_, given}
-use Rattle.definition.specs.Tree.{Definition}
+use Rattle.definition.specs.Out.{Out, _>>=_, given}
 use Rattle.definition.specs.Write.{wBook}
 use Rattle.definition.specs.Lift.{liftBook}
 use Rattle.definition.specs.Answer.{expanded, elaborated, Result, all, outcome, attempt, answer, output}
 use Rattle.laws.proofs.Steps.{grouped-out}
-use Rattle.closing.specs.declared.Elaborated.{Elaborated}
-use Rattle.closing.specs.declared.Elaborated.the-variants.{Refused}
+use Rattle.report.specs.declared.Elaborated.{Elaborated}
+use Rattle.report.specs.declared.Elaborated.the-variants.{Refused}
 use Rattle.beginning.specs.Begins.{opened, Refuses, Expands}
-use Rattle.closing.specs.Elaborates.{reported, Reports, lifted, Expanded, Lifts}
-use Rattle.closing.proofs.Reporting.{reports-refused, reports-lifted}
+use Rattle.report.specs.Elaborates.{reported, Reports, lifted, Expanded, Lifts}
+use Rattle.report.proofs.Reporting.{reports-refused, reports-lifted}
 
 elaborated-says : (b : List ℕ) → elaborated b ≡ (expanded b >>= λ ds. outcome (liftBook ds))
 unfolding elaborated

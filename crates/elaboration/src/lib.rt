@@ -1,16 +1,16 @@
 // The whole elaboration: what it answers, what it writes and what it leaves in the work area, for every input.
 use beginning::Begun;
 use beginning::begin;
-use closing::Elaborated;
 use opening::Opened;
 use opening::expand_book;
+use report::Elaborated;
 use room::lift_book;
 use zeroing::zero_range;
 ghost use mathlib.Core.Path.{_≡_};
 ghost use lib.ListN.{length};
 ghost use Rattle.definition.specs.Answer.{attempt, answer, output, zeroed};
 ghost use Rattle.beginning.specs.Begins.{Sound};
-ghost use Rattle.closing.specs.Elaborates.{reported, Reports};
+ghost use Rattle.report.specs.Elaborates.{reported, Reports};
 
 // The elaboration of a book with macros, which is expanded into an array of its own, with the work area left as it is then.
 fn attempt_expanded(book: &[u8], out: &mut [u8], work: &mut [u8]) -> Elaborated

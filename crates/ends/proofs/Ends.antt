@@ -11,8 +11,7 @@ use Rattle.definition.specs.Write.{wInner}
 use Rattle.definition.specs.Size.{levelsI}
 use Rattle.laws.proofs.Sizes.{sizeI}
 use Rattle.seek.specs.Here.{Here}
-use Rattle.marks.specs.Steps.{walk}
-use Rattle.calls.specs.Walked.{Skipped}
+use Rattle.walk.specs.Steps.{walk}
 use Rattle.calls.proofs.Link.{skipped}
 use Rattle.ends.specs.Ends.{innerEnd, Right, Stood}
 

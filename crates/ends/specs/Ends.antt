@@ -9,7 +9,7 @@ use Rattle.definition.specs.Write.{wInner}
 use Rattle.definition.specs.Size.{levelsI}
 use Rattle.laws.proofs.Sizes.{sizeI}
 use Rattle.seek.specs.Here.{Here}
-use Rattle.marks.specs.Steps.{walk}
+use Rattle.walk.specs.Steps.{walk}
 use Rattle.calls.specs.Walk.{skipAt}
 
 -- where the inner at a place ends, by the walker over calls

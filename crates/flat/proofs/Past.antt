@@ -18,7 +18,7 @@ use Rattle.lifting.proofs.Ranges.{sizeI-some}
 use Rattle.seek.specs.At.{pastAt, namePast, textPast, selectorPast, labelPast, pick}
 use Rattle.seek.specs.Here.{Here}
 use Rattle.seek.proofs.Here.{here-length, byte-here, next-here, number-here, number-past, name-here, text-here, list-here, len-here, selector-here, label-here}
-use Rattle.marks.specs.Steps.{textOrLength}
+use Rattle.walk.specs.Steps.{textOrLength}
 use Rattle.ends.proofs.Ends.{inner-rest}
 use Rattle.flat.specs.Flat.{calm, calmI, calmF, calmC, flatI, flat}
 use Rattle.flat.specs.Past.{Step, times, many, wrapBy, innerBy, tailBy, combinatorBy, calmPast, fieldBy, caseBy, choiceBy, rootBy, flatAt}

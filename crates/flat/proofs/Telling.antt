@@ -1,22 +1,18 @@
--- The bodies of formats, one after the other; and the copy.
+-- The bodies of formats, one after the other.
 -- Assumes nothing.
-use mathlib.Core.Path.{_≡_, refl, sym, _∙_}
+use mathlib.Core.Path.{_≡_, refl, _∙_}
 use mathlib.Core.List.{List}
-use mathlib.Core.Bool.{Bool, true}
-use Prim.Native.Nat.{ℕ, _+_, _≤_}
+use mathlib.Core.Bool.{Bool}
+use Prim.Native.Nat.{ℕ}
 use native.Mathlib.Omega.{arith}
-use lib.ListN.{length}
-use borrow.Author.Tests.{le-leb}
 use Rattle.definition.specs.Write.{wDefinition, wCombinator}
 use Rattle.seek.specs.At.{namePast}
 use Rattle.seek.proofs.Here.{name-here}
 use Rattle.contents.specs.Params.{ParamsPast}
 use Rattle.bodies.specs.Tested.{FormatTested, BodiesTested}
-use Rattle.writer.specs.Buf.{Wrote}
-use Rattle.writer.proofs.Put.{put-fits}
 use Rattle.flat.specs.Flat.{flat}
 use Rattle.flat.specs.Past.{flatAt}
-use Rattle.flat.specs.Told.{Told, Copied}
+use Rattle.flat.specs.Told.{Told}
 use Rattle.flat.proofs.Past.{flat-here}
 
 pub format-told : {s : List ℕ} {at params body : ℕ} → params ≡ namePast s at → ParamsPast s params body → {r : Bool} → r ≡ flatAt s body → FormatTested s at flat 8192 r
@@ -27,8 +23,3 @@ format-told {s} {body = body} e p f = record {
 
 pub book-told : {s : List ℕ} {r : Bool} → BodiesTested s flat 8192 r → Told s r
 book-told v = record { says = λ ds e b. v .says ds e b refl }
-
-pub copied : {s out out′ : List ℕ} {n : ℕ} → length s ≤ length out → Wrote out 0 s out′ n → Copied s out out′ true
-copied {s} {out} l w =
-    let z : 0 + length s ≡ length s = omega arith in
-    record { fits = sym (le-leb (length s) (length out) l); holds = w .holds ∙ (rw z at (put-fits out 0 s (omega arith))) }

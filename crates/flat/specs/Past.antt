@@ -4,7 +4,7 @@ use mathlib.Core.Bool.{Bool, true, false}
 use Prim.Native.Nat.{ℕ, zero, suc}
 use lib.Dec.{eqb, ltb}
 use Rattle.seek.specs.At.{byteAt, pastAt, numberAt, namePast, textPast, listPast, lengthPast, selectorPast, labelPast, pick}
-use Rattle.marks.specs.Steps.{textOrLength}
+use Rattle.walk.specs.Steps.{textOrLength}
 use Rattle.ends.specs.Ends.{innerEnd}
 
 -- from a place to the one behind, or to 0

@@ -1,7 +1,6 @@
 // A flat book, out of which nothing is lifted: it is told by one walk, by position over validated bytes, and copied.
 use contents::params_past;
 use ends::inner_end;
-use marks::text_or_length;
 use seek::byte;
 use seek::label_past;
 use seek::length_past;
@@ -11,12 +10,12 @@ use seek::number;
 use seek::past;
 use seek::selector_past;
 use seek::text_past;
-use writer::put_bytes;
+use walk::text_or_length;
 ghost use mathlib.Core.Path.{_≡_};
 ghost use Rattle.bodies.specs.Tested.{FormatTested, DefinitionTested};
 ghost use Rattle.flat.specs.Flat.{flat};
 ghost use Rattle.flat.specs.Past.{calmPast, innerPast, wrapPast, tailPast, fieldPast, fieldsPast, choicePast, rootPast, flatAt};
-ghost use Rattle.flat.specs.Told.{Told, Copied};
+ghost use Rattle.flat.specs.Told.{Told};
 
 // Where a combinator ends, with so many levels left; 0 where a struct, choice, enum or bits stands in it.
 fn calm_past(s: &[u8], at: usize, levels: usize) -> usize
@@ -194,16 +193,5 @@ pub fn is_flat(s: &[u8]) -> bool
             return false;
         }
     }
-    true
-}
-
-// Whether the output is long enough for the book. If so, its first bytes are the book's and the rest is as before; else all is as before.
-pub fn copy_book(s: &[u8], out: &mut [u8]) -> bool
-    ensures { λ r. ⌜ Copied (now (s .entry)) (now (out .entry)) (now (out .exit)) r ⌝ }
-{
-    if out.len() < s.len() {
-        return false;
-    }
-    put_bytes(s, out, 0);
     true
 }

@@ -25,7 +25,7 @@ use Rattle.lift.specs.declared.Counts.{Counts}
 use Rattle.lift.specs.Bound.{boundFrom}
 use Rattle.lift.specs.Sheet.{Sheet, sheetOf}
 use Rattle.lifting.specs.Trace.{paramsAt}
-use Rattle.naming.specs.Walk.{Extent}
+use Rattle.naming.specs.Walk.{Extent, walk}
 use Rattle.naming.specs.Lifts.{Scratch}
 use Rattle.walked.specs.Book.{ownBound, walkAll}
 use Rattle.body.specs.declared.Body.{Body}
@@ -33,7 +33,12 @@ use Rattle.body.specs.declared.Body.the-variants.{Named, Refused}
 use Rattle.steps.specs.Good.{Good}
 use Rattle.body.specs.Walks.{Ready, Ends, Walks}
 use Rattle.own.specs.Own.{Params, Binds, Own}
-use Rattle.format.specs.Formats.{Format, EndsIn, Formatted, Defined}
+use Rattle.format.specs.Formats.{Format, EndsIn, Defined}
+
+-- what is said of a format
+pub record Formatted (s : List ℕ) (at : ℕ) (made places rows params order : List ℕ) (w : Counts) (n : ℕ) (made′ places′ hashes′ hints′ rows′ params′ number′ order′ : List ℕ) (r : Body) : Type 0 where
+  pub says : (m : Name) (ps : List Param) (c : Combinator) (z : List ℕ) → Here s at (wDefinition (format m ps c) z) → levelsP ps ≤ 64 → levels c ≤ 64
+      → EndsIn (walk c (at + head m ps) m (ownBound ps (paramsAt at m)) (sheetOf s made places rows params (take n order) w)) s made′ places′ hashes′ hints′ rows′ params′ number′ order′ r
 
 -- a name that was put into an empty path
 pub held : {d : List ℕ} {name : Name} {d′ : List ℕ} {r : ℕ} → Wrote d 0 name d′ r → Held d′ r name

@@ -1,20 +1,17 @@
 -- The naming pass over one definition.
 use mathlib.Core.Path.{_≡_}
 use mathlib.Core.List.{List, [], _∷_}
-use Prim.Native.Nat.{ℕ, _+_, _≤_}
+use Prim.Native.Nat.{ℕ, _≤_}
 use lib.ListN.{length, take}
 use Rattle.definition.specs.Res.{Res}
 use Rattle.definition.specs.Tree.{Name, Combinator, Param, Definition, format}
 use Rattle.definition.specs.Write.{wDefinition, kindOf, kindByte}
 use Rattle.definition.specs.Size.{levels, levelsP, levelsBook}
-use Rattle.laws.proofs.Sizes.{head}
 use Rattle.seek.specs.Here.{Here}
-use Rattle.lifting.specs.Trace.{paramsAt}
 use Rattle.lift.specs.declared.Counts.{Counts}
 use Rattle.lift.specs.Sheet.{Sheet, sheetOf}
-use Rattle.naming.specs.Walk.{walk}
 use Rattle.naming.specs.Lifts.{Scratch}
-use Rattle.walked.specs.Book.{ownBound, walkAll}
+use Rattle.walked.specs.Book.{walkAll}
 use Rattle.body.specs.declared.Body.{Body}
 use Rattle.steps.specs.Good.{Good}
 use Rattle.body.specs.Walks.{Ends}
@@ -36,10 +33,6 @@ pub record Format (s : List ℕ) (at : ℕ) : Type 0 where
 -- a walk ends with the answer r, and the tables say what it says
 abbrev pub EndsIn : {A : Type 0} → Res Sheet A → List ℕ → List ℕ → List ℕ → List ℕ → List ℕ → List ℕ → List ℕ → List ℕ → List ℕ → Body → Type 0
 EndsIn m s made places hashes hints rows params number order r = Ends m r (λ v k. sheetOf s made places rows params (take k order) v) (λ v k. Good s made places hashes hints rows params number order v k)
-
-pub record Formatted (s : List ℕ) (at : ℕ) (made places rows params order : List ℕ) (w : Counts) (n : ℕ) (made′ places′ hashes′ hints′ rows′ params′ number′ order′ : List ℕ) (r : Body) : Type 0 where
-  pub says : (m : Name) (ps : List Param) (c : Combinator) (z : List ℕ) → Here s at (wDefinition (format m ps c) z) → levelsP ps ≤ 64 → levels c ≤ 64
-      → EndsIn (walk c (at + head m ps) m (ownBound ps (paramsAt at m)) (sheetOf s made places rows params (take n order) w)) s made′ places′ hashes′ hints′ rows′ params′ number′ order′ r
 
 pub record Defined (s : List ℕ) (kind at : ℕ) (made places rows params order : List ℕ) (w : Counts) (n : ℕ) (made′ places′ hashes′ hints′ rows′ params′ number′ order′ : List ℕ) (r : Body) : Type 0 where
   pub says : (d : Definition) (z : List ℕ) → Here s at (wDefinition d z) → kind ≡ kindByte (kindOf d) → levelsBook (d ∷ []) ≤ 64

@@ -17,25 +17,23 @@ use Rattle.lift.specs.Sheet.{sheetOf}
 use Rattle.walked.specs.Book.{blank, walkBook}
 use Rattle.body.specs.declared.Body.{Body}
 use Rattle.steps.specs.Good.{Good}
-use Rattle.start.specs.Rows.{Book, AtStart}
+use Rattle.start.specs.Rows.{AtStart}
 use Rattle.inorder.specs.InOrder.{InOrder}
 use Rattle.formats.specs.Expands.{Starts, Expands}
-use Rattle.start.proofs.Rows.{book-short}
+use Rattle.report.proofs.Reporting.{expanded-short}
 
 abbrev pub counts : ℕ → ℕ → ℕ → Counts
 counts taken bytes defns = record { taken = taken; end = 0; lifts = 0; params = 0; bytes = bytes; defns = defns }
 
 module _ {s made rows params number order : List ℕ} (x : Starts s made rows params number order) where
-  pub the-book : Book s
-  the-book = record { of = x .of; book = x .book; isBook = x .isBook }
-
   module _ {places hashes hints : List ℕ} {taken : ℕ} (t : AtStart s places hashes hints taken) {defns : ℕ} (ed : defns ≡ numberAt s 0) where
     pub good : 512 ≤ length places → 512 ≤ length hashes → 512 ≤ length hints → Good s made places hashes hints rows params number order (counts taken (length s) defns) 0
     unfolding rowsOf lastFrom
     good lp lh li =
-        let r = t .says (x .of) (x .book) (x .isBook) in
-        let d : defns ≡ length (x .of) = ed ∙ book-listed s (x .of) (x .book) (x .isBook) .0 in
-        let l = book-short the-book in
+        let k = x .book in
+        let r = t .says (k .of) (k .book) (k .isBook) in
+        let d : defns ≡ length (k .of) = ed ∙ book-listed s (k .of) (k .book) (k .isBook) .0 in
+        let l = expanded-short k in
         record {
           tables = record {
             source = l;
@@ -52,7 +50,7 @@ module _ {s made rows params number order : List ℕ} (x : Starts s made rows pa
             room = omega arith;
             few = (omega arith, omega (arith, r .1));
             bytes-most = l;
-            defns-most = omega (arith, x .isBook .few);
+            defns-most = omega (arith, k .isBook .few);
           };
           number-long = x .number-long;
           numbered = λ p h. x .blank p;

@@ -6,6 +6,7 @@ use lib.ListN.{length, take, getD}
 use Rattle.definition.specs.Tree.{Definition}
 use Rattle.definition.specs.Write.{wBook}
 use Rattle.laws.specs.Book.{IsBook}
+use Rattle.report.specs.Elaborates.{Expanded}
 use Rattle.lift.specs.Sheet.{sheetOf}
 use Rattle.walked.specs.Book.{walkBook}
 use Rattle.body.specs.declared.Body.{Body}
@@ -14,9 +15,7 @@ use Rattle.body.specs.Walks.{Ends}
 
 -- the expanded book, and tables that are long enough; no place has a number yet
 pub record Starts (s made rows params number order : List ℕ) : Type 0 where
-  pub of : List Definition
-  pub book : s ≡ wBook of
-  pub isBook : IsBook of
+  pub book : Expanded s
   pub made-long : 8192 ≤ length made
   pub rows-long : 2560 ≤ length rows
   pub params-long : 13108 ≤ length params

@@ -6,6 +6,7 @@ use start::take_at_start;
 ghost use Prim.Native.Nat.{_≤_};
 ghost use lib.ListN.{length};
 ghost use Rattle.ends.specs.Ends.{Right};
+ghost use Rattle.tables.specs.Parts.{orderIn, rowsIn, paramsIn, numberIn};
 ghost use Rattle.naming.specs.Lifts.{Scratch};
 ghost use Rattle.formats.specs.Expands.{Starts, Expands};
 
@@ -18,13 +19,10 @@ pub fn expand_definitions(
     uses: &mut [u32],
     spare: &mut [u32],
     made: &mut [u8],
-    rows: &mut [u16],
-    params: &mut [u16],
-    number: &mut [u16],
-    order: &mut [u16],
+    sheet: &mut [u16],
 ) -> Body
-    requires { ⌜ Starts (now s) (now made) (now rows) (now params) (now number) (now order) × Scratch (now s) (now bound) (now uses) (now spare) × (length (now s) ≤ length (now binders)) × Right (now s) (now ends) ⌝ }
-    ensures { λ r. ⌜ Expands (now (s .entry)) (now (made .exit)) (now (rows .exit)) (now (params .exit)) (now (number .exit)) (now (order .exit)) r ⌝ }
+    requires { ⌜ Starts (now s) (now made) (rowsIn (now sheet)) (paramsIn (now sheet)) (numberIn (now sheet)) (orderIn (now sheet)) × Scratch (now s) (now bound) (now uses) (now spare) × (length (now s) ≤ length (now binders)) × Right (now s) (now ends) ⌝ }
+    ensures { λ r. ⌜ Expands (now (s .entry)) (now (made .exit)) (rowsIn (now (sheet .exit))) (paramsIn (now (sheet .exit))) (numberIn (now (sheet .exit))) (orderIn (now (sheet .exit))) r ⌝ }
 {
     let mut path = [0u8; 255];
     let mut places = [0u16; 512];
@@ -52,10 +50,7 @@ pub fn expand_definitions(
         &mut places,
         &mut hashes,
         &mut hints,
-        rows,
-        params,
-        number,
-        order,
+        sheet,
         w,
     )
 }

@@ -10,7 +10,7 @@ use native.Mathlib.Nat.{eq-or-lt-of-le, le-refl}
 use lib.ListN.{length, getD}
 use Rattle.definition.specs.Tree.{Name}
 use Rattle.definition.specs.Names.{eqName, elem}
-use Rattle.lookup.proofs.Names.{yes-no, clash, ne-length, eqName-true}
+use Rattle.lookup.proofs.Names.{yes-no, not-both, ne-length, eqName-true}
 use Rattle.hash.specs.Hash.{hashOf}
 use Rattle.hash.proofs.Hash.{hash-ne}
 use Rattle.taken.specs.Taken.{Store, row, taken, Table}
@@ -32,7 +32,7 @@ module _ (x : Name) (names : Store) (places : List ℕ) where
       (yes-no (eqName x (row names places n)))
     where
       other : eqName x (row names places n) ≡ false → j < n
-      other q = ⊎-elim (λ (k : j ≡ n). clash (sym (ap (λ (m : ℕ). eqName x (row names places m)) k) ∙ e) q) (λ k. k) (eq-or-lt-of-le (omega arith))
+      other q = ⊎-elim (λ (k : j ≡ n). not-both _ (sym (ap (λ (m : ℕ). eqName x (row names places m)) k) ∙ e) q) (λ k. k) (eq-or-lt-of-le (omega arith))
 
   module _ {n r : ℕ} (f : Found x names places n r) where
     pub found-not : r ≡ n → elem x (taken names places n) ≡ false
@@ -78,7 +78,7 @@ module _ {hashes : List ℕ} (i : ℕ) {hash : ℕ} where
   }
 
   pub hashed : Hashed hashes (i + 1) hash true
-  hashed = record { none = λ e j h. clash refl e }
+  hashed = record { none = λ e j h. not-both _ refl e }
 
 -- a name whose hash no row has
 pub no-row : (x : Name) {names : Store} {places hashes : List ℕ} {n hash : ℕ} {seen : Bool} → Table names places hashes n → hash ≡ hashOf x → Hashed hashes n hash seen → seen ≡ false

@@ -1,4 +1,3 @@
-pub mod Entries
 pub mod Rows
 mod Whole
 pub mod Only

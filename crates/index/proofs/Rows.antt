@@ -2,44 +2,37 @@
 use mathlib.Core.Path.{_≡_, refl, ap, sym, _∙_, subst}
 use mathlib.Core.List.{List, [], _∷_}
 use mathlib.Core.Bool.{Bool, true, false, cond}
-use mathlib.Core.Logic.{⊎-elim}
 use Prim.Native.Nat.{ℕ, zero, suc, _+_, _-_, _*_, _≤_, _<_}
 use native.Mathlib.Nat.{add-assoc, add-zero, mul-suc, mul-zero, mul-le-mul}
 use native.Mathlib.Numerals.{sub-one}
 use native.Mathlib.Omega.{arith}
 use borrow.Author.Tests.{eq-eqb, ne-eqb, eqb-true, eqb-false}
+use lib.Arith.{lt-of-le-ne}
 use lib.Dec.{eqb}
-use lib.ListN.{length, take, drop, getD, length-drop}
+use lib.ListN.{length, take, drop, length-drop}
 use lib.Seq.{drop-cons, drop-length}
 use Rattle.definition.specs.Code.{Code, number, not-a-book}
 use Rattle.definition.specs.Res.{Res, bad, ok, _>>=_}
 use Rattle.definition.specs.Tree.{Entry}
-use Rattle.definition.specs.Read.{Reader, part}
 use Rattle.definition.specs.Contents.{entry, entries, cut, whole, atEnd, count, contents, Body}
-use Rattle.cursor.specs.Ends.{Along, Gives, Fails, Ends}
+use Rattle.cursor.specs.Ends.{Along, Ends}
 use Rattle.cursor.specs.declared.Cursor.{Cursor}
 use Rattle.cursor.specs.declared.Fault.{Fault}
 use Rattle.cursor.specs.declared.Walked.{Walked}
 use Rattle.cursor.specs.declared.Walked.the-variants.{Past, Refused}
 use Rattle.cursor.proofs.Lists.{along, part-at}
 use Rattle.cursor.proofs.Laws.{fails-as}
-use Rattle.rows.proofs.Bind.{rebase, made, stops, same-bad}
-use Rattle.combinator.proofs.Table.{either}
-use Rattle.index.specs.Table.{Told, Found, FoundBy, total, filled, rowOf, Holds, table}
-use Rattle.index.specs.declared.EntryStep.{EntryStep}
-use Rattle.index.specs.declared.EntryStep.the-variants.{Entry as Found-entry, NoEntry}
-use Rattle.index.proofs.Entries.{Opened, opened}
-
--- two readings that gave a value, taken apart
-pub no-value : {A : Type 0} (k : Code) (r r′ : List ℕ) (a : A) → bad k r ≡ ok a r′ → ⊥
-no-value k r r′ a e = let z : _≡_ {A = ℕ} 0 1 = cc in omega arith
-
-below : (a b : ℕ) → a ≤ b → (a ≡ b → ⊥) → a < b
-below a b h f = ⊎-elim (λ (g : b ≤ a). absurd (f (omega arith))) (λ (g : a < b). g) (either b a)
+use Rattle.cursor.proofs.Only.{no-value}
+use Rattle.rows.proofs.Bind.{rebase, made, same-bad}
+use Rattle.entry.specs.Found.{Told, Found, FoundBy}
+use Rattle.index.specs.Table.{total, filled, rowOf, Holds, table}
+use Rattle.entry.specs.declared.EntryStep.{EntryStep}
+use Rattle.entry.specs.declared.EntryStep.the-variants.{Entry as Found-entry, NoEntry}
+use Rattle.entry.proofs.Entries.{opened}
 
 module _ {B C : Type 0} (h : B → C) (c : C) (z : List ℕ) where
   part-one : (m : Res (List ℕ) B) → (m >>= λ w. ok (h (w .0)) (w .1)) ≡ ok c z → (b : B) × (m ≡ ok b z) × (h b ≡ c)
-  part-one (bad k r) e = absurd (no-value k r z c e)
+  part-one (bad k r) e = absurd (no-value e)
   part-one (ok b r) e = let v : h b ≡ c = cc in let w : r ≡ z = cc in (b, rw w, v)
 
 -- the first of several entries that were read
@@ -53,7 +46,7 @@ pub record First (width all n at : ℕ) (l : List ℕ) (es : List Entry) (z : Li
 
 first-by : (width all n at : ℕ) (l : List ℕ) (es : List Entry) (z : List ℕ) (m : Res (List ℕ) Entry) → entry width all at l ≡ m
     → (m >>= λ y. entries width all n (at + y .0 .size) (y .1) >>= λ w. ok (y .0 ∷ w .0) (w .1)) ≡ ok es z → First width all n at l es z
-first-by width all n at l es z (bad k r) f e = absurd (no-value k r z es e)
+first-by width all n at l es z (bad k r) f e = absurd (no-value e)
 first-by width all n at l es z (ok x r) f e =
     let o = part-one (λ (xs : List Entry). x ∷ xs) es z (entries width all n (at + x .size) r) e in
     record { first = x; others = o .0; later = r; reads = f; then = o .1; both = o .2 }
@@ -180,18 +173,18 @@ module _ (s : List ℕ) (more : ℕ) where
 
       left-by : (t : Bool) → eqb ends (length s) ≡ t → (k : Code) (r : List ℕ) → filled s (2 + (6 + more) * n) es z ≡ bad k r → whole (cut es z) ≡ bad k r
       unfolding filled
-      left-by true e k r f = absurd (no-value k r z es (sym (rw e at f)))
+      left-by true e k r f = absurd (no-value (sym (rw e at f)))
       left-by false e k r f =
           let i = lies in
           let u = cut-fits es (2 + (6 + more) * n) (i .1) in
           let y = eqb-false ends (length s) e in
-          let v : ends < length s = below ends (length s) (i .1) y in
+          let v : ends < length s = lt-of-le-ne (i .1) y in
           rw (i .0, u .1) (whole-left (u .0) ends v ∙ same-bad (rw e at f))
 
       full-by : (t : Bool) → eqb ends (length s) ≡ t → (es′ : List Entry) (r : List ℕ) → filled s (2 + (6 + more) * n) es z ≡ ok es′ r → (es ≡ es′) × (z ≡ r) × (ends ≡ length s)
       unfolding filled
       full-by true e es′ r f = let g = rw e at f in let v : es ≡ es′ = cc in let y : z ≡ r = cc in (v, y, eqb-true ends (length s) e)
-      full-by false e es′ r f = absurd (no-value _ _ r es′ (rw e at f))
+      full-by false e es′ r f = absurd (no-value (rw e at f))
 
     table-by : (m : Res (List ℕ) (List Entry)) → entries (6 + more) (length s) n (2 + (6 + more) * n) (drop 2 s) ≡ m → (k : Code) (r : List ℕ)
         → (m >>= λ y. filled s (2 + (6 + more) * n) (y .0) (y .1)) ≡ bad k r → (m >>= λ y. whole (cut (y .0) (y .1))) ≡ bad k r
@@ -204,7 +197,7 @@ module _ (s : List ℕ) (more : ℕ) where
 
     holds-by : n ≤ 512 → (m : Res (List ℕ) (List Entry)) → entries (6 + more) (length s) n (2 + (6 + more) * n) (drop 2 s) ≡ m → (es : List Entry) (z : List ℕ)
         → (m >>= λ y. filled s (2 + (6 + more) * n) (y .0) (y .1)) ≡ ok es z → (Holds s (6 + more) n) × (z ≡ drop (2 + (6 + more) * n) s) × (2 + (6 + more) * n ≤ length s)
-    holds-by few (bad j x) e es z f = absurd (no-value j x z es f)
+    holds-by few (bad j x) e es z f = absurd (no-value f)
     holds-by few (ok es′ z′) e es z f =
         let i = lies es′ z′ e in
         let u = cut-fits es′ (2 + (6 + more) * n) (i .1) in
@@ -227,12 +220,9 @@ module _ (s : List ℕ) (more : ℕ) where
     unfolding rowOf
     table-holds few es z f = holds-by few _ refl es z f
 
--- where the loops start: `w` is what the code has for `more`
-module _ (s : List ℕ) (more w n : ℕ) (e : w ≡ more) where
-  pub start-row : 2 ≤ length s
-      → (n ≤ 0 → 2 + (6 + w) * n ≤ length s)
-      × ((r : Walked) → Ends s 2 r (rowOf (6 + more) s n (2 + (6 + w) * n) (drop 2 s)) → Ends s 2 r (rowOf (6 + more) s n (2 + (6 + more) * n) (drop 2 s)))
-  start-row h = (λ z. let q : n ≡ 0 = omega arith in rw (q, mul-zero) h, λ r i. rw e at i)
+-- where the loop starts
+pub start-row : (all more n : ℕ) → 2 ≤ all → n ≤ 0 → 2 + (6 + more) * n ≤ all
+start-row all more n h z = let q : n ≡ 0 = omega arith in rw (q, mul-zero) h
 
 pub small : (w n : ℕ) → w < 256 → n ≤ 512 → (6 + w) * n ≤ 134144
 small w n h g = mul-le-mul {n₁ = 6 + w} {m₁ = n} {n₂ = 262} {m₂ = 512} (omega arith) g

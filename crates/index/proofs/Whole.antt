@@ -2,16 +2,16 @@
 use mathlib.Core.Path.{_≡_, refl, ap, _∙_}
 use mathlib.Core.List.{List}
 use mathlib.Core.Bool.{Bool, true, false}
-use Prim.Native.Nat.{ℕ, zero, suc, _+_, _-_, _*_, _≤_, _<_}
+use Prim.Native.Nat.{ℕ, _+_, _-_, _*_, _≤_, _<_}
 use native.Mathlib.Omega.{arith}
 use borrow.Author.Tests.{le-leb, lt-leb, leb-true}
 use lib.Dec.{leb}
 use lib.ListN.{length, drop, length-drop}
-use Rattle.definition.specs.Code.{Code, number, not-a-book}
+use Rattle.definition.specs.Code.{number, not-a-book}
 use Rattle.definition.specs.Res.{Res, bad, ok, _>>=_, require, from}
 use Rattle.definition.specs.Read.{u16}
 use Rattle.definition.specs.Contents.{count, contents}
-use Rattle.cursor.specs.Ends.{Along, Gives, Fails, Step, got, none, Took, ofNumber, Ends}
+use Rattle.cursor.specs.Ends.{Along, Gives, Step, got, none, Took, Ends}
 use Rattle.cursor.specs.declared.Cursor.{Cursor}
 use Rattle.cursor.specs.declared.Fault.{Fault}
 use Rattle.cursor.specs.declared.NumberStep.the-variants.{Number, NoNumber}
@@ -19,9 +19,10 @@ use Rattle.cursor.specs.declared.Walked.{Walked}
 use Rattle.cursor.specs.declared.Walked.the-variants.{Past, Refused}
 use Rattle.cursor.proofs.Lists.{u16-two, u16-whole}
 use Rattle.cursor.proofs.Laws.{took-got, took-none, fails-as}
+use Rattle.cursor.proofs.Only.{no-value}
 use Rattle.rows.proofs.Bind.{past, refused}
 use Rattle.index.specs.Table.{rowOf, table, Tabled}
-use Rattle.index.proofs.Rows.{no-value, table-bad, table-holds}
+use Rattle.index.proofs.Rows.{table-bad, table-holds}
 
 -- the count
 module _ (s : List ℕ) (x : Step) (t : Took s 0 x (u16 s)) where
@@ -46,10 +47,10 @@ place-is s p q h g a e = omega (arith, ap length e, length-drop q s, length-drop
 -- a count that was read
 few-by : (s l : List ℕ) (m : ℕ) (n : ℕ) (r : List ℕ) (t : Bool) → leb m 512 ≡ t → from s (require t not-a-book l >>= λ y. ok m (y .1)) ≡ ok n r → (m ≡ n) × (l ≡ r) × (m ≤ 512)
 few-by s l m n r true e w = let v : m ≡ n = cc in let y : l ≡ r = cc in (v, y, leb-true m 512 e)
-few-by s l m n r false e w = absurd (no-value not-a-book s r n w)
+few-by s l m n r false e w = absurd (no-value w)
 
 count-by : (s : List ℕ) (n : ℕ) (r : List ℕ) (m : Res (List ℕ) ℕ) → from s (m >>= λ y. require (leb (y .0) 512) not-a-book (y .1) >>= λ z. ok (y .0) (z .1)) ≡ ok n r → (m ≡ ok n r) × (n ≤ 512)
-count-by s n r (bad k l) e = absurd (no-value k s r n e)
+count-by s n r (bad k l) e = absurd (no-value e)
 count-by s n r (ok m l) e = let f = few-by s l m n r (leb m 512) refl e in (rw (f .0, f .1), rw (f .0) at (f .2))
 
 module _ (s : List ℕ) {x : Step} {n : ℕ} {c : Cursor} (t : Took s 0 x (count s)) (e : x ≡ got n c) where

@@ -4,36 +4,15 @@ use mathlib.Core.List.{List, [], _∷_}
 use mathlib.Core.Bool.{cond}
 use Prim.Native.Nat.{ℕ, _+_, _*_, _≤_}
 use lib.Dec.{eqb}
-use lib.ListN.{length, drop, getD}
+use lib.ListN.{length, drop}
 use Rattle.definition.specs.Code.{not-a-book}
-use Rattle.definition.specs.Res.{Maybe, absent, just, Res, bad, ok, _>>=_}
+use Rattle.definition.specs.Res.{bad, ok, _>>=_}
 use Rattle.definition.specs.Tree.{Entry}
-use Rattle.definition.specs.Read.{Reader, kinds}
+use Rattle.definition.specs.Read.{Reader}
 use Rattle.definition.specs.Contents.{entries, contents, count, cut, whole, Body}
 use Rattle.cursor.specs.Ends.{Fails}
-use Rattle.cursor.specs.declared.Cursor.{Cursor}
 use Rattle.cursor.specs.declared.NumberStep.{NumberStep}
 use Rattle.cursor.specs.declared.NumberStep.the-variants.{Number, NoNumber}
-use Rattle.index.specs.declared.EntryStep.{EntryStep}
-use Rattle.index.specs.declared.EntryStep.the-variants.{Entry as Found-entry, NoEntry}
-
--- an entry that was read: its kind's byte, where its body ends, and where it ends itself
-pub record Told (s : List ℕ) (p want width : ℕ) (kind end : ℕ) (c : Cursor) (m : Res (List ℕ) Entry) : Type 0 where
-  pub value : Entry
-  pub byte : kind ≡ getD s p 0
-  pub gives : m ≡ ok value (drop (c .at) s)
-  pub kinded : getD kinds kind absent ≡ just (value .kind)
-  pub sized : end ≡ want + value .size
-  pub fits : end ≤ length s
-  pub past : c .at ≡ p + width
-  pub within : c .at ≤ length s
-
-abbrev pub FoundBy : List ℕ → ℕ → ℕ → ℕ → EntryStep → Res (List ℕ) Entry → Type 0
-FoundBy s p want width (Found-entry k e c) m = Told s p want width k e c m
-FoundBy s p want width (NoEntry f) m = Fails s p f m
-
-pub record Found (s : List ℕ) (p want width : ℕ) (r : EntryStep) (m : Res (List ℕ) Entry) : Type 0 where
-  pub told : FoundBy s p want width r m
 
 -- the bytes of all bodies
 unfoldable pub total : List Entry → ℕ

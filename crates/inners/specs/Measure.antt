@@ -6,7 +6,7 @@ use Prim.Native.Nat.{ℕ, zero, suc}
 use lib.Dec.{eqb, leb}
 use lib.ListN.{length, set}
 use Rattle.seek.specs.At.{byteAt, pastAt, numberAt, namePast, textPast, listPast, lengthPast, selectorPast, labelPast, pick}
-use Rattle.marks.specs.Steps.{textOrLength}
+use Rattle.walk.specs.Steps.{textOrLength}
 
 -- a place and the table
 abbrev pub State : Type 0

@@ -1,5 +1,4 @@
 // One walk over a combinator that fills the table of ends: where the inner at each place that it comes to ends. By position and total on any bytes.
-use marks::text_or_length;
 use seek::byte;
 use seek::label_past;
 use seek::length_past;
@@ -9,6 +8,7 @@ use seek::number;
 use seek::past;
 use seek::selector_past;
 use seek::text_past;
+use walk::text_or_length;
 ghost use mathlib.Core.Path.{_≡_};
 ghost use Rattle.inners.specs.Measure.{kept, combinatorAt, innerAt, behindAt, fieldsAt, fieldAt, wrapAt, choiceAt, argumentsAt, argumentAt};
 

@@ -20,13 +20,13 @@ use Rattle.lifting.specs.After.{firstAt}
 use Rattle.lifting.specs.Trace.{paramsAt}
 use Rattle.lift.specs.declared.Counts.{Counts}
 use Rattle.lift.specs.Sheet.{Sheet, sheetOf}
-use Rattle.naming.specs.Walk.{Extent, walk}
+use Rattle.naming.specs.Walk.{walk}
 use Rattle.walked.specs.Book.{ownBound, walkAll}
 use Rattle.body.specs.declared.Body.the-variants.{Named, Refused}
 use Rattle.steps.specs.Good.{Good}
 use Rattle.body.specs.Walks.{Ends}
 use Rattle.body.proofs.Rounds.{Lengths}
-use Rattle.start.specs.Rows.{Book}
+use Rattle.report.specs.Elaborates.{Expanded}
 use Rattle.format.specs.Formats.{Space, Format, EndsIn, Defined}
 use Rattle.inorder.specs.InOrder.{InOrder}
 
@@ -92,7 +92,7 @@ module _ {s made₀ places₀ rows₀ params₀ order₀ : List ℕ} {w₀ : Cou
       of (d ∷ ds) e = absurd (omega arith)
 
   module _ (more : 0 < left) {kind : ℕ} (ek : kind ≡ byteAt s entry) where
-    pub going-format : Book s → kind ≡ 1 → Format s at
+    pub going-format : Expanded s → kind ≡ 1 → Format s at
     going-format b k = let r = g .goes (b .of) (b .book) (b .isBook) in of (r .rest) (r .listed) (r .count)
       where
         of : (rest : List Definition) → Listed s entry at rest → left ≡ length rest → Format s at
@@ -114,7 +114,7 @@ module _ {s made₀ places₀ rows₀ params₀ order₀ : List ℕ} {w₀ : Cou
             → (walkAll (d ∷ []) at (sheetOf s made places rows params (take n order) w) ≡ ok tt (sheetOf s made′ places′ rows′ params′ (take k order′) v)) × Good s made′ places′ hashes′ hints′ rows′ params′ number′ order′ v k
         first {d} {ds} l = ends-named _ _ _ v k (x .says d (wAll wDefinition ds []) (listed-body l) (ek ∙ listed-kind l) (listed-deep l))
 
-        pub going-step : Book s → {size at₁ entry₁ : ℕ} → size ≡ numberAt s (pastAt s entry 4) → at₁ ≡ pastAt s at size → entry₁ ≡ pastAt s entry 6
+        pub going-step : Expanded s → {size at₁ entry₁ : ℕ} → size ≡ numberAt s (pastAt s entry 4) → at₁ ≡ pastAt s at size → entry₁ ≡ pastAt s entry 6
             → Going s made₀ places₀ rows₀ params₀ order₀ w₀ made′ places′ hashes′ hints′ rows′ params′ number′ order′ v k entry₁ at₁ (left - 1)
         going-step b {size} {at₁} {entry₁} ez ea ee = record {
           good = let r = g .goes (b .of) (b .book) (b .isBook) in well (r .rest) (r .listed) (r .count);
@@ -138,8 +138,8 @@ module _ {s made₀ places₀ rows₀ params₀ order₀ : List ℕ} {w₀ : Cou
                 }
 
 -- ---- the rows keep their lengths
-pub kept : {s path₀ binders₀ bound₀ uses₀ spare₀ made₀ places₀ hashes₀ hints₀ rows₀ params₀ number₀ order₀ path binders bound uses spare made places hashes hints rows params number order : List ℕ} → Space s path₀ binders₀ bound₀ uses₀ spare₀
-    → Lengths path₀ binders₀ bound₀ uses₀ spare₀ made₀ places₀ hashes₀ hints₀ rows₀ params₀ number₀ order₀ path binders bound uses spare made places hashes hints rows params number order → Space s path binders bound uses spare
+pub kept : {s path₀ binders₀ bound₀ uses₀ spare₀ made₀ places₀ hashes₀ hints₀ sheet₀ path binders bound uses spare made places hashes hints sheet : List ℕ} → Space s path₀ binders₀ bound₀ uses₀ spare₀
+    → Lengths path₀ binders₀ bound₀ uses₀ spare₀ made₀ places₀ hashes₀ hints₀ sheet₀ path binders bound uses spare made places hashes hints sheet → Space s path binders bound uses spare
 kept x l = record {
   scratch = record {
     small = x .scratch .small;

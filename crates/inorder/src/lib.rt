@@ -6,7 +6,8 @@ use seek::byte;
 use seek::number;
 use seek::past;
 ghost use Rattle.ends.specs.Ends.{Right};
-ghost use Rattle.start.specs.Rows.{Book};
+ghost use Rattle.tables.specs.Parts.{orderIn, rowsIn, paramsIn, numberIn};
+ghost use Rattle.report.specs.Elaborates.{Expanded};
 ghost use Rattle.steps.specs.Good.{Good};
 ghost use Rattle.format.specs.Formats.{Space};
 ghost use Rattle.inorder.specs.InOrder.{InOrder};
@@ -24,14 +25,11 @@ pub fn expand_in_order(
     places: &mut [u16],
     hashes: &mut [u16],
     hints: &mut [u16],
-    rows: &mut [u16],
-    params: &mut [u16],
-    numbers: &mut [u16],
-    order: &mut [u16],
+    sheet: &mut [u16],
     start: Counts,
 ) -> Body
-    requires { ⌜ Good (now s) (now made) (now places) (now hashes) (now hints) (now rows) (now params) (now numbers) (now order) start 0 × Space (now s) (now path) (now binders) (now bound) (now uses) (now spare) × Book (now s) × Right (now s) (now ends) ⌝ }
-    ensures { λ r. ⌜ InOrder (now (s .entry)) (now (made .entry)) (now (places .entry)) (now (rows .entry)) (now (params .entry)) (now (order .entry)) start (now (made .exit)) (now (places .exit)) (now (hashes .exit)) (now (hints .exit)) (now (rows .exit)) (now (params .exit)) (now (numbers .exit)) (now (order .exit)) r ⌝ }
+    requires { ⌜ Good (now s) (now made) (now places) (now hashes) (now hints) (rowsIn (now sheet)) (paramsIn (now sheet)) (numberIn (now sheet)) (orderIn (now sheet)) start 0 × Space (now s) (now path) (now binders) (now bound) (now uses) (now spare) × Expanded (now s) × Right (now s) (now ends) ⌝ }
+    ensures { λ r. ⌜ InOrder (now (s .entry)) (now (made .entry)) (now (places .entry)) (rowsIn (now (sheet .entry))) (paramsIn (now (sheet .entry))) (orderIn (now (sheet .entry))) start (now (made .exit)) (now (places .exit)) (now (hashes .exit)) (now (hints .exit)) (rowsIn (now (sheet .exit))) (paramsIn (now (sheet .exit))) (numberIn (now (sheet .exit))) (orderIn (now (sheet .exit))) r ⌝ }
 {
     let mut left = number(s, 0) as usize;
     let mut entry = past(s, 0, 2);
@@ -60,10 +58,7 @@ pub fn expand_in_order(
             places,
             hashes,
             hints,
-            rows,
-            params,
-            numbers,
-            order,
+            sheet,
             w,
             n,
         ) {

@@ -12,7 +12,7 @@ use Rattle.definition.specs.Write.{wName, wAll, wInners, countA}
 use Rattle.definition.specs.Size.{levelsA}
 use Rattle.definition.specs.Macros.{subst, limited, instance}
 use Rattle.seek.specs.Here.{Here}
-use Rattle.lookup.proofs.Names.{clash}
+use Rattle.lookup.proofs.Names.{not-both}
 use Rattle.areas.specs.First.{first}
 use Rattle.substitution.specs.declared.Turn.{Turn}
 use Rattle.substitution.specs.Turned.{Areas, Holds, Went, Turned}
@@ -35,7 +35,7 @@ module _ {macros book areas marks : List ℕ} {t : Turn} where
       where
         refusal : (o : Out Combinator) (ps : List Name) (xs : Inners) (z y : List ℕ) → Went macros book (first areas₁) m₁ t₁ z y o → Made (first areas₁) m₁ t₁ (o >>= instance ps xs)
         refusal (refused k) ps xs z y w = w
-        refusal (done d) ps xs z y w = clash (w .0) g
+        refusal (done d) ps xs z y w = not-both _ (w .0) g
 
         stop : Areas macros book areas marks → (ps : List Name) (xs : Inners) (c : Combinator) (z y : List ℕ) → Here macros (t .param) (wAll wName ps z) → Here book (t .arg) (wInners xs y) → levelsA xs ≤ 64
             → left ≡ min (length ps) (countA xs) → Holds (first areas) marks (t .len) (t .n) c → Made (first areas₁) m₁ t₁ (instance ps xs c)
@@ -51,7 +51,7 @@ module _ {macros book areas marks : List ℕ} {t : Turn} where
       where
         go : Areas macros book areas marks → (o : Out Combinator) (ps : List Name) (xs : Inners) (z y : List ℕ) → levelsA xs ≤ 64 → left - 1 ≡ min (length ps) (countA xs)
             → Went macros book (first areas₁) m₁ t₁ (wAll wName ps z) (wInners xs y) o → Made (first areas₂) m₂ r (o >>= instance ps xs)
-        go ar (refused k) ps xs z y dx e w = clash g w
+        go ar (refused k) ps xs z y dx e w = not-both _ g w
         go ar (done d) ps xs z y dx e w =
             next .says (record { macros-short = ar .macros-short; book-short = ar .book-short; areas-long = la ∙ ar .areas-long; marks-long = lm ∙ ar .marks-long })
             ps xs d z y (w .1) (w .2) dx e (w .3)

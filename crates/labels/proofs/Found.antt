@@ -14,7 +14,7 @@ use borrow.Author.Tests.{eqb-true, eqb-false, eq-eqb, le-leb, lt-leb}
 use Rattle.definition.specs.Tree.{Name}
 use Rattle.definition.specs.Names.{eqName, elem}
 use Rattle.lookup.specs.Name.{nameAt}
-use Rattle.lookup.proofs.Names.{yes-no, clash, ne-name}
+use Rattle.lookup.proofs.Names.{yes-no, not-both, ne-name}
 use Rattle.writer.proofs.Put.{within}
 use Rattle.seek.specs.At.{pick}
 use Rattle.labels.specs.Labels.{headOf, labelAt, linkAt, labelsIn, linked, isLabel, bindAt, releaseAt, unbindAt}
@@ -78,7 +78,7 @@ never : (s : List ℕ) (n : Name) (t : List ℕ) (i : ℕ) → elem n (labelsIn 
 unfolding linked labelsIn elem
 never s n t zero e link = refl
 never s n t (suc i) e link = ⊎-elim
-    (λ (q : eqName n (labelAt s t i) ≡ true). clash refl (rw q at e))
+    (λ (q : eqName n (labelAt s t i) ≡ true). not-both _ refl (rw q at e))
     (λ (q : eqName n (labelAt s t i) ≡ false).
     let e′ : elem n (labelsIn s t i) ≡ false = rw q at e in
     ⊎-elim

@@ -32,11 +32,11 @@ read-says : (s : List ℕ) → readBook s ≡ book 6 s
 unfolding readBook
 read-says s = refl
 
-expand-says : (ds : List Definition) → expandBook ds ≡ expandList ds
+pub expand-says : (ds : List Definition) → expandBook ds ≡ expandList ds
 unfolding expandBook
 expand-says ds = refl
 
-lift-says : (ds : List Definition) → liftBook ds ≡ walkAll full ds (start ds)
+pub lift-says : (ds : List Definition) → liftBook ds ≡ walkAll full ds (start ds)
 unfolding liftBook
 lift-says ds = refl
 

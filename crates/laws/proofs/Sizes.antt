@@ -1,5 +1,5 @@
 -- Sizes add up.
-use mathlib.Core.Path.{_≡_, ap, _∙_}
+use mathlib.Core.Path.{_≡_, refl, ap, _∙_}
 use mathlib.Core.List.{List, [], _∷_, _++_, map}
 use Prim.Native.Nat.{_≤_, _<_, ℕ, _+_, _*_}
 use native.Mathlib.Omega.{arith}
@@ -12,6 +12,10 @@ use Rattle.laws.proofs.Splits.{Splits, s-name, s-text, s-list, s-select
 -- what is written in front of a list is as long whatever follows
 pub adds : (w : List ℕ → List ℕ) → Splits w → (r : List ℕ) → length (w r) ≡ length (w []) + length r
 adds w h r = ap length (h [] r) ∙ length-append (w []) r
+
+pub length-u16 : (n : ℕ) → length (wU16 n []) ≡ 2
+unfolding wU16
+length-u16 n = refl
 
 -- sizes of the parts
 unfoldable pub sizeI : Inner → ℕ

@@ -9,7 +9,7 @@ use native.Mathlib.Omega.{arith}
 use lib.Dec.{eqb, leb, ltb}
 use lib.ListN.{length, getD, drop}
 use borrow.Author.Tests.{ltb-true, ltb-false, leb-true, eqb-true, eqb-false, lt-ltb, le-ltb, le-leb, ne-eqb}
-use Rattle.definition.specs.Utf8.{scalar, encode, Utf8, none, more, Range, behind, characters, wellFormed}
+use Rattle.definition.specs.Utf8.{scalar, encode, Utf8, none, more, Range, range, behind, characters, wellFormed}
 use Rattle.laws.specs.Laws.{TableSaysUtf8, OneEncoding}
 use Rattle.laws.proofs.Tests.{by-test, both-true}
 
@@ -53,9 +53,6 @@ module _ (c : ℕ) where
 abbrev tail : Range
 tail = record { low = 128; high = 191 }
 
-abbrev from-to : ℕ → ℕ → Range
-from-to l h = record { low = l; high = h }
-
 module _ (b : ℕ) where
   row-1 : b < 128 → behind b ≡ []
   unfolding behind
@@ -84,7 +81,7 @@ module _ (b : ℕ) where
       )
 
 -- a byte in its range is passed
-pass : (l h b : ℕ) (rs : List Range) (s : List ℕ) → l ≤ b → b ≤ h → characters (from-to l h ∷ rs) (b ∷ s) ≡ characters rs s
+pass : (l h b : ℕ) (rs : List Range) (s : List ℕ) → l ≤ b → b ≤ h → characters (range l h ∷ rs) (b ∷ s) ≡ characters rs s
 unfolding characters
 pass l h b rs s p q = rw (le-leb l b p, le-leb b h q)
 
@@ -164,7 +161,7 @@ utf8-passes none = refl
 utf8-passes (more {s = s} c h u) = passes c s h ∙ utf8-passes u
 
 -- a byte of a character begun
-eat : {X : Type 0} (l h : ℕ) (rs : List Range) (s : List ℕ) → characters (from-to l h ∷ rs) s ≡ true
+eat : {X : Type 0} (l h : ℕ) (rs : List Range) (s : List ℕ) → characters (range l h ∷ rs) s ≡ true
     → ((b : ℕ) (t : List ℕ) → s ≡ b ∷ t → l ≤ b → b ≤ h → characters rs t ≡ true → X) → X
 unfolding characters
 eat l h rs [] e go = let z : _≡_ {A = ℕ} 0 1 = cc in absurd (omega arith)
@@ -218,19 +215,19 @@ module _ (k : ℕ) (ih : (s : List ℕ) → length s ≤ k → characters [] s �
       rw p (make-2 t (ih t (omega (arith, ap length p)) f) b x l m h g)
 
   begun-2 : (lo hi b : ℕ) (s : List ℕ) → length s ≤ k → 128 ≤ lo → hi ≤ 191 → 224 ≤ b → b < 240 → (b ≡ 224 → 160 ≤ lo) → (b ≡ 237 → hi ≤ 159)
-      → characters (from-to lo hi ∷ tail ∷ []) s ≡ true → Utf8 (b ∷ s)
+      → characters (range lo hi ∷ tail ∷ []) s ≡ true → Utf8 (b ∷ s)
   begun-2 lo hi b s n a z h g few sur e = eat lo hi (tail ∷ []) s e λ x t p l m f.
       eat 128 191 [] t f λ y t₂ p₂ l₂ m₂ f₂.
       rw (p, p₂) (make-3 t₂ (ih t₂ (omega (arith, ap length p, ap length p₂)) f₂) b x (omega arith) (omega arith) y l₂ m₂ h g (λ v. let w = few v in omega arith) (λ v. let w = sur v in omega arith))
 
   begun-3 : (lo hi b : ℕ) (s : List ℕ) → length s ≤ k → 128 ≤ lo → hi ≤ 191 → 240 ≤ b → b ≤ 244 → (b ≡ 240 → 144 ≤ lo) → (b ≡ 244 → hi ≤ 143)
-      → characters (from-to lo hi ∷ tail ∷ tail ∷ []) s ≡ true → Utf8 (b ∷ s)
+      → characters (range lo hi ∷ tail ∷ tail ∷ []) s ≡ true → Utf8 (b ∷ s)
   begun-3 lo hi b s n a z h g few most e = eat lo hi (tail ∷ tail ∷ []) s e λ x t p l m f.
       eat 128 191 (tail ∷ []) t f λ y t₂ p₂ l₂ m₂ f₂.
       eat 128 191 [] t₂ f₂ λ w t₃ p₃ l₃ m₃ f₃.
       rw (p, p₂, p₃) (make-4 t₃ (ih t₃ (omega (arith, ap length p, ap length p₂, ap length p₃)) f₃) b x (omega arith) (omega arith) y l₂ m₂ w l₃ m₃ h g (λ v. let q = few v in omega arith) (λ v. let q = most v in omega arith))
 
-  never : (b : ℕ) (s : List ℕ) → characters (from-to 1 0 ∷ []) s ≡ true → Utf8 (b ∷ s)
+  never : (b : ℕ) (s : List ℕ) → characters (range 1 0 ∷ []) s ≡ true → Utf8 (b ∷ s)
   never b s e = eat 1 0 [] s e λ x t p l m f. absurd (omega arith)
 
   begun : (b : ℕ) (s : List ℕ) → length s ≤ k → characters (behind b) s ≡ true → Utf8 (b ∷ s)

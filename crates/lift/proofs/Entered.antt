@@ -4,30 +4,31 @@ use mathlib.Core.Path.{_≡_, refl, sym, ap, _∙_}
 use mathlib.Core.Logic.{⊎-elim}
 use mathlib.Core.Bool.{true, false, _&&_}
 use mathlib.Core.List.{List, [], _∷_, _++_, map}
-use Prim.Native.Nat.{ℕ, zero, suc, _+_, _-_, _*_, _%_, _≤_, _<_}
+use Prim.Native.Nat.{ℕ, _+_, _-_, _*_, _%_, _≤_, _<_}
 use native.Mathlib.Omega.{arith}
 use native.Mathlib.Nat.{eq-or-lt-of-le}
 use native.Mathlib.Numerals.{add-one}
 use lib.Dec.{leb}
-use lib.ListN.{length, take, getD, set, length-set, length-take}
+use lib.ListN.{length, take, getD, length-set, length-take}
 use borrow.Author.Tests.{le-leb, lt-leb}
-use Rattle.definition.specs.Code.{number, no-binder, result-long}
-use Rattle.definition.specs.Res.{Maybe, absent, just, Res, bad, ok, _>>=_, require}
+use Rattle.definition.specs.Code.{number, result-long}
+use Rattle.definition.specs.Res.{absent, just, bad, ok}
 use Rattle.definition.specs.Tree.{Name}
-use Rattle.lookup.specs.Name.{nameAt}
 use Rattle.writer.specs.Buf.{put, nameBytes}
 use Rattle.writer.proofs.Put.{length-put, getD-put-at}
+use Rattle.lifting.specs.Calls.{namesRoom}
 use Rattle.uses.specs.Uses.{namesIn}
-use Rattle.tables.specs.Rows.{Row, rowAt, rowsOf, namesFrom, typesFrom}
+use Rattle.tables.specs.Rows.{Row, rowAt, rowsOf}
+use Rattle.tables.specs.Parts.{orderIn, rowsIn, paramsIn, numberIn, Parts}
 use Rattle.tables.proofs.Params.{Same}
-use Rattle.taken.specs.Taken.{both, taken, Table, Hints, Packed, Grown, Took}
+use Rattle.taken.specs.Taken.{both, taken, Grown, Took}
+use Rattle.taken.proofs.Take.{byte-before}
 use Rattle.lift.specs.declared.Counts.{Counts}
-use Rattle.lift.specs.declared.Lifted.{Lifted}
 use Rattle.lift.specs.declared.Lifted.the-variants.{Made, Refused}
-use Rattle.lift.specs.Bound.{Bound, typeOf, bindersOf, namesSize, typesSize, Filled, Within}
-use Rattle.lift.specs.Sheet.{Sheet, callSize, headSize, entered, fits, enterWith, sheetOf, RowIn, Tables, withRow, Gives}
+use Rattle.lift.specs.Bound.{Bound, typeOf, bindersOf, typesSize, Filled, Within}
+use Rattle.lift.specs.Sheet.{Sheet, callSize, headSize, entered, fits, enterWith, sheetOf, RowIn, Tables, Gives}
 use Rattle.lift.specs.Enters.{Adds, Enters}
-use Rattle.lift.proofs.Rows.{row-length, row-before, row-at, row-end, row-name, row-first, row-count, byte-before, rows-kept, name-taken}
+use Rattle.lift.proofs.Rows.{row-length, row-before, row-at, row-end, row-name, row-first, row-count, rows-kept, name-taken}
 
 fits-ok : (t : Sheet) → t .bytes ≤ 16384 → t .defns ≤ 512 → fits t ≡ ok tt t
 unfolding fits
@@ -52,7 +53,7 @@ module _ {s : List ℕ} {at end : ℕ} {n : Name} {ns : List Name} {env : List B
   refused-binder e = record { gives = λ finished. rw e refl }
 
   module _ (bs : List Bound) (all : bindersOf env ns ≡ just bs) where
-    pub refused-bytes : 16384 < w .bytes + 6 + (length n + 3 + namesSize ns + typesSize bs) + (length n + namesSize ns + 5)
+    pub refused-bytes : 16384 < w .bytes + 6 + (length n + 3 + namesRoom ns + typesSize bs) + (length n + namesRoom ns + 5)
         → Enters s at end n ns env made places rows params number w made′ places′ hashes′ hints′ rows′ params′ number′ (Refused 10)
     unfolding Gives enterWith number entered callSize headSize sheetOf
     refused-bytes h = record { gives = λ finished. rw (all, fits-bytes (entered at end n ns bs (sheetOf s made places rows params finished w)) h) refl }
@@ -152,7 +153,7 @@ module _ {s uses : List ℕ} {k : ℕ} {env : List Bound} {at end : ℕ} {n : Na
     defns-most = omega (arith, a .counted .4);
   }
 
-  pub made-lift : Enters s at end n (namesIn s (take k uses)) env made places rows params number w made′ places′ hashes′ hints′ rows′ params′ number′ (Made (length n + names + 5) v)
+  made-lift : Enters s at end n (namesIn s (take k uses)) env made places rows params number w made′ places′ hashes′ hints′ rows′ params′ number′ (Made (length n + names + 5) v)
   unfolding Gives enterWith entered callSize headSize sheetOf
   made-lift = record {
     gives = λ finished.
@@ -165,3 +166,11 @@ module _ {s uses : List ℕ} {k : ℕ} {env : List Bound} {at end : ℕ} {n : Na
           (tables′, a .numbered, a .counted .1),
         );
   }
+
+-- the same where the parameters were put into their part of the sheet, then the row and the number into theirs
+pub made-in-parts : (t t₁ t₂ : List ℕ) {s uses : List ℕ} {k : ℕ} {env : List Bound} {at end : ℕ} {n : Name} {made places hashes hints : List ℕ} {w : Counts} {names types : ℕ}
+    → Parts t₁ (orderIn t) (rowsIn t) (paramsIn t₁) (numberIn t) → paramsIn t₂ ≡ paramsIn t₁ → Tables s made places hashes hints (rowsIn t) (paramsIn t) w → Filled s uses k env (paramsIn t) (w .params) (paramsIn t₁) names types → Within k names types
+    → length n ≤ 255 → (bytes : ℕ) → bytes ≡ w .bytes + 6 + (length n + 3 + names + types) + (length n + names + 5) → bytes ≤ 16384 → w .defns < 512
+    → {made′ places′ hashes′ hints′ : List ℕ} {v : Counts} → Adds n at end k made places hashes hints (rowsIn t₁) (numberIn t₁) w bytes made′ places′ hashes′ hints′ (rowsIn t₂) (numberIn t₂) v
+    → Enters s at end n (namesIn s (take k uses)) env made places (rowsIn t) (paramsIn t) (numberIn t) w made′ places′ hashes′ hints′ (rowsIn t₂) (paramsIn t₂) (numberIn t₂) (Made (length n + names + 5) v)
+made-in-parts t t₁ t₂ b e ts f wi short bytes sum small few a = rw e (made-lift ts f wi short bytes sum small few (rw (b .rows, b .number) at a))

@@ -2,23 +2,23 @@
 -- Assumes nothing.
 use mathlib.Core.Path.{_≡_, refl, sym, ap, _∙_}
 use mathlib.Core.Logic.{⊎-elim}
-use mathlib.Core.Bool.{Bool, true, false, cond}
 use mathlib.Core.List.{List, [], _∷_, _++_, map, map-append}
 use Prim.Native.Nat.{ℕ, zero, suc, _+_, _-_, _*_, _/_, _%_, _≤_, _<_, min}
 use native.Mathlib.Omega.{arith}
 use native.Mathlib.Nat.{eq-zero-or-pos}
 use native.Mathlib.Numerals.{add-one}
-use lib.ListN.{length, take, drop, getD, length-take, length-drop, drop-of-length-le}
-use lib.Seq.{take-suc, drop-cons, take-take, take-nil, getD-take}
+use lib.ListN.{length, take, drop, getD, length-take, drop-of-length-le}
+use lib.Seq.{take-suc, drop-cons, take-take, getD-take}
 use Rattle.definition.specs.Res.{Maybe, absent, just}
 use Rattle.definition.specs.Tree.{Name}
+use Rattle.lifting.specs.Calls.{namesRoom}
 use Rattle.tables.specs.Rows.{namesFrom, typesFrom, withParam}
 use Rattle.tables.proofs.Params.{Same, names-last, types-last, names-kept, types-kept, param-length, param-before, param-place, param-len, param-at, param-own}
 use Rattle.binders.specs.declared.Binder.{Binder}
 use Rattle.uses.specs.Uses.{nameIn, namesIn}
 use Rattle.lift.specs.declared.Built.{Built}
 use Rattle.lift.specs.declared.Built.the-variants.{All, Missing}
-use Rattle.lift.specs.Bound.{Bound, typeOf, boundOf, firstOf, joined, bindersOf, namesSize, typesSize, Filled, Within, Builds}
+use Rattle.lift.specs.Bound.{Bound, typeOf, boundOf, firstOf, joined, bindersOf, typesSize, Filled, Within, Builds}
 
 -- ---- one name more
 joined-none : (x : Maybe Bound) → joined x absent ≡ absent
@@ -42,8 +42,8 @@ binders-more env (m ∷ ns) n bs b e f = step (firstOf env m) (bindersOf env ns)
     step (just a) absent bs e go = let z : _≡_ {A = ℕ} 0 1 = cc in absurd (omega arith)
     step (just a) (just cs) bs e go = let q : bs ≡ a ∷ cs = cc in rw (go cs refl, q)
 
-names-size-more : (ns : List Name) (n : Name) → namesSize (ns ++ (n ∷ [])) ≡ namesSize ns + 1 + length n
-unfolding namesSize
+names-size-more : (ns : List Name) (n : Name) → namesRoom (ns ++ (n ∷ [])) ≡ namesRoom ns + 1 + length n
+unfolding namesRoom
 names-size-more [] n = omega arith
 names-size-more (m ∷ ns) n = omega (arith, names-size-more ns n)
 
@@ -79,7 +79,7 @@ cut-place s p n h = ⊎-elim
 
 -- ---- the loop
 pub filled-none : (s uses : List ℕ) (env : List Bound) (params : List ℕ) (first : ℕ) → Filled s uses 0 env params first params 0 0
-unfolding bindersOf namesIn namesSize typesSize namesFrom typesFrom
+unfolding bindersOf namesIn namesRoom typesSize namesFrom typesFrom
 filled-none s uses env params first = record {
   of = [];
   all = refl;

@@ -1,23 +1,21 @@
 -- Rows one by one: what a row more leaves, and what it says.
 -- Assumes nothing.
-use mathlib.Core.Path.{_≡_, refl, sym, ap, _∙_}
-use mathlib.Core.List.{List, [], _∷_, _++_}
+use mathlib.Core.Path.{_≡_, refl, ap, _∙_}
+use mathlib.Core.List.{List, _∷_}
 use Prim.Native.Nat.{ℕ, zero, suc, _+_, _-_, _*_, _≤_, _<_, min}
 use native.Mathlib.Omega.{arith}
-use native.Mathlib.Nat.{eq-or-lt-of-le}
 use native.Mathlib.Numerals.{add-one}
-use mathlib.Core.Logic.{⊎-elim}
-use lib.ListN.{length, take, drop, getD, set, length-set}
+use lib.ListN.{length, getD, set, length-set}
 use lib.Seq.{getD-set-same, getD-set-other}
-use borrow.Author.Tests.{le-ltb}
 use Rattle.definition.specs.Tree.{Name}
-use Rattle.lookup.specs.declared.Place.the-variants.{Made}
 use Rattle.lookup.specs.Name.{nameAt, nameOf, placeOf}
-use Rattle.writer.specs.Buf.{put, nameBytes}
-use Rattle.writer.proofs.Put.{length-put, part-put-before, getD-put-before}
-use Rattle.tables.specs.Rows.{Row, TypeAt, namesFrom, typesFrom, rowAt, rowsOf}
+use Rattle.writer.specs.Buf.{put}
+use Rattle.tables.specs.Rows.{rowAt, rowsOf}
+use Rattle.tables.specs.Parts.{Parts}
 use Rattle.tables.proofs.Params.{Same, names-kept, types-kept}
+use Rattle.tables.proofs.Parts.{number-stored}
 use Rattle.taken.specs.Taken.{both, row, taken, Took}
+use Rattle.taken.proofs.Take.{made-place, name-before}
 use Rattle.lift.specs.declared.Counts.{Counts}
 use Rattle.lift.specs.Sheet.{RowIn, withRow}
 
@@ -87,17 +85,12 @@ row-put d i a e n f k v w x y z ha he hn hf hk =
     let k′ : min k 65535 ≡ k = omega arith in
     rw (z, y, x, w, v, a′, e′, n′, f′, k′)
 
-pub number-put : (t : List ℕ) (at x : ℕ) → x ≤ 65535 → set t at (min x 65535) ≡ set t at x
-number-put t at x h = let e : min x 65535 ≡ x = omega arith in rw e
-
--- a name that stands before a write
-module _ (s : List ℕ) (q end : ℕ) (p : List ℕ) (h : q + 1 + getD s q 0 ≤ end) where
-  pub byte-before : getD (put s end p) q 0 ≡ getD s q 0
-  byte-before = getD-put-before s end p q (omega arith)
-
-  pub name-before : nameAt (put s end p) q ≡ nameAt s q
-  unfolding nameAt
-  name-before = rw byte-before (part-put-before (q + 1) (getD s q 0) s end p h)
+-- the number at a place, in the last part of the sheet
+pub numbered-in : {t t′ o r p n : List ℕ} (at x : ℕ) → x ≤ 65535 → Parts t o r p n → t′ ≡ set t (16180 + at) (min x 65535) → Parts t′ o r p (set n at x)
+numbered-in {t} {n} at x h b e =
+    let m : min x 65535 ≡ x = omega arith in
+    let q = number-stored t at x in
+    rw (e, m) (record { order = q .order ∙ b .order; rows = q .rows ∙ b .rows; params = q .params ∙ b .params; number = q .number ∙ ap (λ (z : List ℕ). set z at x) (b .number) })
 
 -- a row before the new one says the same
 module _ (s made rows params made′ rows′ params′ : List ℕ) (w : Counts) (x : List ℕ) (em : made′ ≡ put made (w .end) x) (er : Same (5 * w .lifts) rows′ rows) (ep : Same (4 * w .params) params′ params) where
@@ -121,10 +114,6 @@ module _ (s made rows params made′ rows′ params′ : List ℕ) (w : Counts) 
   unfolding rowsOf
   rows-kept zero h r = refl
   rows-kept (suc n) h r = rw (rows-kept n (omega arith) r, row-kept n (omega arith) (r n (omega arith)))
-
-made-place : (at : ℕ) → placeOf (32768 + at) ≡ Made at
-unfolding placeOf
-made-place at = rw (le-ltb (32768 + at) 32768 (omega arith)) (ap Made (omega arith))
 
 -- the name that was taken stands where its row says
 pub name-taken : (book : List ℕ) {n : Name} {made places hashes hints made′ places′ hashes′ hints′ : List ℕ} {end k r : ℕ} → Took n made end places hashes hints k made′ places′ hashes′ hints′ r → k < length places

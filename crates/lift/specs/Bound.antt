@@ -1,19 +1,20 @@
 -- Binders by place, as their records say (crate binders).
 -- Document 01: "the definition's own parameters, then the Dependent fields passed on the way, outermost first, types as they stand after lifting".
-use mathlib.Core.Bool.{Bool, true, false, cond}
-use mathlib.Core.List.{List, [], _∷_, _++_, map}
+use mathlib.Core.Bool.{cond}
+use mathlib.Core.List.{List, [], _∷_, map}
 use mathlib.Core.Path.{_≡_}
 use Prim.Native.Nat.{ℕ, zero, suc, _+_, _*_, _≤_, _<_}
 use lib.Dec.{eqb}
-use lib.ListN.{length, take, drop, getD}
+use lib.ListN.{length, take, getD}
 use Rattle.definition.specs.Res.{Maybe, absent, just}
 use Rattle.definition.specs.Tree.{Name}
 use Rattle.definition.specs.Names.{eqName}
 use Rattle.lookup.specs.Name.{nameAt}
+use Rattle.lifting.specs.Calls.{namesRoom}
 use Rattle.tables.specs.Rows.{TypeAt, namesFrom, typesFrom}
 use Rattle.binders.specs.declared.Binder.{Binder}
 use Rattle.binders.specs.Row.{binderAt}
-use Rattle.uses.specs.Uses.{nameIn, namesIn}
+use Rattle.uses.specs.Uses.{namesIn}
 use Rattle.lift.specs.declared.Built.{Built}
 use Rattle.lift.specs.declared.Built.the-variants.{All, Missing}
 
@@ -51,11 +52,7 @@ unfoldable pub bindersOf : List Bound → List Name → Maybe (List Bound)
 bindersOf env [] = just []
 bindersOf env (n ∷ ns) = joined (firstOf env n) (bindersOf env ns)
 
--- what names and types take in a call and in a head: a name has a length byte
-unfoldable pub namesSize : List Name → ℕ
-namesSize [] = 0
-namesSize (n ∷ ns) = 1 + length n + namesSize ns
-
+-- what types take in a head; what names take there and in a call is `namesRoom`
 unfoldable pub typesSize : List Bound → ℕ
 typesSize [] = 0
 typesSize (b ∷ bs) = b .size + typesSize bs
@@ -64,7 +61,7 @@ typesSize (b ∷ bs) = b .size + typesSize bs
 pub record Filled (s uses : List ℕ) (k : ℕ) (env : List Bound) (params : List ℕ) (first : ℕ) (params′ : List ℕ) (names types : ℕ) : Type 0 where
   pub of : List Bound
   pub all : bindersOf env (namesIn s (take k uses)) ≡ just of
-  pub names-size : names ≡ namesSize (namesIn s (take k uses))
+  pub names-size : names ≡ namesRoom (namesIn s (take k uses))
   pub types-size : types ≡ typesSize of
   pub names-in : length s ≤ 65535 → 4 * (first + k) ≤ length params → namesFrom s params′ first k ≡ namesIn s (take k uses)
   pub types-in : 4 * (first + k) ≤ length params → typesFrom params′ first k ≡ map typeOf of

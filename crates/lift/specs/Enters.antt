@@ -1,8 +1,8 @@
 -- What one lift does to the tables.
 use mathlib.Core.List.{List}
 use mathlib.Core.Path.{_≡_}
-use Prim.Native.Nat.{ℕ, _+_, _*_, _≤_, _<_}
-use lib.ListN.{getD, set}
+use Prim.Native.Nat.{ℕ, _+_}
+use lib.ListN.{set}
 use Rattle.definition.specs.Tree.{Name}
 use Rattle.lift.specs.Bound.{Bound}
 use Rattle.taken.specs.Taken.{Took}

@@ -1,18 +1,18 @@
 -- What the naming pass has done so far, by names, places and numbers, and one lift more. Document 01, "Lifting rules", codes 7 to 10.
 -- It is the state of crate lifting's walk (`Trace`) with rows for records, and numbers of lifts for places.
-use mathlib.Core.Bool.{Bool, true, false, not, _&&_}
+use mathlib.Core.Bool.{_&&_}
 use mathlib.Core.List.{List, [], _∷_, _++_, map}
 use mathlib.Core.Path.{_≡_}
-use Prim.Native.Nat.{ℕ, suc, _+_, _*_, _≤_, _<_}
+use Prim.Native.Nat.{ℕ, _+_, _*_, _≤_, _<_}
 use lib.Dec.{leb}
-use lib.ListN.{length, take, getD, set}
-use Rattle.definition.specs.Code.{number, leftover-macro, name-long, no-binder, result-long}
+use lib.ListN.{length, getD, set}
+use Rattle.definition.specs.Code.{number, no-binder, result-long}
 use Rattle.definition.specs.Res.{Maybe, absent, just, Res, bad, ok, _>>=_, require}
 use Rattle.definition.specs.Tree.{Name}
-use Rattle.definition.specs.Names.{fresh}
+use Rattle.lifting.specs.Calls.{namesRoom}
 use Rattle.taken.specs.Taken.{both, taken, Table, Hints, Packed}
 use Rattle.tables.specs.Rows.{Row, rowsOf}
-use Rattle.lift.specs.Bound.{Bound, typeOf, bindersOf, namesSize, typesSize}
+use Rattle.lift.specs.Bound.{Bound, typeOf, bindersOf, typesSize}
 use Rattle.lift.specs.declared.Counts.{Counts}
 use Rattle.lift.specs.declared.Lifted.{Lifted}
 use Rattle.lift.specs.declared.Lifted.the-variants.{Made, Refused}
@@ -27,10 +27,10 @@ pub record Sheet : Type 0 where
 
 -- a call: tag, name, count, arguments, and the byte that says that no chain follows; a definition up to its combinator: name, count, parameters
 unfoldable pub callSize : Name → List Name → ℕ
-callSize n ns = length n + namesSize ns + 5
+callSize n ns = length n + namesRoom ns + 5
 
 unfoldable pub headSize : Name → List Name → List Bound → ℕ
-headSize n ns bs = length n + 3 + namesSize ns + typesSize bs
+headSize n ns bs = length n + 3 + namesRoom ns + typesSize bs
 
 -- "for each lift so far, 6 bytes of contents, the new body and the call, less the combinator moved"
 unfoldable pub entered : ℕ → ℕ → Name → List Name → List Bound → Sheet → Sheet

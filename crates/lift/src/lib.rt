@@ -3,12 +3,14 @@ use binders::Binder;
 use binders::Found;
 use binders::find_binder;
 use tables::store;
+use tables::store_in;
 use taken::take_name;
 use uses::name_of_use;
 ghost use mathlib.Core.Path.{_≡_};
 ghost use Prim.Native.Nat.{_≤_, _<_, _+_, _*_, _/_, _%_, min};
-ghost use lib.ListN.{length, take};
+ghost use lib.ListN.{length, take, set};
 ghost use Rattle.tables.specs.Rows.{withParam};
+ghost use Rattle.tables.specs.Parts.{orderIn, rowsIn, paramsIn, numberIn, Parts};
 ghost use Rattle.uses.specs.Uses.{namesIn};
 ghost use Rattle.lift.specs.Bound.{boundFrom, Sized, Builds};
 ghost use Rattle.lift.specs.Sheet.{Tables, withRow};
@@ -36,19 +38,33 @@ pub enum Lifted {
     Refused(u8),
 }
 
+// A number into the sheet's rows.
+fn put_in_rows(sheet: &mut [u16], i: usize, x: usize)
+    ensures { λ _. ⌜ Parts (now (sheet .exit)) (orderIn (now (sheet .entry))) (set (rowsIn (now (sheet .entry))) i (min x 65535)) (paramsIn (now (sheet .entry))) (numberIn (now (sheet .entry))) ⌝ }
+{
+    store_in(sheet, 512, 2560, i, x);
+}
+
+// A number into the sheet's parameters.
+fn put_in_params(sheet: &mut [u16], i: usize, x: usize)
+    ensures { λ _. ⌜ Parts (now (sheet .exit)) (orderIn (now (sheet .entry))) (rowsIn (now (sheet .entry))) (set (paramsIn (now (sheet .entry))) i (min x 65535)) (numberIn (now (sheet .entry))) ⌝ }
+{
+    store_in(sheet, 3072, 13108, i, x);
+}
+
 // The parameter number i, from the use that names it and the binder that types it.
-fn put_param(x: u32, d: Binder, params: &mut [u16], i: usize)
+fn put_param(x: u32, d: Binder, sheet: &mut [u16], i: usize)
     requires { ⌜ i ≤ 1048576 ⌝ }
-    ensures { λ _. ⌜ now (params .exit) ≡ withParam (now (params .entry)) i (min (x / 256) 65535) (x % 256) (d .at) (d .own) ⌝ }
+    ensures { λ _. ⌜ Parts (now (sheet .exit)) (orderIn (now (sheet .entry))) (rowsIn (now (sheet .entry))) (withParam (paramsIn (now (sheet .entry))) i (min (x / 256) 65535) (x % 256) (d .at) (d .own)) (numberIn (now (sheet .entry))) ⌝ }
 {
     let place = (x / 256) as usize;
     let len = (x % 256) as usize;
     let at = d.at as usize;
     let own = d.own as usize;
-    store(params, 4 * i, place);
-    store(params, 4 * i + 1, len);
-    store(params, 4 * i + 2, at);
-    store(params, 4 * i + 3, own);
+    put_in_params(sheet, 4 * i, place);
+    put_in_params(sheet, 4 * i + 1, len);
+    put_in_params(sheet, 4 * i + 2, at);
+    put_in_params(sheet, 4 * i + 3, own);
 }
 
 // The parameters of a lift, one for each of the first k uses, from number `first` on.
@@ -58,11 +74,11 @@ fn build_param_defns(
     k: usize,
     binders: &[u16],
     b: usize,
-    params: &mut [u16],
+    sheet: &mut [u16],
     first: usize,
 ) -> Built
     requires { ⌜ (b ≤ 65536) × (k ≤ length (now uses)) × (k ≤ 65536) × (first ≤ 65536) × Sized (now binders) b ⌝ }
-    ensures { λ r. ⌜ Builds (now (s .entry)) (now (uses .entry)) k (boundFrom (now (s .entry)) (now (binders .entry)) 0 b) (now (params .entry)) first (now (params .exit)) r ⌝ }
+    ensures { λ r. ⌜ Builds (now (s .entry)) (now (uses .entry)) k (boundFrom (now (s .entry)) (now (binders .entry)) 0 b) (paramsIn (now (sheet .entry))) first (paramsIn (now (sheet .exit))) r × Parts (now (sheet .exit)) (orderIn (now (sheet .entry))) (rowsIn (now (sheet .entry))) (paramsIn (now (sheet .exit))) (numberIn (now (sheet .entry))) ⌝ }
 {
     let mut names = 0;
     let mut types = 0;
@@ -76,7 +92,7 @@ fn build_param_defns(
                 return Built::Missing;
             }
             Found::Bound(d) => {
-                put_param(x, d, params, first + i);
+                put_param(x, d, sheet, first + i);
                 let size = d.size as usize;
                 names = names + 1 + name.len();
                 types = types + size;
@@ -89,7 +105,7 @@ fn build_param_defns(
 
 // The row of lift number i.
 fn put_row(
-    rows: &mut [u16],
+    sheet: &mut [u16],
     i: usize,
     at: usize,
     end: usize,
@@ -98,13 +114,13 @@ fn put_row(
     count: usize,
 )
     requires { ⌜ (i ≤ 65536) × (at ≤ 65535) × (end ≤ 65535) × (name ≤ 65535) × (first ≤ 65535) × (count ≤ 65535) ⌝ }
-    ensures { λ _. ⌜ now (rows .exit) ≡ withRow (now (rows .entry)) i at end name first count ⌝ }
+    ensures { λ _. ⌜ Parts (now (sheet .exit)) (orderIn (now (sheet .entry))) (withRow (rowsIn (now (sheet .entry))) i at end name first count) (paramsIn (now (sheet .entry))) (numberIn (now (sheet .entry))) ⌝ }
 {
-    store(rows, 5 * i, at);
-    store(rows, 5 * i + 1, end);
-    store(rows, 5 * i + 2, name);
-    store(rows, 5 * i + 3, first);
-    store(rows, 5 * i + 4, count);
+    put_in_rows(sheet, 5 * i, at);
+    put_in_rows(sheet, 5 * i + 1, end);
+    put_in_rows(sheet, 5 * i + 2, name);
+    put_in_rows(sheet, 5 * i + 3, first);
+    put_in_rows(sheet, 5 * i + 4, count);
 }
 
 // The row of a lift, its number at its place, and its name, which stands in path's first n bytes.
@@ -118,21 +134,20 @@ fn add_row(
     places: &mut [u16],
     hashes: &mut [u16],
     hints: &mut [u16],
-    rows: &mut [u16],
-    number: &mut [u16],
+    sheet: &mut [u16],
     w: Counts,
     bytes: usize,
 ) -> Counts
     requires { ⌜ (n ≤ length (now path)) × (n ≤ 255) × (at ≤ 65535) × (end ≤ 65535) × (w .params + k ≤ 65535) × (w .end < 32768) × (w .end + 1 + n ≤ length (now made)) × (w .lifts < 512) × (w .defns < 512) × (w .taken < 512) × (512 ≤ length (now places)) × (512 ≤ length (now hashes)) × (512 ≤ length (now hints)) ⌝ }
-    ensures { λ r. ⌜ Adds (take n (now (path .entry))) at end k (now (made .entry)) (now (places .entry)) (now (hashes .entry)) (now (hints .entry)) (now (rows .entry)) (now (number .entry)) w bytes (now (made .exit)) (now (places .exit)) (now (hashes .exit)) (now (hints .exit)) (now (rows .exit)) (now (number .exit)) r ⌝ }
+    ensures { λ r. ⌜ Adds (take n (now (path .entry))) at end k (now (made .entry)) (now (places .entry)) (now (hashes .entry)) (now (hints .entry)) (rowsIn (now (sheet .entry))) (numberIn (now (sheet .entry))) w bytes (now (made .exit)) (now (places .exit)) (now (hashes .exit)) (now (hints .exit)) (rowsIn (now (sheet .exit))) (numberIn (now (sheet .exit))) r × (orderIn (now (sheet .exit)) ≡ orderIn (now (sheet .entry))) × (paramsIn (now (sheet .exit)) ≡ paramsIn (now (sheet .entry))) ⌝ }
 {
     let lifts = w.lifts;
     let place = w.end;
     let taken = w.taken;
     let first = w.params;
     let defns = w.defns;
-    put_row(rows, lifts, at, end, place, first, k);
-    store(number, at, lifts + 1);
+    put_row(sheet, lifts, at, end, place, first, k);
+    store(sheet, 16180 + at, lifts + 1);
     let next = take_name(&path[..n], made, place, places, hashes, hints, taken);
     Counts {
         taken: taken + 1,
@@ -160,16 +175,14 @@ pub fn enter_lift(
     places: &mut [u16],
     hashes: &mut [u16],
     hints: &mut [u16],
-    rows: &mut [u16],
-    params: &mut [u16],
-    number: &mut [u16],
+    sheet: &mut [u16],
     w: Counts,
 ) -> Lifted
-    requires { ⌜ Tables (now s) (now made) (now places) (now hashes) (now hints) (now rows) (now params) w × (at ≤ 65535) × (end ≤ 65535) × (n ≤ length (now path)) × (n ≤ 255) × (k ≤ length (now uses)) × (k ≤ 65536) × (b ≤ 65536) × Sized (now binders) b ⌝ }
-    ensures { λ r. ⌜ Enters (now (s .entry)) at end (take n (now (path .entry))) (namesIn (now (s .entry)) (take k (now (uses .entry)))) (boundFrom (now (s .entry)) (now (binders .entry)) 0 b) (now (made .entry)) (now (places .entry)) (now (rows .entry)) (now (params .entry)) (now (number .entry)) w (now (made .exit)) (now (places .exit)) (now (hashes .exit)) (now (hints .exit)) (now (rows .exit)) (now (params .exit)) (now (number .exit)) r ⌝ }
+    requires { ⌜ Tables (now s) (now made) (now places) (now hashes) (now hints) (rowsIn (now sheet)) (paramsIn (now sheet)) w × (at ≤ 65535) × (end ≤ 65535) × (n ≤ length (now path)) × (n ≤ 255) × (k ≤ length (now uses)) × (k ≤ 65536) × (b ≤ 65536) × Sized (now binders) b ⌝ }
+    ensures { λ r. ⌜ Enters (now (s .entry)) at end (take n (now (path .entry))) (namesIn (now (s .entry)) (take k (now (uses .entry)))) (boundFrom (now (s .entry)) (now (binders .entry)) 0 b) (now (made .entry)) (now (places .entry)) (rowsIn (now (sheet .entry))) (paramsIn (now (sheet .entry))) (numberIn (now (sheet .entry))) w (now (made .exit)) (now (places .exit)) (now (hashes .exit)) (now (hints .exit)) (rowsIn (now (sheet .exit))) (paramsIn (now (sheet .exit))) (numberIn (now (sheet .exit))) r × (orderIn (now (sheet .exit)) ≡ orderIn (now (sheet .entry))) ⌝ }
 {
     let first = w.params;
-    let built = build_param_defns(s, uses, k, binders, b, params, first);
+    let built = build_param_defns(s, uses, k, binders, b, sheet, first);
     match built {
         Built::Missing => Lifted::Refused(8),
         Built::All(names, types) => {
@@ -192,8 +205,7 @@ pub fn enter_lift(
                 places,
                 hashes,
                 hints,
-                rows,
-                number,
+                sheet,
                 w,
                 bytes,
             );

@@ -7,7 +7,7 @@ use native.Mathlib.Omega.{arith}
 use lib.Dec.{leb}
 use lib.ListN.{length}
 use borrow.Author.Tests.{le-leb}
-use Rattle.definition.specs.Code.{work-short, output-short}
+use Rattle.definition.specs.Code.{output-short}
 use Rattle.definition.specs.Out.{Out, refused, done, _>>=_, given}
 use Rattle.definition.specs.Write.{wBook}
 use Rattle.definition.specs.Size.{sizeBook}
@@ -20,8 +20,8 @@ use Rattle.laws.proofs.Steps.{Yields, stops, yields, next, of-result, yielded}
 use Rattle.laws.proofs.Results.{elaborated-book, lifted-yields, lifted-book}
 use Rattle.nested.specs.Nested.{expandedNested, attemptNested, answerNested, outputNested}
 use Rattle.nested.proofs.Results.{expanded-is-book}
-use Rattle.closing.specs.declared.Elaborated.{Elaborated}
-use Rattle.closing.specs.Elaborates.{reported, Reports}
+use Rattle.report.specs.declared.Elaborated.{Elaborated}
+use Rattle.report.specs.Elaborates.{reported, Reports}
 use Rattle.answers.specs.Prints.{Prints}
 use Rattle.lines.specs.Lines.{Tells, elaboratedNested, TellsNested}
 

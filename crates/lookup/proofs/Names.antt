@@ -1,34 +1,21 @@
 -- Laws of names: equality, and the name that stands at a place.
 -- Assumes nothing.
-use mathlib.Core.Path.{_≡_, refl, sym, ap, _∙_}
-use mathlib.Core.Logic.{_⊎_, inl, inr, ⊎-elim}
+use mathlib.Core.Path.{_≡_, sym, ap, _∙_}
+use mathlib.Core.Logic.{⊎-elim}
 use mathlib.Core.List.{List, [], _∷_, _++_}
-use mathlib.Core.Bool.{Bool, true, false}
+use mathlib.Core.Bool.{true, false}
 use Prim.Native.Nat.{ℕ, _+_, _-_, _≤_, _<_}
 use native.Mathlib.Omega.{arith}
 use native.Mathlib.Numerals.{add-one}
-use lib.Dec.{eqb}
 use lib.ListN.{length, getD, drop, drop-of-length-le, length-take, length-drop}
 use lib.Seq.{drop-cons, take-append-seam, take-nil, take-all, drop-drop, getD-drop}
-use borrow.Author.Tests.{eqb-true, eq-eqb, ne-eqb}
+use borrow.Author.Tests.{eq-eqb, ne-eqb}
 use Rattle.definition.specs.Tree.{Name}
 use Rattle.definition.specs.Names.{eqName}
 use Rattle.definition.specs.Write.{wName}
+pub use Rattle.laws.proofs.Tests.{yes-no, not-both}
+pub use Rattle.laws.proofs.Members.{eqName-refl, eqName-true}
 use Rattle.lookup.specs.Name.{nameAt}
-
--- one of the two, with what it says
-pub yes-no : (b : Bool) → (b ≡ true) ⊎ (b ≡ false)
-yes-no true = inl refl
-yes-no false = inr refl
-
--- a test does not come out both ways
-pub clash {ℓ} : {A : Type ℓ} {b : Bool} → b ≡ true → b ≡ false → A
-clash e f = let z : _≡_ {A = ℕ} 0 1 = cc in absurd (omega arith)
-
-pub eqName-refl : (a : Name) → eqName a a ≡ true
-unfolding eqName
-eqName-refl [] = refl
-eqName-refl (x ∷ xs) = simp (eq-eqb x x refl, eqName-refl xs)
 
 -- two names from their first bytes on
 pub eq-head : (x y : ℕ) (xs ys : Name) → x ≡ y → eqName (x ∷ xs) (y ∷ ys) ≡ eqName xs ys
@@ -38,16 +25,6 @@ eq-head x y xs ys e = rw (eq-eqb x y e)
 pub ne-head : (x y : ℕ) (xs ys : Name) → (x ≡ y → ⊥) → eqName (x ∷ xs) (y ∷ ys) ≡ false
 unfolding eqName
 ne-head x y xs ys e = rw (ne-eqb x y e)
-
-pub eqName-true : (a b : Name) → eqName a b ≡ true → a ≡ b
-unfolding eqName
-eqName-true [] [] e = refl
-eqName-true [] (y ∷ ys) e = clash refl (sym e)
-eqName-true (x ∷ xs) [] e = clash refl (sym e)
-eqName-true (x ∷ xs) (y ∷ ys) e = ⊎-elim
-    (λ (q : eqb x y ≡ true). let p : x ≡ y = eqb-true x y q in let r : xs ≡ ys = eqName-true xs ys (sym (eq-head x y xs ys p) ∙ e) in cc)
-    (λ (q : eqb x y ≡ false). clash e (rw q))
-    (yes-no (eqb x y))
 
 pub ne-name : (a b : Name) → (a ≡ b → ⊥) → eqName a b ≡ false
 ne-name a b f = ⊎-elim (λ e. absurd (f (eqName-true a b e))) (λ e. e) (yes-no (eqName a b))

@@ -22,8 +22,8 @@ use Rattle.seek.proofs.Here.{place, name-here}
 use Rattle.writer.specs.Buf.{part, Wrote}
 use Rattle.writer.proofs.Put.{part-none, put-fits, take-written}
 use Rattle.writer.proofs.Wrote.{fitted, place-is, same-length, glue}
-use Rattle.marks.specs.declared.Walk.{Walk}
-use Rattle.marks.specs.Steps.{walk}
+use Rattle.walk.specs.declared.Walk.{Walk}
+use Rattle.walk.specs.Steps.{walk}
 use Rattle.calls.specs.Walk.{combinatorAt}
 use Rattle.calls.specs.Walked.{Walked}
 use Rattle.pieces.specs.Pieces.{pieces, places, written, expanded}

@@ -16,6 +16,7 @@ use Rattle.definition.specs.Write.{wU16, wAll, wDefinition, wEntries, wParts, e
 use Rattle.definition.specs.Size.{levels, levelsP, levelsBook, sizeBook}
 use Rattle.definition.specs.Macros.{Macro, macros, expand, expandAll, expandList}
 use Rattle.laws.specs.Book.{IsBook}
+use Rattle.laws.proofs.Sizes.{length-u16}
 use Rattle.laws.proofs.Steps.{yielded}
 use Rattle.laws.proofs.OnlySix.{Grows, code-six, grows-all}
 use Rattle.lookup.proofs.Names.{yes-no}
@@ -125,10 +126,6 @@ three-puts out U E B o u e h =
     ap (λ (k : ℕ). put (put (put out 0 U) k E) o B) a ∙ ap (λ (v : List ℕ). put v o B) (put-put out 0 U E) ∙ ap (λ (k : ℕ). put (put out 0 (U ++ E)) k B) b ∙ put-put out 0 (U ++ E) B ∙ f
     ∙ ap (λ (k : ℕ). ((U ++ E) ++ B) ++ drop k out) (sym l)
 
-two : (n : ℕ) → length (wU16 n []) ≡ 2
-unfolding wU16
-two n = refl
-
 -- what the finished book says, where its bodies were written or did not fit
 finished : (out out₂ : List ℕ) (n o end : ℕ) (es : List Definition) → length es ≡ n → o ≡ 2 + 6 * n → length out ≡ 16384 → WritesBy (put out 0 (wU16 n [])) 2 o es out₂ end true → sizeBook es ≤ 16384
     → (end ≡ sizeBook es) × (out₂ ≡ wBook es ++ drop (sizeBook es) out)
@@ -136,7 +133,7 @@ finished out out₂ n o end es e eo lo w k =
     let E = wEntries o (map entryOf es) [] in
     let B = wAll wDefinition es [] in
     let z : o + length B ≡ sizeBook es = omega (arith, book-size es) in
-    let t = three-puts out (wU16 n []) E B o (two n) (omega (arith, entries-size o es)) (omega arith) in
+    let t = three-puts out (wU16 n []) E B o (length-u16 n) (omega (arith, entries-size o es)) (omega arith) in
     let p : 2 + 6 * length es ≡ o = omega arith in
     let c : wBook es ≡ (wU16 n [] ++ E) ++ B = rw (← e, ← p) (book-apart es) in
     (w .0 ∙ z, w .1 ∙ t ∙ rw (c, z))

@@ -2,13 +2,13 @@
 use contents::params_past;
 use entries::put_entry;
 use expansion::expand_macros_in_combinator;
-use marks::Walk;
 use marks::first_marks;
 use seek::byte;
 use seek::name_past;
 use seek::number;
 use seek::past;
 use skip::walk_over;
+use walk::Walk;
 use writer::put_part;
 ghost use Rattle.macros.specs.Left.{Formatted, Kept, Booked};
 

@@ -5,8 +5,9 @@ use mathlib.Core.List.{List, [], _∷_}
 use Prim.Native.Nat.{ℕ, _%_}
 use Rattle.writer.specs.Buf.{Wrote}
 use Rattle.writer.proofs.Wrote.{glue}
-use Rattle.marks.specs.declared.Walk.{Walk}
-use Rattle.marks.specs.Steps.{walk, markAt}
+use Rattle.walk.specs.declared.Walk.{Walk}
+use Rattle.walk.specs.Steps.{walk}
+use Rattle.marks.specs.Steps.{markAt}
 
 -- two numbers, one after the other
 pub marked : (w : Walk) (at end : ℕ) {m m₁ m₂ : List ℕ} {n₁ n₂ : ℕ} → Wrote m (w .n) (at % 65536 ∷ []) m₁ n₁ → Wrote m₁ n₁ (end % 65536 ∷ []) m₂ n₂

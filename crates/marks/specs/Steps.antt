@@ -1,34 +1,10 @@
--- The single steps of the walk over a combinator, by position and total on any bytes: where it stands then and what the row of marks holds.
+-- The steps of the walk over a combinator that leave marks, by position and total on any bytes: where it stands then and what the row of marks holds.
 use mathlib.Core.List.{List, [], _∷_}
-use mathlib.Core.Bool.{Bool, false}
-use Prim.Native.Nat.{ℕ, _%_, min}
-use lib.Dec.{eqb}
-use Rattle.seek.specs.At.{namePast, textPast, listPast, lengthPast, standsOn, pick}
+use Prim.Native.Nat.{ℕ, _%_}
+use Rattle.seek.specs.At.{namePast, listPast}
 use Rattle.writer.specs.Buf.{put, after}
-use Rattle.marks.specs.declared.Walk.{Walk}
-
-abbrev pub walk : ℕ → ℕ → ℕ → Bool → Walk
-walk at n left plain = record { at = at; n = n; left = left; plain = plain }
-
--- the same walk at another place
-abbrev pub moved : Walk → ℕ → Walk
-moved w a = walk a (w .n) (w .left) (w .plain)
-
--- and with so many levels left there
-abbrev pub entered : Walk → ℕ → ℕ → Walk
-entered w a levels = walk a (w .n) (min (w .left) levels) (w .plain)
-
--- and with another count of marks: one past the end of the row records nothing
-abbrev pub silent : Walk → ℕ → ℕ → Walk
-silent w a n = walk a n (w .left) (w .plain)
-
--- the walk w behind what u went over with nothing recorded
-abbrev pub back : Walk → Walk → Walk
-back w u = walk (u .at) (w .n) (u .left) (w .plain)
-
--- "every chain there stands on Bytes or Tail"
-unfoldable pub chainedTo : Walk → ℕ → Walk
-chainedTo w tag = pick (standsOn tag) w (walk (w .at) (w .n) (w .left) false)
+use Rattle.walk.specs.declared.Walk.{Walk}
+use Rattle.walk.specs.Steps.{walk}
 
 -- a walk and its row of marks, to those after
 abbrev pub State : Type 0
@@ -40,10 +16,6 @@ pairOf at end = at % 65536 ∷ end % 65536 ∷ []
 
 unfoldable pub markAt : Walk → ℕ → ℕ → List ℕ → State
 markAt w at end m = (walk end (after m (w .n) (pairOf at end)) (w .left) (w .plain), put m (w .n) (pairOf at end))
-
--- "10 Bytes: length"; the other inners that hold no combinator: text
-unfoldable pub textOrLength : List ℕ → ℕ → ℕ → ℕ
-textOrLength s at tag = pick (eqb tag 10) (lengthPast s at) (textPast s at)
 
 unfoldable pub callAt : List ℕ → Walk → ℕ → List ℕ → State
 callAt s w at m = markAt w at (listPast s (namePast s (w .at))) m

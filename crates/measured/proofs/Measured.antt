@@ -14,7 +14,7 @@ use Rattle.definition.specs.Write.{wInner}
 use Rattle.laws.proofs.Sizes.{sizeI}
 use Rattle.seek.specs.At.{byteAt, pastAt, numberAt, namePast, textPast, namesPast, listPast, lengthPast, selectorPast, labelPast, pick}
 use Rattle.seek.specs.Here.{Here}
-use Rattle.marks.specs.Steps.{textOrLength}
+use Rattle.walk.specs.Steps.{textOrLength}
 use Rattle.ends.specs.Ends.{Right}
 use Rattle.inners.specs.Measure.{State, Step, kept, times, many, fieldBy, wrapBy, caseBy, choiceBy, behindBy, innerBy, tailBy, combinatorBy, argumentBy, combinatorAt, argumentAt, innerAt}
 use Rattle.measured.specs.Measure.{paramAt, formatAt, entryAt, entryStep, measuredBook}

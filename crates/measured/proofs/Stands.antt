@@ -14,7 +14,7 @@ use Rattle.laws.proofs.Levels.{fewI}
 use Rattle.seek.specs.At.{pastAt, namePast, textPast, lengthPast, selectorPast, labelPast}
 use Rattle.seek.specs.Here.{Here}
 use Rattle.seek.proofs.Here.{here-length, byte-here, next-here, number-here, number-past, name-here, text-here, list-here, len-here, selector-here, label-here}
-use Rattle.marks.specs.Steps.{textOrLength}
+use Rattle.walk.specs.Steps.{textOrLength}
 use Rattle.inners.specs.Measure.{State, Step, times, many, fieldBy, fieldAt, wrapBy, caseBy, caseAt, choiceBy, behindBy, innerBy, tailBy, combinatorBy, argumentBy, combinatorAt, argumentAt, innerAt}
 
 module _ (s : List ℕ) where

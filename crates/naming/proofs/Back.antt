@@ -1,17 +1,17 @@
 -- A child is done: the frame that waited stands for what its node then is.
 -- Assumes nothing.
-use mathlib.Core.Path.{_≡_, refl, sym, ap, _∙_}
-use mathlib.Core.Bool.{Bool, true, false}
+use mathlib.Core.Path.{_≡_, refl, _∙_}
+use mathlib.Core.Bool.{Bool, false}
 use mathlib.Core.List.{List, [], _∷_, _++_}
-use Prim.Native.Nat.{ℕ, zero, suc, _+_, _-_, _*_, _≤_, _<_, min, max}
+use Prim.Native.Nat.{ℕ, _+_, _-_, _≤_, min}
 use native.Mathlib.Omega.{arith}
 use lib.Dec.{eqb}
 use lib.ListN.{length}
 use Rattle.definition.specs.Tree.{Name, Shell, CaseKind, enums, ints, arrays, FieldKind, ordinary, dependent, Combinator, plain, chained, Inner, leaf, struct, choice, shell, bytes, invocation, macro-invocation, Fields, field, Cases, case}
-use Rattle.definition.specs.Write.{wName, wLabel, wOpen, wShut, countF, countC, caseByte, fieldByte, wCombinator, wFields, wCases}
+use Rattle.definition.specs.Write.{wName, wLabel, wOpen, countF, countC, caseByte, fieldByte, wCombinator, wFields, wCases}
 use Rattle.definition.specs.Size.{size, levels}
-use Rattle.laws.proofs.Sizes.{adds, sizeF, sizeC, sizeI, size-plain, size-chained, size-field, size-case, size-shell}
-use Rattle.laws.proofs.Splits.{s-comb, s-open, s-label, s-name, Splits}
+use Rattle.laws.proofs.Sizes.{adds, sizeI, size-plain, size-chained, size-field, size-case, size-shell}
+use Rattle.laws.proofs.Splits.{s-comb, s-label, s-name, Splits}
 use Rattle.lifting.proofs.Ranges.{size-some}
 use Rattle.lookup.specs.Name.{nameAt}
 use Rattle.lookup.proofs.Names.{stands}
@@ -23,8 +23,8 @@ use Rattle.done.specs.Done.{binding, bindBy, boundAfter, delivered}
 use Rattle.lift.specs.Bound.{Bound}
 use Rattle.lifting.specs.After.{fieldAt, caseAt, shellAt}
 use Rattle.naming.specs.Walk.{Extent, binds}
-use Rattle.naming.specs.Nodes.{Rest, fields, cases, one, tail, Own, Link, ahead, behind, Node, linked, Wait, for-chain, for-field, for-case, for-one, advanced, deliver}
-use Rattle.naming.specs.Frames.{RestIs, sizeRest, levelsRest, levelsLink, LinkIs, OwnIs, FrameIs}
+use Rattle.naming.specs.Nodes.{Rest, fields, cases, one, Own, Link, ahead, behind, Node, linked, for-chain, for-field, for-case, for-one, advanced, deliver}
+use Rattle.naming.specs.Frames.{RestIs, sizeRest, levelsRest, levelsLink, LinkIs, FrameIs}
 use Rattle.naming.proofs.Bound.{bound-more}
 
 -- behind what was written

@@ -1,19 +1,17 @@
 -- A binder more.
 -- Assumes nothing.
-use mathlib.Core.Path.{_≡_, refl, sym, ap, _∙_}
-use mathlib.Core.Bool.{true, false}
+use mathlib.Core.Path.{_≡_, refl, ap, _∙_}
 use mathlib.Core.List.{List, [], _∷_, _++_}
-use Prim.Native.Nat.{ℕ, zero, suc, _+_, _*_, _≤_, _<_}
+use Prim.Native.Nat.{ℕ, zero, suc, _+_, _*_, _≤_}
 use native.Mathlib.Omega.{arith}
 use native.Mathlib.Numerals.{add-one}
 use lib.Dec.{eqb}
-use lib.ListN.{length, getD}
-use Rattle.definition.specs.Tree.{Name}
+use lib.ListN.{length}
 use Rattle.lookup.specs.Name.{nameAt}
 use Rattle.tables.specs.Rows.{withParam}
 use Rattle.tables.proofs.Params.{Same, param-before, param-place, param-len, param-at, param-own}
 use Rattle.binders.specs.Row.{binderAt}
-use Rattle.lift.specs.Bound.{Bound, boundAt, boundFrom}
+use Rattle.lift.specs.Bound.{boundAt, boundFrom}
 
 bound-last : (s t : List ℕ) (j n : ℕ) → boundFrom s t j (suc n) ≡ boundFrom s t j n ++ (boundAt s t (j + n) ∷ [])
 unfolding boundFrom

@@ -1,19 +1,18 @@
 -- One lift: the codes in their order, and what is entered.
 -- Assumes nothing.
-use mathlib.Core.Path.{_≡_, refl, sym, ap, _∙_}
+use mathlib.Core.Path.{_≡_, refl}
 use mathlib.Core.Logic.{⊎-elim}
-use mathlib.Core.Bool.{Bool, true, false, not, cond}
+use mathlib.Core.Bool.{Bool, true, false, cond}
 use mathlib.Core.List.{List, [], _∷_}
-use Prim.Native.Nat.{ℕ, suc, _+_, _*_, _≤_, _<_, min}
+use Prim.Native.Nat.{ℕ, suc, _≤_, _<_}
 use native.Mathlib.Omega.{arith}
-use lib.Dec.{leb}
-use lib.ListN.{length, take, set}
+use lib.ListN.{length, take}
 use borrow.Author.Tests.{le-leb, lt-leb}
-use Rattle.definition.specs.Code.{number, name-long, leftover-macro}
-use Rattle.definition.specs.Res.{Res, bad, ok, _>>=_, require}
+use Rattle.definition.specs.Code.{number}
+use Rattle.definition.specs.Res.{Res, bad, ok, _>>=_}
 use Rattle.definition.specs.Tree.{Name, Combinator}
 use Rattle.definition.specs.Names.{eqName, before, insert, sorted, fresh}
-use Rattle.definition.specs.Size.{size, levels}
+use Rattle.definition.specs.Size.{size}
 use Rattle.definition.specs.Collect.{free, leftover}
 use Rattle.definition.specs.Write.{wCombinator}
 use Rattle.laws.proofs.Tests.{yes-no}
@@ -22,23 +21,21 @@ use Rattle.laws.proofs.Splits.{s-comb}
 use Rattle.seek.proofs.Here.{here-length}
 use Rattle.uses.specs.Uses.{namesIn}
 use Rattle.collect.proofs.Room.{free-room}
-use Rattle.params.specs.declared.Params.{Params}
 use Rattle.params.specs.declared.Params.the-variants.{Sorted, Leftover}
 use Rattle.params.specs.Params.{paramsAt}
 use Rattle.params.proofs.Parameters.{params-leftover, params-count, params-names}
 use Rattle.names.specs.Name.{Held}
 use Rattle.taken.specs.Taken.{both, taken, Hints}
-use Rattle.names.proofs.Held.{held-whole, held-length}
+use Rattle.names.proofs.Held.{held-whole}
 use Rattle.lift.specs.declared.Counts.{Counts}
 use Rattle.lift.specs.declared.Lifted.{Lifted}
 use Rattle.lift.specs.declared.Lifted.the-variants as lifted
 use Rattle.lift.specs.Bound.{Bound}
-use Rattle.lift.specs.Sheet.{Sheet, sheetOf, enters, Tables, Gives}
+use Rattle.lift.specs.Sheet.{Sheet, sheetOf, Tables, Gives}
 use Rattle.lift.specs.Enters.{Enters}
-use Rattle.naming.specs.declared.Named.{Named}
-use Rattle.naming.specs.declared.Named.the-variants.{Lift, Refused}
-use Rattle.naming.specs.Walk.{Start, starts}
-use Rattle.naming.specs.Lifts.{Whole, Some, Scratch, namedOf, Answers, Lifts}
+use Rattle.naming.specs.declared.Named.the-variants.{Refused}
+use Rattle.naming.specs.Walk.{starts}
+use Rattle.naming.specs.Lifts.{Whole, Scratch, namedOf, Answers, Lifts}
 
 -- a name in the path, by its length
 name-over : {d : List ℕ} {n : ℕ} {name : Name} → Held d n name → length d ≡ 255 → 255 < n → 255 < length name

@@ -1,26 +1,24 @@
 -- The walk with one node for each level, step by step: it is `walk`.
 -- Assumes nothing.
-use mathlib.Core.Path.{_≡_, refl, sym, ap, _∙_}
-use mathlib.Core.Bool.{Bool, true, false}
-use mathlib.Core.List.{List, [], _∷_, _++_}
-use Prim.Native.Nat.{ℕ, suc, _+_, _-_}
+use mathlib.Core.Path.{_≡_, refl, sym, _∙_}
+use mathlib.Core.Bool.{true, false}
+use mathlib.Core.List.{List, [], _∷_}
+use Prim.Native.Nat.{ℕ, _+_, _-_}
 use native.Mathlib.Omega.{arith}
 use native.Mathlib.Nat.{add-zero}
 use lib.ListN.{length}
-use Rattle.definition.specs.Res.{Maybe, absent, just, Res, bad, ok, _>>=_}
+use Rattle.definition.specs.Res.{Res, bad, ok, _>>=_}
 use Rattle.definition.specs.Code.{Code}
 use Rattle.definition.specs.Tree.{Name, CaseKind, FieldKind, Shell, Combinator, plain, chained, Inner, leaf, struct, choice, shell, bytes, invocation, macro-invocation, Fields, no-field, field, const, Cases, no-case, case}
 use Rattle.definition.specs.Names.{segment, child, caseSegment, shellSegment}
-use Rattle.definition.specs.Write.{wName, wText, wSelector, wLabel, wOpen, wShut}
-use Rattle.definition.specs.Size.{size}
+use Rattle.definition.specs.Write.{wName, wText, wSelector}
 use Rattle.definition.specs.Collect.{anonymous}
-use Rattle.laws.proofs.Sizes.{sizeI}
 use Rattle.laws.proofs.Steps.{grouped, follows}
-use Rattle.lifting.specs.After.{chainAt, fieldsAt, casesAt, shellAt, fieldAt, constEnd, caseAt}
+use Rattle.lifting.specs.After.{chainAt, shellAt, fieldAt, constEnd, caseAt}
 use Rattle.tables.specs.Numbers.{plus}
 use Rattle.lift.specs.Bound.{Bound}
 use Rattle.lift.specs.Sheet.{Sheet}
-use Rattle.naming.specs.Walk.{Extent, Start, Step, called, starts, finish, visit, binds, walk, walkI, walkF, walkC}
+use Rattle.naming.specs.Walk.{Extent, Start, called, starts, finish, visit, walk, walkI}
 use Rattle.naming.specs.Nodes.{Rest, fields, cases, one, tail, Own, walked, lifted, Link, ahead, behind, Node, restOf, skip, nodeOf, close, goLink, goRest, goOn, linked, Wait, for-chain, for-field, for-case, for-one, advanced, deliver, resume, run, Opens}
 
 -- an inner goes on from where its rest begins

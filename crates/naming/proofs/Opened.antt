@@ -1,22 +1,22 @@
 -- The frame of a node that is opened, and what a frame does next.
 -- Assumes nothing.
-use mathlib.Core.Path.{_≡_, refl, sym, ap, _∙_}
+use mathlib.Core.Path.{_≡_, refl, _∙_}
 use mathlib.Core.Bool.{Bool, true, false}
-use mathlib.Core.List.{List, [], _∷_, _++_}
-use Prim.Native.Nat.{ℕ, zero, suc, _+_, _-_, _*_, _≤_, _<_, max}
+use mathlib.Core.List.{List, [], _∷_}
+use Prim.Native.Nat.{ℕ, _+_, _-_, _*_, _≤_, _<_}
 use native.Mathlib.Omega.{arith}
 use lib.Dec.{eqb}
-use lib.ListN.{length, take, drop, getD}
-use borrow.Author.Tests.{eq-eqb, ne-eqb}
+use lib.ListN.{length}
+use borrow.Author.Tests.{ne-eqb}
 use Rattle.definition.specs.Tree.{Name, Shell, wrap, vec, option, array, CaseKind, enums, ints, arrays, FieldKind, ordinary, dependent, Combinator, plain, chained, Inner, leaf, struct, choice, shell, bytes, invocation, macro-invocation, Fields, no-field, field, const, Cases, no-case, case}
-use Rattle.definition.specs.Names.{segment, child, caseSegment, shellSegment}
-use Rattle.definition.specs.Write.{wU16, wName, wText, wSelector, wLabel, wLen, wOpen, wShut, countF, countC, caseByte, fieldByte, wInner, wCombinator, wFields, wCases}
-use Rattle.definition.specs.Size.{size, levels, levelsI, levelsF, levelsC}
-use Rattle.laws.proofs.Sizes.{adds, sizeI, sizeF, sizeC, size-struct, size-choice, size-shell, size-field, size-constant, size-case}
+use Rattle.definition.specs.Names.{child, caseSegment, shellSegment}
+use Rattle.definition.specs.Write.{wName, wText, wLabel, wLen, wOpen, wShut, countF, countC, caseByte, fieldByte, wCombinator, wFields, wCases}
+use Rattle.definition.specs.Size.{levels, levelsI}
+use Rattle.laws.proofs.Sizes.{adds, sizeI, sizeF, sizeC, size-struct, size-choice, size-constant}
 use Rattle.laws.proofs.Splits.{s-name, s-text, s-len}
 use Rattle.lookup.specs.Name.{nameAt}
 use Rattle.lookup.proofs.Names.{stands}
-use Rattle.seek.specs.At.{byteAt, pastAt, numberAt, namePast, textPast, lengthPast, pick}
+use Rattle.seek.specs.At.{pastAt, namePast, textPast, lengthPast, pick}
 use Rattle.seek.specs.Here.{Here}
 use Rattle.seek.proofs.Here.{here-length, byte-here, next-here, name-here, text-here, len-here}
 use Rattle.names.specs.Name.{Held}
@@ -27,12 +27,11 @@ use Rattle.children.specs.declared.Next.the-variants.{Done, Chain, Label, Case}
 use Rattle.children.specs.Next.{nextField, nextOne, nextOf}
 use Rattle.done.specs.Done.{passed}
 use Rattle.lift.specs.Bound.{Bound, boundFrom}
-use Rattle.lift.specs.Sheet.{Sheet}
-use Rattle.lifting.specs.After.{chainAt, fieldAt, constEnd, caseAt, shellAt}
-use Rattle.naming.specs.Nodes.{Rest, fields, cases, one, tail, Own, walked, lifted, Link, ahead, behind, Node, restOf, skip, nodeOf, close, goOn, advanced, Wait, run, Opens}
+use Rattle.lifting.specs.After.{chainAt, fieldAt, constEnd, caseAt}
+use Rattle.naming.specs.Nodes.{Rest, fields, cases, one, tail, Own, Link, ahead, behind, Node, restOf, skip, nodeOf, advanced}
 use Rattle.ends.specs.Ends.{innerEnd}
 use Rattle.ends.proofs.Ends.{inner-rest, inner-end}
-use Rattle.naming.specs.Frames.{RestIs, sizeRest, levelsRest, levelsLink, Begins, LinkIs, OwnIs, FrameIs, Closing, Passing, Opening, NextIs}
+use Rattle.naming.specs.Frames.{RestIs, sizeRest, levelsRest, levelsLink, LinkIs, OwnIs, FrameIs, NextIs}
 use Rattle.naming.proofs.Begins.{begins}
 use Rattle.naming.proofs.Back.{back-chain, back-field, back-case, back-one}
 use Rattle.naming.proofs.Machine.{opens-chain, opens-field, opens-case, opens-one, passes-const, ends-fields, ends-cases, ends-tail}

@@ -1,22 +1,21 @@
 -- The same walk with one node for each level: what a node still has to do, and the nodes that wait for it. Document 01: "The walk's call stack may
 -- become one frame for each of the 64 levels." That it is `walk` is shown in proofs/Machine.antt.
-use mathlib.Core.Bool.{Bool, true, false}
 use mathlib.Core.Path.{_≡_}
-use mathlib.Core.List.{List, [], _∷_, _++_}
+use mathlib.Core.List.{List, [], _∷_}
 use Prim.Native.Nat.{ℕ, suc, _+_, _-_}
 use lib.ListN.{length}
-use Rattle.definition.specs.Res.{Maybe, absent, just, Res, bad, ok, _>>=_}
-use Rattle.definition.specs.Tree.{Name, CaseKind, FieldKind, Shell, Combinator, plain, chained, Inner, leaf, struct, choice, shell, bytes, invocation, macro-invocation, Fields, no-field, field, const, Cases, no-case, case}
-use Rattle.definition.specs.Names.{segment, child, caseSegment, shellSegment}
-use Rattle.definition.specs.Write.{wName, wText, wSelector, wLabel, wOpen, wShut}
+use Rattle.definition.specs.Res.{Res, ok, _>>=_}
+use Rattle.definition.specs.Tree.{Name, CaseKind, FieldKind, Shell, Combinator, plain, chained, Inner, leaf, struct, choice, shell, bytes, invocation, macro-invocation, Fields, Cases}
+use Rattle.definition.specs.Names.{child, shellSegment}
+use Rattle.definition.specs.Write.{wName, wSelector, wLabel, wOpen, wShut}
 use Rattle.definition.specs.Size.{size}
 use Rattle.definition.specs.Collect.{anonymous}
 use Rattle.laws.proofs.Sizes.{sizeI}
-use Rattle.lifting.specs.After.{chainAt, fieldsAt, casesAt, shellAt, fieldAt, constEnd, caseAt}
+use Rattle.lifting.specs.After.{chainAt, shellAt, fieldAt, caseAt}
 use Rattle.tables.specs.Numbers.{plus}
 use Rattle.lift.specs.Bound.{Bound}
 use Rattle.lift.specs.Sheet.{Sheet}
-use Rattle.naming.specs.Walk.{Extent, called, finish, visit, binds, walk, walkI, walkF, walkC}
+use Rattle.naming.specs.Walk.{Extent, called, finish, visit, binds, walk, walkF, walkC}
 
 -- the children still to walk, or the bytes that are left
 pub data Rest : Type 0 where

@@ -6,7 +6,7 @@ use Prim.Native.Nat.{ℕ, suc, _+_, _-_}
 use lib.Dec.{leb}
 use lib.ListN.{length}
 use Rattle.definition.specs.Code.{leftover-macro, name-long}
-use Rattle.definition.specs.Res.{Res, bad, ok, _>>=_, require}
+use Rattle.definition.specs.Res.{Res, ok, _>>=_, require}
 use Rattle.definition.specs.Tree.{Name, CaseKind, FieldKind, ordinary, dependent, Combinator, plain, chained, Inner, leaf, struct, choice, shell, bytes, invocation, macro-invocation, Fields, no-field, field, const, Cases, no-case, case}
 use Rattle.definition.specs.Names.{sorted, segment, child, caseSegment, shellSegment, fresh}
 use Rattle.definition.specs.Write.{wName, wText, wSelector, wLabel, wOpen, wShut}

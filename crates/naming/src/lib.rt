@@ -8,6 +8,7 @@ use params::lift_params;
 ghost use mathlib.Core.Path.{_≡_};
 ghost use Prim.Native.Nat.{_≤_};
 ghost use lib.ListN.{length};
+ghost use Rattle.tables.specs.Parts.{orderIn, rowsIn, paramsIn, numberIn};
 ghost use Rattle.lift.specs.Bound.{boundFrom, Sized};
 ghost use Rattle.lift.specs.Sheet.{Tables};
 ghost use Rattle.naming.specs.Lifts.{Some, Scratch, namedOf, Lifts};
@@ -44,13 +45,11 @@ pub fn lift_anonymous_combinator(
     places: &mut [u16],
     hashes: &mut [u16],
     hints: &mut [u16],
-    rows: &mut [u16],
-    params: &mut [u16],
-    number: &mut [u16],
+    sheet: &mut [u16],
     w: Counts,
 ) -> Named
-    requires { ⌜ Tables (now s) (now made) (now places) (now hashes) (now hints) (now rows) (now params) w × Some (now s) at end × Scratch (now s) (now bound) (now uses) (now spare) × (length (now path) ≡ 255) × (b ≤ 65536) × Sized (now binders) b ⌝ }
-    ensures { λ r. ⌜ Lifts (now (s .entry)) at end (now (path .entry)) len (boundFrom (now (s .entry)) (now (binders .entry)) 0 b) (now (made .entry)) (now (places .entry)) (now (rows .entry)) (now (params .entry)) (now (number .entry)) w (now (path .exit)) (now (made .exit)) (now (places .exit)) (now (hashes .exit)) (now (hints .exit)) (now (rows .exit)) (now (params .exit)) (now (number .exit)) r ⌝ }
+    requires { ⌜ Tables (now s) (now made) (now places) (now hashes) (now hints) (rowsIn (now sheet)) (paramsIn (now sheet)) w × Some (now s) at end × Scratch (now s) (now bound) (now uses) (now spare) × (length (now path) ≡ 255) × (b ≤ 65536) × Sized (now binders) b ⌝ }
+    ensures { λ r. ⌜ Lifts (now (s .entry)) at end (now (path .entry)) len (boundFrom (now (s .entry)) (now (binders .entry)) 0 b) (now (made .entry)) (now (places .entry)) (rowsIn (now (sheet .entry))) (paramsIn (now (sheet .entry))) (numberIn (now (sheet .entry))) w (now (path .exit)) (now (made .exit)) (now (places .exit)) (now (hashes .exit)) (now (hints .exit)) (rowsIn (now (sheet .exit))) (paramsIn (now (sheet .exit))) (numberIn (now (sheet .exit))) r × (orderIn (now (sheet .exit)) ≡ orderIn (now (sheet .entry))) ⌝ }
 {
     let taken = w.taken;
     let n = fresh_generated_name(
@@ -84,9 +83,7 @@ pub fn lift_anonymous_combinator(
                 places,
                 hashes,
                 hints,
-                rows,
-                params,
-                number,
+                sheet,
                 w,
             );
             named_of(n, entered)

@@ -12,7 +12,7 @@ use Rattle.definition.specs.Tree.{Definition}
 use Rattle.definition.specs.Write.{wBook}
 use Rattle.definition.specs.Macros.{Macro, macros}
 use Rattle.definition.specs.Lift.{full, walkAll, start, liftBook}
-use Rattle.definition.specs.Answer.{source, Result, all, outcome}
+use Rattle.definition.specs.Answer.{Result, all, outcome}
 use Rattle.laws.specs.Book.{Bytes, IsBook}
 use Rattle.laws.specs.Lists.{NoMacro}
 use Rattle.laws.proofs.Steps.{Gives, Yields, stops, yields, next, where-true, of-result, yielded}

@@ -20,6 +20,7 @@ use Rattle.definition.specs.Answer.{source, expanded, Result, all, outcome, ela
 use Rattle.laws.specs.Lists.{NoMacro}
 use Rattle.laws.proofs.Tests.{both-true, not-both, not-true}
 use Rattle.laws.proofs.Steps.{grouped-out}
+use Rattle.laws.proofs.Results.{expand-says}
 use Rattle.nested.specs.Nested.{everyMacroCall, everyMacroCallI, everyMacroCallF, everyMacroCallC, isMacro, settled, pass, again, nestedList, expandedNested, attemptNested, answerNested, outputNested}
 use Rattle.nested.specs.Laws.{SettledStays, SettledIsPlain}
 use Rattle.nested.proofs.Passes.{now}
@@ -74,10 +75,6 @@ module _ (ms : List Macro) where
 pub settled-stays : SettledStays
 unfolding pass
 settled-stays ms ds b h e = rw (stay-all ms ds h e, le-leb (sizeBook ds) 16384 (b .short), le-leb (levelsBook ds) 64 (b .deep))
-
-expand-says : (ds : List Definition) → expandBook ds ≡ expandList ds
-unfolding expandBook
-expand-says ds = refl
 
 -- one pass is enough, or is refused
 module _ (book : List ℕ) (h : (ds es : List Definition) → source book ≡ done ds → expanded book ≡ done es → settled (macros ds []) es ≡ true) where

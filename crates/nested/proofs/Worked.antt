@@ -4,7 +4,8 @@ use mathlib.Core.Path.{refl}
 use Rattle.definition.specs.Utf8.{utf8}
 use Rattle.definition.specs.Write.{wBook}
 use Rattle.definition.specs.Notation.{vecs, args}
-use Rattle.nested.specs.Worked.{fields, ladder, table, seen, expected, all, _&_, Worked}
+use Rattle.definition.specs.Rows.{all, _&_}
+use Rattle.nested.specs.Worked.{fields, ladder, table, seen, expected, Worked}
 
 pub worked : Worked
 unfolding utf8 vecs args fields ladder wBook table seen expected

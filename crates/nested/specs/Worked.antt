@@ -1,16 +1,17 @@
 -- Books for document 02 b as one table with one theorem over it (`Worked`, proved in proofs/Worked): of each, what comes of it in the plain mode and in the nested one.
 -- What is expected was worked out by hand, and is what `oracle answer` gives for the same books without and with `--nested`.
-use mathlib.Core.Path.{_≡_}
 use mathlib.Core.List.{List, [], _∷_, _++_}
 use Prim.Native.Nat.{ℕ, zero, suc, _+_, _-_, max}
 use Prim.Native.String.{String}
 use lib.ListN.{length, replicate}
 use Rattle.definition.specs.Utf8.{utf8}
-use Rattle.definition.specs.Tree.{Name, leaf, enum, struct, none, ints, choice, macro-invocation, Fields, no-field, no-case, no-inner, Combinator, plain, chained, Definition, format, constant, byte-order, macro}
+use Rattle.definition.specs.Tree.{Name, struct, none, ints, choice, macro-invocation, Fields, no-field, no-case, no-inner, Combinator, plain, chained, Definition, format, constant, byte-order, macro}
 use Rattle.definition.specs.Write.{wBook}
 use Rattle.definition.specs.Answer.{Answer, answer, output}
-use Rattle.definition.specs.Notation.{Int, Enum, Tail, Nothing, Bytes, Vec, Option, Array, Wrap, Call, ord, on, one, vecs, Macro, param, fmt, mac}
+use Rattle.definition.specs.Notation.{Int, Enum, Tail, Nothing, Bytes, Vec, Option, Array, Wrap, Call, ord, on, one, vecs, Macro, param, fmt, mac, m, long, fat}
+use Rattle.definition.specs.Rows.{Each}
 use Rattle.definition.specs.Worked.{Outcome, refuses, gives, answerOf, noise}
+use Rattle.definition.specs.Pinned.{becomes}
 use Rattle.nested.specs.Nested.{answerNested, outputNested}
 
 pub record Row : Type 0 where
@@ -20,9 +21,6 @@ pub record Row : Type 0 where
   pub work : ℕ
   pub plainly : Outcome
   pub nested : Outcome
-
-abbrev becomes : ℕ → List Definition → Outcome
-becomes n ds = gives n ds (wBook ds)
 
 abbrev room : Outcome → ℕ
 room (refuses k) = 0
@@ -39,20 +37,12 @@ apart ds x y = raw (wBook ds) x y
 abbrev alike : List Definition → Outcome → Row
 alike ds x = apart ds x x
 
--- a book of one format m, without parameters
-abbrev m : Combinator → List Definition
-m c = fmt "m" [] c ∷ []
-
 -- a macro without parameters, and a call of one
 abbrev def : String → Combinator → Definition
 def n c = mac n [] c
 
 abbrev use-of : String → Combinator
 use-of n = plain (Macro n [])
-
--- a leaf whose text has n bytes
-abbrev fat : ℕ → Combinator
-fat n = plain (leaf enum (replicate n 46))
 
 -- a struct of k fields x, each with one layout
 unfoldable pub fields : ℕ → Combinator → Fields
@@ -61,10 +51,6 @@ fields (suc k) c = ord "x" c (fields k c)
 
 abbrev many : ℕ → Combinator → Combinator
 many k c = plain (struct (fields k c))
-
--- a name of n bytes
-abbrev long : ℕ → Name
-long n = replicate n 107
 
 -- 510 definitions: with three lifts there are too many
 abbrev crowd : Combinator → List Definition
@@ -213,16 +199,10 @@ expected r = record {
   nested-output = filled (r .nested) (r .out);
 }
 
--- every row of a table comes out as it is written
-infixr 10 _&_
-pub data Each : List Row → Type 0 where
-  all : Each []
-  _&_ : {r : Row} {rs : List Row} → seen r ≡ expected r → Each rs → Each (r ∷ rs)
-
 unfoldable pub table : List Row
 unfolding passRows macroRows codeRows
 table = passRows ++ macroRows ++ codeRows
 
 -- the theorem
 abbrev pub Worked : Type 0
-Worked = Each table
+Worked = Each seen expected table

@@ -7,25 +7,24 @@ use Prim.Native.Nat.{ℕ, _≤_}
 use native.Mathlib.Omega.{arith}
 use lib.Dec.{leb}
 use lib.ListN.{length, take}
-use Rattle.definition.specs.Code.{Code, number, work-short, output-short, macro-growth, macro-left}
-use Rattle.definition.specs.Out.{Out, refused, done, _>>=_, given}
+use Rattle.definition.specs.Code.{number, work-short, output-short, macro-growth, macro-left}
+use Rattle.definition.specs.Out.{Out, _>>=_, given}
 use Rattle.definition.specs.Tree.{Definition}
 use Rattle.definition.specs.Write.{wBook}
 use Rattle.definition.specs.Macros.{macros}
 use Rattle.definition.specs.Lift.{liftBook}
-use Rattle.definition.specs.Answer.{Result, all, outcome, source}
+use Rattle.definition.specs.Answer.{Result, all, outcome}
 use Rattle.laws.specs.Book.{Bytes}
 use Rattle.nested.specs.Nested.{again, expandedNested, attemptNested, answerNested, outputNested}
 use Rattle.opening.specs.declared.Opened.the-variants.{Book, Refused as Stopped}
-use Rattle.beginning.specs.Begins.{opened}
 use Rattle.opening.specs.Opens.{Opens}
 use Rattle.passes.specs.declared.Passes.{Passes}
 use Rattle.passes.specs.declared.Passes.the-variants.{Book as Last, Grown, Left}
 use Rattle.passes.specs.Repeats.{AgainBy, Again}
-use Rattle.closing.specs.declared.Elaborated.{Elaborated}
-use Rattle.closing.specs.declared.Elaborated.the-variants.{Refused}
-use Rattle.closing.specs.Elaborates.{reported, Reports, lifted, Expanded, Lifts}
-use Rattle.closing.proofs.Reporting.{reports-refused, reports-lifted}
+use Rattle.report.specs.declared.Elaborated.{Elaborated}
+use Rattle.report.specs.declared.Elaborated.the-variants.{Refused}
+use Rattle.report.specs.Elaborates.{reported, Reports, lifted, Expanded, Lifts}
+use Rattle.report.proofs.Reporting.{reports-refused, reports-lifted}
 use Rattle.nesting.specs.OpensNested.{openedNested, OpensNested}
 use Rattle.nesting.proofs.Source.{source-written, nested-refused, nested-more, opened-long}
 

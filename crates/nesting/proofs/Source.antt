@@ -17,14 +17,10 @@ use Rattle.definition.specs.Macros.{macros, expandList, expandBook}
 use Rattle.definition.specs.Answer.{out, source, expanded}
 use Rattle.laws.specs.Book.{Bytes, IsBook}
 use Rattle.laws.proofs.Steps.{no-done, did-out}
-use Rattle.laws.proofs.Results.{read-is-written}
+use Rattle.laws.proofs.Results.{expand-says, read-is-written}
 use Rattle.nested.specs.Nested.{again, nestedList, expandedNested}
 use Rattle.beginning.specs.Begins.{opened}
 use Rattle.nesting.specs.OpensNested.{openedNested}
-
-expand-says : (ds : List Definition) → expandBook ds ≡ expandList ds
-unfolding expandBook
-expand-says ds = refl
 
 -- what was read is what is written
 pub source-written : (s : List ℕ) → Bytes s → (ds : List Definition) → source s ≡ done ds → (s ≡ wBook ds) × IsBook ds

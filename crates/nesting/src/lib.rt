@@ -1,16 +1,16 @@
 // The nested mode of document 02 b: the pass of document 01, more passes with the same macros, then the lifts.
-use closing::Elaborated;
 use opening::Opened;
 use opening::open_book;
 use passes::Passes;
 use passes::expand_again;
+use report::Elaborated;
 use room::lift_book;
 use zeroing::zero_range;
 ghost use mathlib.Core.Path.{_≡_};
 ghost use lib.ListN.{length};
 ghost use Rattle.definition.specs.Answer.{zeroed};
 ghost use Rattle.nested.specs.Nested.{attemptNested, answerNested, outputNested};
-ghost use Rattle.closing.specs.Elaborates.{reported, Reports};
+ghost use Rattle.report.specs.Elaborates.{reported, Reports};
 ghost use Rattle.nesting.specs.OpensNested.{OpensNested};
 
 // Codes 1 to 6 and 12. The book after the last pass fills the output's first bytes.

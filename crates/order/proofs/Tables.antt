@@ -1,20 +1,20 @@
 -- Laws of tables that are written in part, and of the byte order, in the code's own terms.
 -- Assumes nothing.
 use mathlib.Core.Path.{_≡_, refl, sym, ap, _∙_}
-use mathlib.Core.Logic.{_⊎_, inl, inr, ⊎-elim}
+use mathlib.Core.Logic.{⊎-elim}
 use mathlib.Core.List.{List, [], _∷_, _++_}
-use mathlib.Core.Bool.{Bool, true, false}
+use mathlib.Core.Bool.{false}
 use Prim.Native.Nat.{ℕ, suc, _+_, _-_, _≤_, _<_}
 use native.Mathlib.Omega.{arith}
 use native.Mathlib.Numerals.{add-one}
 use lib.Dec.{ltb}
 use lib.ListN.{length, take, drop, getD, set, take-append-drop, drop-of-length-le}
 use lib.Seq.{drop-cons, take-add, take-at, drop-at}
-use borrow.Author.Tests.{eq-eqb, ne-eqb, lt-ltb, le-ltb, ltb-true, ltb-false}
+use borrow.Author.Tests.{eq-eqb, ne-eqb, lt-ltb, le-ltb}
 use Rattle.definition.specs.Tree.{Name}
 use Rattle.definition.specs.Names.{before}
 use Rattle.writer.specs.Buf.{put, part}
-use Rattle.writer.proofs.Put.{length-put, put-fits, put-put, put-first, take-put, drop-put, put-nil, put-push, part-none, part-more, length-part}
+use Rattle.writer.proofs.Put.{length-put, put-fits, put-put, put-first, take-put, drop-put, put-nil, put-push, part-none, part-more, length-part, within}
 
 pub part-cons : (a e : ℕ) (l : List ℕ) → a < e → e ≤ length l → part a e l ≡ getD l a 0 ∷ part (a + 1) e l
 unfolding part
@@ -81,13 +81,6 @@ module _ (a b : Name) (i : ℕ) where
 pub before-end : (a b : Name) (i : ℕ) → i ≡ length a → before (drop i a) (drop i b) ≡ ltb (length a) (length b)
 unfolding before
 before-end a b i e = rw (e, drop-of-length-le a {i = length a} (omega arith)) (⊎-elim
-    (λ (h : length a < length b). rw (drop-cons b (length a) 0 h, lt-ltb _ _ h))
     (λ (h : length b ≤ length a). rw (drop-of-length-le b {i = length a} h, le-ltb _ _ h))
-    (either (length a) (length b)))
-  where
-    either : (m n : ℕ) → (m < n) ⊎ (n ≤ m)
-    either m n = by (ltb m n) (λ e. ltb-true m n e) (λ e. ltb-false m n e)
-      where
-        by : (t : Bool) → (t ≡ true → m < n) → (t ≡ false → n ≤ m) → (m < n) ⊎ (n ≤ m)
-        by true f g = inl (f refl)
-        by false f g = inr (g refl)
+    (λ (h : length a < length b). rw (drop-cons b (length a) 0 h, lt-ltb _ _ h))
+    (within (length b) (length a)))

@@ -1,4 +1,3 @@
-pub mod Bools
 pub mod Written
 pub mod Expanded
 pub mod Marked

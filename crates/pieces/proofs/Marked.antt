@@ -2,7 +2,7 @@
 -- Assumes nothing.
 use mathlib.Core.Path.{_≡_, refl, ap, _∙_}
 use mathlib.Core.List.{List, [], _∷_, _++_}
-use mathlib.Core.Bool.{Bool, true}
+use mathlib.Core.Bool.{Bool, true, and-true}
 use Prim.Native.Nat.{ℕ, _+_, _-_}
 use native.Mathlib.Omega.{arith}
 use lib.ListN.{length, take}
@@ -15,7 +15,6 @@ use Rattle.seek.proofs.Here.{behind}
 use Rattle.writer.specs.Buf.{part}
 use Rattle.pieces.specs.Pieces.{Piece, raw, call, macro-call, pieces, places, written, every}
 use Rattle.pieces.specs.Marked.{everyPlace}
-use Rattle.pieces.proofs.Bools.{and-true}
 use Rattle.laws.proofs.Splits.{s-inner}
 use Rattle.pieces.proofs.Written.{written-is, every-is}
 

@@ -2,14 +2,13 @@
 -- Assumes nothing.
 use mathlib.Core.Path.{_≡_, refl, ap, sym, _∙_}
 use mathlib.Core.List.{List, [], _∷_, _++_}
-use mathlib.Core.Bool.{Bool, true, _&&_}
+use mathlib.Core.Bool.{Bool, true, _&&_, and-assoc}
 use Prim.Native.Nat.{ℕ, suc}
 use Rattle.definition.specs.Tree.{Name, CaseKind, Combinator, plain, chained, Inner, leaf, struct, choice, shell, bytes, invocation, macro-invocation, Fields, no-field, field, const, Cases, no-case, case}
 use Rattle.definition.specs.Write.{wU16, wText, caseByte, wShut, countF, countC, wCombinator, wInner, wFields, wCases}
 use Rattle.definition.specs.Macros.{subst, substI, substF, substC}
 use Rattle.definition.specs.Bodies.{everyInvocation, everyInvocationI, everyInvocationF, everyInvocationC}
 use Rattle.pieces.specs.Pieces.{Piece, raw, pieces, piecesI, piecesF, piecesC, written, replaced, every}
-use Rattle.pieces.proofs.Bools.{and-assoc}
 use Rattle.laws.proofs.Splits.{s-name, s-text, s-len, s-selector, s-label, s-open, s-shut}
 
 mutual

@@ -11,18 +11,26 @@ use Rattle.definition.specs.Names.{elem}
 use Rattle.definition.specs.Bodies.{everyInvocation, chainsOk, everyBody}
 use Rattle.definition.specs.Premise.{callsKnown, chainsPlain}
 use Rattle.seek.specs.At.{namePast}
-use Rattle.marks.specs.declared.Walk.{Walk}
-use Rattle.marks.specs.Steps.{walk}
+use Rattle.walk.specs.declared.Walk.{Walk}
+use Rattle.walk.specs.Steps.{walk}
 use Rattle.calls.specs.Walk.{combinatorAt}
 use Rattle.pieces.specs.Marked.{everyPlace}
 use Rattle.pieces.proofs.Marked.{every-by}
 use Rattle.contents.specs.Params.{ParamsPast}
-use Rattle.called.specs.Known.{rowNames, Named, knownAt}
+use Rattle.callable.specs.Named.{rowNames, Named}
+use Rattle.called.specs.Known.{knownAt}
 use Rattle.bodies.specs.Tested.{FormatTested, BodiesTested}
 use Rattle.bodies.proofs.Tested.{format-tested}
 use Rattle.premise.specs.Holds.{passes, Holds}
-use Rattle.called.proofs.Bools.{and-both}
 use Rattle.called.proofs.Every.{call-known, macro-known}
+
+-- two tests at once
+and-both : (a b x y : Bool) → (a && b) && (x && y) ≡ (b && x) && (a && y)
+and-both true true x y = refl
+and-both true false x y = refl
+and-both false true true y = refl
+and-both false true false y = refl
+and-both false false x y = refl
 
 -- a format: its chains, and the calls in its body
 module _ {s : List ℕ} (at : ℕ) {params body : ℕ} (e : params ≡ namePast s at) (p : ParamsPast s params body) (m₁ m₂ : List ℕ) (w : Walk)

@@ -1,6 +1,6 @@
 // The premise test over an expanded book, on validated bytes: document 01's "Premise test and listing".
+use callable::take_names;
 use called::all_known;
-use called::take_names;
 use contents::params_past;
 use marks::first_marks;
 use seek::byte;
@@ -10,7 +10,7 @@ use seek::past;
 use skip::walk_over;
 ghost use lib.ListN.{length};
 ghost use Rattle.bodies.specs.Tested.{FormatTested, DefinitionTested, BodiesTested};
-ghost use Rattle.called.specs.Known.{Rows, rowNames};
+ghost use Rattle.callable.specs.Named.{Rows, rowNames};
 ghost use Rattle.premise.specs.Holds.{passes, Holds};
 
 // The format at a place: its body, behind its name and its parameters.

@@ -1,19 +1,17 @@
 -- The lines of definitions, one after the other.
 -- Assumes nothing.
-use mathlib.Core.Path.{_≡_, refl, sym, ap, _∙_}
-use mathlib.Core.List.{List, [], _∷_, _++_, append-assoc, append-nil}
-use Prim.Native.Nat.{ℕ, zero, suc, _+_, _*_, _-_, _≤_, _<_, min}
+use mathlib.Core.Path.{_≡_, refl, _∙_}
+use mathlib.Core.List.{List, [], _∷_, _++_, append-assoc}
+use Prim.Native.Nat.{ℕ, zero, suc, _+_, _*_, _-_, _≤_, _<_}
 use native.Mathlib.Omega.{arith}
 use lib.ListN.{length, length-append}
 use Rattle.definition.specs.Out.{done}
 use Rattle.definition.specs.Tree.{Definition, format, constant, byte-order, macro}
-use Rattle.definition.specs.Write.{wAll, wList, wParam, wCombinator, wDefinition, kindOf, kindByte, wBook}
+use Rattle.definition.specs.Write.{wAll, wList, wParam, wCombinator, wDefinition, kindOf, kindByte}
 use Rattle.definition.specs.Answer.{Result, all}
 use Rattle.definition.specs.Listing.{shown, count, wFormat, wLifted, line, lines, listed}
-use Rattle.laws.specs.Book.{IsBook}
-use Rattle.writer.specs.Buf.{Wrote, after}
-use Rattle.writer.proofs.Put.{put-nil}
-use Rattle.writer.proofs.Wrote.{place-is, same-length, glue}
+use Rattle.writer.specs.Buf.{Wrote}
+use Rattle.writer.proofs.Wrote.{place-within, glue, wrote-none}
 use Rattle.lookup.specs.Name.{nameAt}
 use Rattle.lookup.proofs.Names.{stands}
 use Rattle.seek.specs.At.{byteAt, pastAt, numberAt, namePast}
@@ -70,20 +68,12 @@ module _ {s : List ℕ} {kind at kept : ℕ} {d d′ : List ℕ} {o r : ℕ} whe
       of (byte-order x) z e h = absurd (omega arith)
       of (macro n ps c) z e h = absurd (omega arith)
 
--- the place after a write is at most one past the end
-after-most : {d d′ p : List ℕ} {o r : ℕ} → Wrote d o p d′ r → r ≤ suc (length d′)
-after-most w = omega (arith, place-is w, same-length w)
-
-wrote-nothing : (d : List ℕ) (o : ℕ) → o ≤ suc (length d) → Wrote d o [] d o
-unfolding after
-wrote-nothing d o b = record { place = omega arith; holds = sym (put-nil d o) }
-
 pub lines-none : {s d : List ℕ} {entry at left kept o : ℕ} → left ≤ 0 → Lines s entry at left kept d o d o
 unfolding lines
 lines-none {s} {d} {entry} {at} {left} {kept} {o} h = record { says = λ ks ls l e k b. of ks ls e b }
   where
     of : (ks ls : List Definition) → left ≡ length (ks ++ ls) → o ≤ suc (length d) → Wrote d o (lines wFormat ks ++ lines wLifted ls) d o
-    of [] [] e b = wrote-nothing d o b
+    of [] [] e b = wrote-none d o b
     of [] (x ∷ ls) e b = absurd (omega arith)
     of (x ∷ ks) ls e b = absurd (omega arith)
 
@@ -96,10 +86,10 @@ lines-step {s} {d} {d₁} {d′} {entry} {at} {left} {kept} {o} {o₁} {r} h w m
     of [] [] l e k b = absurd (omega arith)
     of [] (x ∷ ls) l e k b =
         let v : Wrote d o (line wLifted x) d₁ o₁ = rw k at (w .says x _ (listed-kind l) (listed-body l)) in
-        glue v (m .says [] ls (rw (listed-size l) (listed-next l)) (omega arith) (omega arith) (after-most v))
+        glue v (m .says [] ls (rw (listed-size l) (listed-next l)) (omega arith) (omega arith) (place-within v))
     of (x ∷ ks) ls l e k b =
         let v : Wrote d o (line wFormat x) d₁ o₁ = rw k at (w .says x _ (listed-kind l) (listed-body l)) in
-        rw (append-assoc (line wFormat x) (lines wFormat ks) (lines wLifted ls)) (glue v (m .says ks ls (rw (listed-size l) (listed-next l)) (omega arith) (omega arith) (after-most v)))
+        rw (append-assoc (line wFormat x) (lines wFormat ks) (lines wLifted ls)) (glue v (m .says ks ls (rw (listed-size l) (listed-next l)) (omega arith) (omega arith) (place-within v)))
 
 pub all-lines : {s d d₁ d′ : List ℕ} {kept left entry at o o₁ r : ℕ} → left ≡ numberAt s 0 → entry ≡ pastAt s 0 2 → at ≡ pastAt s 2 (6 * left) → Wrote d o (10 ∷ []) d₁ o₁ → Lines s entry at left kept d₁ o₁ d′ r
     → AllLines s kept d o d′ r
@@ -107,7 +97,7 @@ all-lines {s} {kept = kept} {left} {entry} {at} a b c w m = record {
   says = λ ks ls e i k.
       let g = book-listed s (ks ++ ls) e i in
       let n : left ≡ length (ks ++ ls) = a ∙ g .0 in
-      glue w (m .says ks ls (rw (b, c, n) (g .1)) n k (after-most w));
+      glue w (m .says ks ls (rw (b, c, n) (g .1)) n k (place-within w));
 }
 
 -- `ok D L`, and the lines

@@ -8,7 +8,7 @@ use native.Mathlib.Omega.{arith}
 use lib.Dec.{leb, ltb, eqb}
 use lib.ListN.{length, length-append}
 use Rattle.definition.specs.Code.{Code, number, work-short, book-long, not-a-book, bad-name, too-deep, macro-growth, leftover-macro, no-binder, name-long, result-long, output-short, macro-left}
-use Rattle.definition.specs.Out.{Out, refused, done}
+use Rattle.definition.specs.Out.{Out, done}
 use Rattle.definition.specs.Tree.{Name, Param, Definition, format, constant, byte-order, macro}
 use Rattle.definition.specs.Names.{digits, decimal}
 use Rattle.definition.specs.Write.{wU16, wName, wText, wAll, wList, wParam, wDefinition, sizeOf}

@@ -9,7 +9,6 @@ use shown::put_count;
 use shown::put_shown;
 use writer::put_byte;
 use writer::put_bytes;
-ghost use mathlib.Core.Path.{_≡_};
 ghost use Rattle.writer.specs.Buf.{Wrote};
 ghost use Rattle.printed.specs.Lines.{wordOf, Line, AllLines, Lists};
 

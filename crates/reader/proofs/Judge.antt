@@ -1,24 +1,22 @@
 -- A body judged alone.
 use mathlib.Core.Path.{_≡_, refl, ap, sym, _∙_}
 use mathlib.Core.List.{List, [], _∷_}
-use mathlib.Core.Bool.{Bool, true, false}
 use Prim.Native.Nat.{ℕ, zero, suc, _+_, _-_, _≤_, _<_}
 use native.Mathlib.Omega.{arith}
 use borrow.Author.Tests.{le-leb, lt-leb}
-use lib.ListN.{length, take, drop, getD, length-drop, List·getD-eq-default}
+use lib.ListN.{length, take, drop, getD, length-drop}
 use lib.Seq.{length-take-le, take-nil}
 use Rattle.definition.specs.Code.{Code, number, not-a-book}
-use Rattle.definition.specs.Res.{Maybe, absent, just, Res, bad, ok, _>>=_}
-use Rattle.definition.specs.Tree.{Kind, isFormat, isConstant, isByteOrder, isMacro, Definition}
+use Rattle.definition.specs.Res.{absent, just, Res, bad, ok}
+use Rattle.definition.specs.Tree.{Kind}
 use Rattle.definition.specs.Read.{known, kinds, definition}
 use Rattle.definition.specs.Contents.{whole, atEnd}
-use Rattle.cursor.specs.Ends.{Along, Gives, Fails, Ends}
+use Rattle.cursor.specs.Ends.{Along, Ends}
 use Rattle.cursor.specs.declared.Cursor.{Cursor}
 use Rattle.cursor.specs.declared.Fault.{Fault}
 use Rattle.cursor.specs.declared.Walked.{Walked}
 use Rattle.cursor.specs.declared.Walked.the-variants.{Past, Refused}
 use Rattle.reader.specs.Verdict.{verdict, ofKind, bodyVerdict}
-use Rattle.reader.specs.declared.Verdict.{Verdict}
 use Rattle.reader.specs.declared.Verdict.the-variants.{Sound, Refused as Unsound}
 use Rattle.rows.proofs.Bind.{past, refused}
 
@@ -46,7 +44,7 @@ cut-out [] (suc from) to h = rw (take-nil to, take-nil (to - suc from))
 cut-out (b ∷ s) (suc from) zero h = absurd (omega arith)
 cut-out (b ∷ s) (suc from) (suc to) h = let e : to - from ≡ suc to - suc from = omega arith in cut-out s from to (omega arith) ∙ ap (λ (n : ℕ). take n (drop from s)) e
 
-unsound : (c d p q : ℕ) → c ≡ d → p ≡ q → Unsound (record { code = c; at = p }) ≡ Unsound (record { code = d; at = q })
+pub unsound : (c d p q : ℕ) → c ≡ d → p ≡ q → Unsound (record { code = c; at = p }) ≡ Unsound (record { code = d; at = q })
 unsound c d p q e h = rw (e, h)
 
 -- what is left where a reading ended, of bytes that end at `to`

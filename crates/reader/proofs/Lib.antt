@@ -1,2 +1,2 @@
 mod OneParam
-mod Judge
+pub mod Judge

@@ -5,11 +5,10 @@ use Prim.Native.Nat.{ℕ, _-_}
 use lib.Dec.{leb}
 use lib.ListN.{length, take, drop, getD}
 use Rattle.definition.specs.Code.{number}
-use Rattle.definition.specs.Res.{Maybe, absent, just, Res, bad, ok, _>>=_}
+use Rattle.definition.specs.Res.{absent, Res, bad, ok, _>>=_}
 use Rattle.definition.specs.Tree.{Definition}
 use Rattle.definition.specs.Read.{Reader, known, kinds, definition}
 use Rattle.definition.specs.Contents.{whole}
-use Rattle.cursor.specs.declared.Fault.{Fault}
 use Rattle.reader.specs.declared.Verdict.{Verdict}
 use Rattle.reader.specs.declared.Verdict.the-variants.{Sound, Refused}
 

@@ -13,13 +13,13 @@ use Rattle.definition.specs.Size.{size, levels, levelsI, levelsA}
 use Rattle.definition.specs.Macros.{Macro, instance, innerOf}
 use Rattle.seek.specs.At.{pastAt, numberAt, namePast, namesPast}
 use Rattle.seek.specs.Here.{Here}
-use Rattle.lookup.proofs.Names.{clash}
+use Rattle.lookup.proofs.Names.{not-both}
 use Rattle.writer.specs.Buf.{put, part, Wrote}
 use Rattle.writer.proofs.Put.{length-put}
 use Rattle.areas.specs.First.{first}
 use Rattle.areas.proofs.First.{first-long, first-put}
-use Rattle.marks.specs.declared.Walk.{Walk}
-use Rattle.marks.specs.Steps.{walk}
+use Rattle.walk.specs.declared.Walk.{Walk}
+use Rattle.walk.specs.Steps.{walk}
 use Rattle.calls.specs.Walk.{combinatorAt, skipAt}
 use Rattle.pieces.specs.Pieces.{pieces, places}
 use Rattle.laws.proofs.Splits.{s-comb}
@@ -92,13 +92,13 @@ module _ {macros book areas marks : List ℕ} {def call : ℕ} {areas₁ m₁ : 
     where
       stop : (v : Out Combinator) → Made (first areas₂) m₂ r v → Puts out o (v >>= λ c. done (wInner (innerOf c) [])) out′ e
       stop (refused k) w = q
-      stop (done d) w = clash (w .0) g
+      stop (done d) w = not-both _ (w .0) g
 
   pub called-done : r .good ≡ true → length areas₂ ≡ length areas₁ → (u : Walk) → u ≡ skipAt 64 (first areas₂) (walk 0 0 64 true) m₂ .0 → {out out′ : List ℕ} {o e : ℕ} → Wrote out o (part 0 (u .at) (first areas₂)) out′ e → Called macros def book call areas marks out o out′ e
   called-done g l u hu {out} {out′} {o} {e} w = record { says = λ ar m d nm xs z h dx. go ar (instance (m .params) xs (m .body)) (made ar m d nm xs z h dx) }
     where
       go : Areas macros book areas marks → (v : Out Combinator) → Made (first areas₂) m₂ r v → Puts out o (v >>= λ c. done (wInner (innerOf c) [])) out′ e
-      go ar (refused k) v = clash g v
+      go ar (refused k) v = not-both _ g v
       go ar (done c) v =
           let k = v .1 in
           let h : Here (first areas₂) 0 (wInner (innerOf c) (behind-inner c (k .rest))) = rw (inner-front c (k .rest)) at (k .here) in

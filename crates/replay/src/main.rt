@@ -1,17 +1,16 @@
 // Replays the recorded answers of the Rust, data/ (its page there says how they were made and laid out), and counts for each
 // code the answers that are the recorded ones and those that are not.
-use closing::Elaborated;
 use elaboration::elaborate;
 use libc::STDOUT_FILENO;
 use lookup::same_name;
 use macros::Expanded;
 use reader::Verdict;
+use report::Elaborated;
+use report::Tested;
 use seek::byte;
 use seek::number;
 use seek::past;
-use tested::Tested;
 ghost use mathlib.Core.Path.{_≡_};
-ghost use Prim.Native.Nat.{_≤_};
 ghost use lib.ListN.{length};
 
 // How many answers were right and wrong, by code.

@@ -11,10 +11,12 @@ use Rattle.definition.specs.Write.{wU16}
 use Rattle.writer.specs.Buf.{put, Wrote}
 use Rattle.writer.proofs.Put.{length-put, put-nil, put-put, put-fits, take-put, drop-put}
 use Rattle.writer.proofs.Wrote.{same-length, place-fits}
+use Rattle.laws.proofs.Sizes.{length-u16}
 use Rattle.seek.specs.At.{byteAt, numberAt}
 use Rattle.entries.specs.Entry.{entryBytes}
-use Rattle.splice.specs.Model.{Tables, row}
-use Rattle.result.specs.Model.{liftedBytes, keptBytes, Piece, entries, bodies, keptFrom, liftedFrom, bookBytes, resultBytes}
+use Rattle.splice.specs.Model.{Tables, row, spliced}
+use Rattle.lifted.specs.Model.{liftedBytes}
+use Rattle.result.specs.Model.{keptBytes, Piece, entries, bodies, keptFrom, liftedFrom, bookBytes, resultBytes}
 use Rattle.result.specs.Adds.{Adds, Filled}
 
 -- two writes that do not meet
@@ -43,10 +45,6 @@ module _ (d : List ℕ) (x : ℕ) (p : List ℕ) (o : ℕ) (q : List ℕ) (h : x
           ap (drop n) (put-fits d o q k ∙ rw (a, append-assoc, append-assoc))
           ∙ drop-at (take n d) (take m (drop n d) ++ (q ++ drop (o + length q) d)) n (length-take-le n d (omega arith))
           ∙ sym (append-assoc (take m (drop n d)) q (drop (o + length q) d))
-
-length-u16 : (n : ℕ) → length (wU16 n []) ≡ 2
-unfolding wU16
-length-u16 n = refl
 
 pub length-entry : (kind at n : ℕ) → length (entryBytes kind at n) ≡ 6
 unfolding entryBytes wU16
@@ -141,6 +139,10 @@ pub adds-as : {d : List ℕ} {i o : ℕ} {ps qs : List Piece} {d′ : List ℕ} 
 adds-as e a = rw e a
 
 module _ (t : Tables) where
+  pub kept-is : (i from n : ℕ) → from ≡ numberAt (t .book) (2 + 6 * i + 2) → n ≡ numberAt (t .book) (2 + 6 * i + 4) → keptBytes t i ≡ spliced t from (from + n)
+  unfolding keptBytes
+  kept-is i from n a b = rw (a, b)
+
   pub kept-of : (i kind : ℕ) → kind ≡ byteAt (t .book) (2 + 6 * i) → keptFrom t i 1 ≡ record { kind = kind; bytes = keptBytes t i } ∷ []
   unfolding keptFrom
   kept-of i kind e = rw e

@@ -15,7 +15,7 @@ use Rattle.laws.proofs.Splits.{s-inner}
 use Rattle.laws.proofs.Sizes.{adds, sizeI, sizeI-some}
 use Rattle.writer.specs.Buf.{part, nameBytes}
 use Rattle.writer.proofs.Put.{part-none, part-more}
-use Rattle.marks.specs.Steps.{walk}
+use Rattle.walk.specs.Steps.{walk}
 use Rattle.calls.proofs.Link.{skipped}
 use Rattle.tables.specs.Rows.{typeAt, rowOf}
 use Rattle.lifting.specs.Records.{Ref, own, passed, Record, find, call}
@@ -25,11 +25,11 @@ use Rattle.laws.proofs.Levels.{fewI}
 use Rattle.lifting.proofs.Calls.{calls-end, calls-copy, calls-stretch}
 use Rattle.lifting.proofs.Refs.{AllRefs}
 use Rattle.lifting.proofs.Standing.{Stood}
-use Rattle.result.specs.Model as model
+use Rattle.lifted.specs.Model as model
 use Rattle.invocation.specs.Invocation.{namesBytes, calledBytes, callBytes}
 use Rattle.splice.specs.Model as by-numbers
 use Rattle.splice.specs.Model.{Tables, goes, onFrom, spliced}
-use Rattle.result.specs.Model.{innerEnd, passedBytes, paramsBytes}
+use Rattle.lifted.specs.Model.{innerEnd, passedBytes, paramsBytes}
 use Rattle.result.specs.Held.{Numbers}
 
 -- "a name 255"

@@ -1,4 +1,3 @@
-pub mod Steps
 pub mod Adds
 pub mod Held
 pub mod Bodies

@@ -35,6 +35,7 @@ use Rattle.lifting.proofs.Written.{WholeAll, of-cons, inside-all, traceAll-type
 use Rattle.result.specs.Model as model
 use Rattle.entries.specs.Entry.{entryBytes}
 use Rattle.splice.specs.Model.{Tables, row}
+use Rattle.lifted.specs.Model.{liftedBytes}
 use Rattle.result.specs.Model.{Piece, entries, keptFrom, liftedFrom, bookBytes, resultBytes}
 use Rattle.result.specs.Held.{Agrees, Held, Writes}
 use Rattle.result.specs.Adds.{Filled}
@@ -114,8 +115,8 @@ module _ (t : Tables) (rs : List Record) (agree : (p : ℕ) → p < length (t .b
 
   -- lifted ones
   module _ (short : length (t .book) ≤ 65535) (order : List ℕ) where
-    lift-is : (l : Lift) (i : ℕ) (m : Record) → suc (getD order i 0) ≡ getD (t .number) (l .at) 0 → Known t m (getD (t .number) (l .at) 0) → model.liftedBytes t (rowOf m) ≡ by-records.liftedBytes (t .book) rs (just m)
-        → model.liftedBytes t (row t (getD order i 0)) ≡ by-records.liftedBytes (t .book) rs (just m)
+    lift-is : (l : Lift) (i : ℕ) (m : Record) → suc (getD order i 0) ≡ getD (t .number) (l .at) 0 → Known t m (getD (t .number) (l .at) 0) → liftedBytes t (rowOf m) ≡ by-records.liftedBytes (t .book) rs (just m)
+        → liftedBytes t (row t (getD order i 0)) ≡ by-records.liftedBytes (t .book) rs (just m)
     lift-is l i m e a b = let f : getD order i 0 ≡ a .numbers .of = omega (arith, a .numbers .is) in rw (f, a .numbers .holds) b
 
     lifted-all : (ls : List Lift) (i : ℕ) → AllFound rs ls → AllWhole (t .book) rs ls → AllTyped (Stood (t .book) rs) rs

@@ -1,9 +1,7 @@
 -- What the naming pass hands over: the tables hold the records of the walk over the expanded book.
 use mathlib.Core.Path.{_≡_}
-use mathlib.Core.Bool.{cond}
-use mathlib.Core.List.{List, [], _∷_, _++_}
+use mathlib.Core.List.{List, _++_}
 use Prim.Native.Nat.{ℕ, suc, _≤_, _<_}
-use lib.Dec.{eqb}
 use lib.ListN.{length, getD}
 use Rattle.definition.specs.Res.{Maybe, absent, just, ok}
 use Rattle.definition.specs.Out.{done}
@@ -14,7 +12,7 @@ use Rattle.definition.specs.Write.{wBook}
 use Rattle.laws.specs.Book.{IsBook}
 use Rattle.lifting.specs.Records.{Record, find}
 use Rattle.lifting.specs.Trace.{Trace, treeHead, traceBook}
-use Rattle.tables.specs.Rows.{Row, rowOf}
+use Rattle.tables.specs.Rows.{rowOf}
 use Rattle.splice.specs.Model.{Tables, row}
 use Rattle.result.specs.Adds.{Filled}
 

@@ -1,45 +1,14 @@
 -- What the writing pass writes, from the expanded book and the tables of the naming pass: total on any bytes and any numbers.
 -- That it is document 01's result where the tables are those of the book is shown in proofs/Result.antt.
-use mathlib.Core.Bool.{true}
 use mathlib.Core.List.{List, [], _∷_, _++_}
-use Prim.Native.Nat.{ℕ, zero, suc, _+_, _*_, _-_, _%_}
-use lib.Dec.{eqb}
+use Prim.Native.Nat.{ℕ, zero, suc, _+_, _*_, _%_}
 use lib.ListN.{length, getD}
-use Rattle.definition.specs.Tree.{Name}
 use Rattle.definition.specs.Write.{wU16}
-use Rattle.writer.specs.Buf.{part, nameBytes}
 use Rattle.entries.specs.Entry.{entryBytes}
-use Rattle.seek.specs.At.{byteAt, numberAt, pick}
-use Rattle.marks.specs.Steps.{walk}
-use Rattle.calls.specs.Walk.{skipAt}
-use Rattle.tables.specs.Rows.{TypeAt, Row}
-use Rattle.invocation.specs.Invocation.{calledBytes}
+use Rattle.seek.specs.At.{byteAt, numberAt}
 use Rattle.splice.specs.Model.{row, spliced}
+use Rattle.lifted.specs.Model.{liftedBytes}
 pub use Rattle.splice.specs.Model.{Tables, tables}
-
--- where an inner ends. It has fewer levels than bytes
-unfoldable pub innerEnd : List ℕ → ℕ → ℕ
-innerEnd s at = skipAt (length s) s (walk at 0 0 true) (0 ∷ []) .0 .at
-
--- "types as they stand after lifting, without chain": of a Dependent field whose combinator is lifted itself, the call
-unfoldable pub passedBytes : Tables → ℕ → ℕ → List ℕ
-passedBytes t at k = pick (eqb k 0) (spliced t at (innerEnd (t .book) at)) (calledBytes (row t (k - 1)))
-
-unfoldable pub typeBytes : Tables → TypeAt → List ℕ
-typeBytes t x = pick (x .own) (part (x .at) (innerEnd (t .book) (x .at)) (t .book)) (passedBytes t (x .at) (getD (t .number) (x .at) 0))
-
--- where the type of parameter j stands
-abbrev pub paramType : List ℕ → ℕ → TypeAt
-paramType params j = record { own = eqb (getD params (4 * j + 3) 0) 1; at = getD params (4 * j + 2) 0 }
-
-unfoldable pub paramsBytes : Tables → List Name → List TypeAt → List ℕ
-paramsBytes t [] xs = []
-paramsBytes t (n ∷ ns) [] = []
-paramsBytes t (n ∷ ns) (x ∷ xs) = (nameBytes n ++ typeBytes t x) ++ paramsBytes t ns xs
-
--- "1 format: name, u16 count of parameters, each name + inner; combinator"
-unfoldable pub liftedBytes : Tables → Row → List ℕ
-liftedBytes t r = nameBytes (r .name) ++ ((wU16 (length (r .params)) [] ++ paramsBytes t (r .params) (r .types)) ++ spliced t (r .at) (r .end))
 
 -- the body of kept definition i: entry i says where it stands. No lift begins in a format's head, nor in another body
 unfoldable pub keptBytes : Tables → ℕ → List ℕ

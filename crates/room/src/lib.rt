@@ -1,24 +1,21 @@
 // Codes 7 to 11, in tables that are as long as the book asks. A flat book needs none.
-use closing::Elaborated;
 use closing::lift_with;
-use flat::copy_book;
 use flat::is_flat;
 use measured::measure_book;
-use seek::number;
-ghost use mathlib.Core.Bool.{true};
+use report::Elaborated;
+use unlifted::lift_nothing;
 ghost use Prim.Native.Nat.{_≤_};
 ghost use lib.ListN.{length};
-ghost use Rattle.flat.specs.Told.{Told};
-ghost use Rattle.closing.specs.Elaborates.{Expanded, Lifts};
+ghost use Rattle.report.specs.Elaborates.{Expanded, Lifts};
 
 // The tables of a book of at most 512 bytes: for every byte an end, a number and a use; for every four bytes four numbers of a binder and two of a
-// label, with 512 more for the labels' hashes.
+// label, with 512 more for the labels' hashes. The numbers stand behind the sheet's other parts, which take 16,180.
 fn lift_small(s: &[u8], out: &mut [u8]) -> Elaborated
     requires { ⌜ Expanded (now s) × (length (now s) ≤ 512) ⌝ }
     ensures { λ r. ⌜ Lifts (now (s .entry)) (now (out .entry)) (now (out .exit)) r ⌝ }
 {
     let mut ends = [0u16; 512];
-    let mut number = [0u16; 512];
+    let mut sheet = [0u16; 16692];
     let mut binders = [0u16; 512];
     let mut bound = [0u32; 768];
     let mut uses = [0u32; 512];
@@ -27,7 +24,7 @@ fn lift_small(s: &[u8], out: &mut [u8]) -> Elaborated
     lift_with(
         s,
         &ends,
-        &mut number,
+        &mut sheet,
         &mut binders,
         &mut bound,
         &mut uses,
@@ -42,7 +39,7 @@ fn lift_short(s: &[u8], out: &mut [u8]) -> Elaborated
     ensures { λ r. ⌜ Lifts (now (s .entry)) (now (out .entry)) (now (out .exit)) r ⌝ }
 {
     let mut ends = [0u16; 2048];
-    let mut number = [0u16; 2048];
+    let mut sheet = [0u16; 18228];
     let mut binders = [0u16; 2048];
     let mut bound = [0u32; 1536];
     let mut uses = [0u32; 2048];
@@ -51,7 +48,7 @@ fn lift_short(s: &[u8], out: &mut [u8]) -> Elaborated
     lift_with(
         s,
         &ends,
-        &mut number,
+        &mut sheet,
         &mut binders,
         &mut bound,
         &mut uses,
@@ -66,7 +63,7 @@ fn lift_middle(s: &[u8], out: &mut [u8]) -> Elaborated
     ensures { λ r. ⌜ Lifts (now (s .entry)) (now (out .entry)) (now (out .exit)) r ⌝ }
 {
     let mut ends = [0u16; 4096];
-    let mut number = [0u16; 4096];
+    let mut sheet = [0u16; 20276];
     let mut binders = [0u16; 4096];
     let mut bound = [0u32; 2560];
     let mut uses = [0u32; 4096];
@@ -75,7 +72,7 @@ fn lift_middle(s: &[u8], out: &mut [u8]) -> Elaborated
     lift_with(
         s,
         &ends,
-        &mut number,
+        &mut sheet,
         &mut binders,
         &mut bound,
         &mut uses,
@@ -90,7 +87,7 @@ fn lift_long(s: &[u8], out: &mut [u8]) -> Elaborated
     ensures { λ r. ⌜ Lifts (now (s .entry)) (now (out .entry)) (now (out .exit)) r ⌝ }
 {
     let mut ends = [0u16; 16384];
-    let mut number = [0u16; 16384];
+    let mut sheet = [0u16; 32564];
     let mut binders = [0u16; 16384];
     let mut bound = [0u32; 8704];
     let mut uses = [0u32; 16384];
@@ -99,7 +96,7 @@ fn lift_long(s: &[u8], out: &mut [u8]) -> Elaborated
     lift_with(
         s,
         &ends,
-        &mut number,
+        &mut sheet,
         &mut binders,
         &mut bound,
         &mut uses,
@@ -123,23 +120,6 @@ fn lift_by_length(s: &[u8], out: &mut [u8]) -> Elaborated
         return lift_middle(s, out);
     }
     lift_long(s, out)
-}
-
-// Out of a flat book nothing is lifted: it is its own result.
-fn lift_nothing(s: &[u8], out: &mut [u8]) -> Elaborated
-    requires { ⌜ Expanded (now s) × Told (now s) true ⌝ }
-    ensures { λ r. ⌜ Lifts (now (s .entry)) (now (out .entry)) (now (out .exit)) r ⌝ }
-{
-    if !copy_book(s, out) {
-        return Elaborated::Refused { code: 11 };
-    }
-    let length = s.len() as u16;
-    let definitions = number(s, 0);
-    Elaborated::Done {
-        length,
-        definitions,
-        lifted: 0,
-    }
 }
 
 // Codes 7 to 11.

@@ -1,25 +1,23 @@
 -- Readings one after the other, where the answer of the first is known.
-use mathlib.Core.Path.{_≡_, refl, ap, sym, _∙_, subst}
-use mathlib.Core.List.{List, [], _∷_}
-use Prim.Native.Nat.{ℕ, zero, suc, _+_, _-_, _≤_, _<_}
-use native.Mathlib.Omega.{arith}
-use lib.ListN.{length, drop}
+use mathlib.Core.Path.{_≡_, refl, _∙_, subst}
+use mathlib.Core.List.{List}
+use Prim.Native.Nat.{ℕ, _-_}
+use lib.ListN.{drop}
 use Rattle.definition.specs.Code.{Code}
 use Rattle.definition.specs.Res.{Res, bad, ok, _>>=_}
 use Rattle.definition.specs.Read.{Reader, u16}
-use Rattle.cursor.specs.Ends.{Along, Gives, Fails, Step, got, none, Took, Part, PartBy, Ends, EndsBy}
+use Rattle.cursor.specs.Ends.{Along, Gives, Fails, Step, got, none, Took, Ends, EndsBy}
 use Rattle.cursor.specs.declared.Cursor.{Cursor}
 use Rattle.cursor.specs.declared.Fault.{Fault}
 use Rattle.cursor.specs.declared.Walked.{Walked}
 use Rattle.cursor.specs.declared.Walked.the-variants.{Past, Refused}
+use Rattle.cursor.proofs.Only.{no-value}
+pub use Rattle.cursor.proofs.Only.{walked}
 use Rattle.cursor.proofs.Laws.{took-got, took-none, fails-as}
 use Rattle.rows.specs.Rows.{counted}
 
 pub same-bad : {A B : Type 0} {k k′ : Code} {r r′ : List ℕ} → _≡_ {A = Res (List ℕ) A} (bad k r) (bad k′ r′) → _≡_ {A = Res (List ℕ) B} (bad k r) (bad k′ r′)
 same-bad {k = k} {k′ = k′} {r = r} {r′ = r′} e = let v : k ≡ k′ = cc in let w : r ≡ r′ = cc in rw (v, w)
-
-no-value : {A : Type 0} {k : Code} {r r′ : List ℕ} {a : A} → bad k r ≡ ok a r′ → ⊥
-no-value e = let z : _≡_ {A = ℕ} 0 1 = cc in omega arith
 
 module _ {A : Type 0} {s : List ℕ} {p : ℕ} {m : Res (List ℕ) A} where
   -- from an earlier place
@@ -59,11 +57,6 @@ module _ {B : Type 0} {s : List ℕ} {p : ℕ} {m : Res (List ℕ) ℕ} {x : Ste
 
   pub fails-none : {f : Fault} → Took s p x m → x ≡ none f → Ends s p (Refused f) (m >>= g)
   fails-none {f} t e = stops g (took-none f t e)
-
--- a name or a text
-pub walked : {s : List ℕ} {p from : ℕ} {m : Res (List ℕ) (List ℕ)} {r : Walked} → Part s p from r m → Ends s p r m
-walked {r = Past c} e = record { told = (_, e .told) }
-walked {r = Refused f} e = record { told = e .told }
 
 -- a row, and what stands behind it
 module _ {A B : Type 0} (row : ℕ → Reader A) (g : A × List ℕ → Res (List ℕ) B) where

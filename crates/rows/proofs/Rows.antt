@@ -6,7 +6,7 @@ use Prim.Native.Nat.{ℕ, zero, suc, _-_, _≤_, _<_}
 use native.Mathlib.Numerals.{sub-one}
 use native.Mathlib.Omega.{arith}
 use lib.ListN.{drop}
-use Rattle.definition.specs.Res.{Res, bad, ok, _>>=_}
+use Rattle.definition.specs.Res.{Res, ok, _>>=_}
 use Rattle.definition.specs.Tree.{Inner}
 use Rattle.definition.specs.Read.{Reader, nameBy, namesBy, inners}
 use Rattle.cursor.specs.Ends.{Part, Ends}
@@ -15,7 +15,7 @@ use Rattle.cursor.specs.declared.Fault.{Fault}
 use Rattle.cursor.specs.declared.Walked.{Walked}
 use Rattle.cursor.specs.declared.Walked.the-variants.{Past, Refused}
 use Rattle.rows.specs.Rows.{LeadsBy, Leads}
-use Rattle.rows.proofs.Bind.{then, fails, made, made-in, walked}
+use Rattle.rows.proofs.Bind.{then, fails, made-in, walked}
 
 module _ {A : Type 0} (row : ℕ → Reader A) where
   -- the loop's invariant: whoever reads what is left from here has read all from the start

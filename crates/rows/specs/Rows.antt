@@ -2,7 +2,7 @@
 use mathlib.Core.List.{List}
 use Prim.Native.Nat.{ℕ, suc}
 use lib.ListN.{drop}
-use Rattle.definition.specs.Res.{Res, bad, ok, _>>=_}
+use Rattle.definition.specs.Res.{_>>=_}
 use Rattle.definition.specs.Read.{Reader, u16}
 use Rattle.cursor.specs.Ends.{Ends}
 use Rattle.cursor.specs.declared.Walked.{Walked}

@@ -2,7 +2,7 @@
 -- Assumes nothing.
 use mathlib.Core.Path.{_≡_, refl, sym, _∙_}
 use mathlib.Core.List.{List, [], _∷_}
-use mathlib.Core.Bool.{Bool, true, false, not, _&&_}
+use mathlib.Core.Bool.{Bool, true, not, _&&_, and-true, and-assoc}
 use Prim.Native.Nat.{ℕ}
 use Rattle.definition.specs.Tree.{Name, CaseKind, Combinator, plain, chained, Inner, leaf, struct, choice, shell, bytes, invocation, macro-invocation, Fields, no-field, field, const, Cases, no-case, case, Inners}
 use Rattle.definition.specs.Write.{wU16, wShut, wCombinator, wInner, wInners, countA}
@@ -16,7 +16,6 @@ use Rattle.pieces.specs.Pieces.{Piece, raw, pieces, piecesI, piecesF, piecesC, 
 use Rattle.pieces.specs.Marked.{everyPlace}
 use Rattle.pieces.proofs.Marked.{every-place}
 use Rattle.pieces.proofs.Written.{written-is}
-use Rattle.pieces.proofs.Bools.{and-true, and-assoc}
 use Rattle.unknown.specs.Calls.{unknownAt}
 use Rattle.settled.specs.Settles.{calm}
 

@@ -2,19 +2,18 @@
 -- Assumes nothing.
 use mathlib.Core.Path.{_≡_, _∙_}
 use mathlib.Core.List.{List, []}
-use mathlib.Core.Bool.{Bool, true, false}
-use Prim.Native.Nat.{ℕ, _-_, _*_, _≤_, _<_}
+use mathlib.Core.Bool.{Bool, true}
+use Prim.Native.Nat.{ℕ}
 use lib.ListN.{length, take}
-use Rattle.definition.specs.Macros.{Macro, macros}
+use Rattle.definition.specs.Macros.{macros}
 use Rattle.nested.specs.Nested.{settled}
-use Rattle.seek.specs.At.{byteAt, pastAt, numberAt, namePast}
-use Rattle.marks.specs.declared.Walk.{Walk}
-use Rattle.marks.specs.Steps.{walk}
+use Rattle.seek.specs.At.{namePast}
+use Rattle.walk.specs.declared.Walk.{Walk}
+use Rattle.walk.specs.Steps.{walk}
 use Rattle.calls.specs.Walk.{combinatorAt}
 use Rattle.contents.specs.Params.{ParamsPast}
-use Rattle.bodies.specs.Tested.{BodiesLeft}
-use Rattle.bodies.proofs.Tested.{format-tested, definition-format, definition-other, left-none, left-out, left-step, bodies-tested}
-use Rattle.known.specs.Table.{Rows, Tabled}
+use Rattle.bodies.proofs.Tested.{format-tested, definition-format, definition-other}
+use Rattle.known.specs.Table.{Tabled}
 use Rattle.unknown.specs.Calls.{AllUnknown}
 use Rattle.settled.specs.Settles.{calm, FormatSettles, DefinitionSettles, BodiesSettle, Settles}
 use Rattle.settled.proofs.Calls.{calm-by}
@@ -32,27 +31,6 @@ module _ {lib pl hs : List ℕ} {rows : ℕ} {book : List ℕ} {kind at : ℕ} {
 
   pub other-settles : (kind ≡ 1 → ⊥) → DefinitionSettles lib pl hs rows book kind at row true
   other-settles q = record { says = λ ms t. definition-other q }
-
--- the definitions that are left
-pub record Leaving (lib pl hs : List ℕ) (rows : ℕ) (book : List ℕ) (row entry at left : ℕ) (r : Bool) : Type 0 where
-  pub says : (ms : List Macro) → Rows lib pl hs rows ms → BodiesLeft book (calm ms) row entry at left r
-
-module _ {lib pl hs : List ℕ} {rows : ℕ} {book : List ℕ} {row entry at left : ℕ} where
-  pub leaving-none : left ≤ 0 → Leaving lib pl hs rows book row entry at left true
-  leaving-none h = record { says = λ ms t. left-none h }
-
-  module _ (k : 0 < left) {kind size : ℕ} (hk : kind ≡ byteAt book entry) (hz : size ≡ numberAt book (pastAt book entry 4)) {marks : List ℕ} (hl : length marks ≡ row) {b : Bool}
-      (v : DefinitionSettles lib pl hs rows book kind at marks b) where
-    pub leaving-out : b ≡ false → Leaving lib pl hs rows book row entry at left false
-    leaving-out q = record { says = λ ms t. left-out k hk hz hl (v .says ms t) q }
-
-    pub leaving-step : b ≡ true → {at₁ entry₁ : ℕ} → at₁ ≡ pastAt book at size → entry₁ ≡ pastAt book entry 6 → {r : Bool} → Leaving lib pl hs rows book row entry₁ at₁ (left - 1) r
-        → Leaving lib pl hs rows book row entry at left r
-    leaving-step q ha he next = record { says = λ ms t. left-step k hk hz hl (v .says ms t) q ha he (next .says ms t) }
-
-pub bodies-settle : {lib pl hs : List ℕ} {rows : ℕ} {book marks : List ℕ} {left entry at : ℕ} {r : Bool} → left ≡ numberAt book 0 → entry ≡ pastAt book 0 2 → at ≡ pastAt book 2 (6 * left)
-    → Leaving lib pl hs rows book (length marks) entry at left r → BodiesSettle lib pl hs rows book marks r
-bodies-settle el ee ea v = record { says = λ ms t. bodies-tested el ee ea (v .says ms t) }
 
 pub book-settles : {lib pl hs pl′ hs′ marks book : List ℕ} {rows : ℕ} {r : Bool} → Tabled lib pl hs pl′ hs′ rows → length pl ≡ 512 → length hs ≡ 512 → length marks ≡ 8192
     → BodiesSettle lib pl′ hs′ rows book marks r → Settles lib book r

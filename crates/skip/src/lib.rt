@@ -1,12 +1,12 @@
 // Going over an inner with nothing recorded, and walks that start anew at a place.
 use calls::combinator;
 use calls::inner;
-use marks::Walk;
-use marks::back;
-use marks::silent;
+use walk::Walk;
+use walk::back;
+use walk::silent;
 ghost use mathlib.Core.Path.{_≡_};
 ghost use mathlib.Core.Bool.{true};
-ghost use Rattle.marks.specs.Steps.{walk};
+ghost use Rattle.walk.specs.Steps.{walk};
 ghost use Rattle.calls.specs.Walk.{combinatorAt, skipAt};
 
 // An inner with so many levels left below it, gone over with nothing recorded: a macro's argument, or a parameter's type.

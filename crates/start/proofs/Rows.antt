@@ -21,7 +21,8 @@ use Rattle.lookup.proofs.Names.{stands}
 use Rattle.taken.specs.Taken.{taken, Listed as Row}
 use Rattle.contents.specs.Listed.{Listed}
 use Rattle.contents.proofs.Listed.{past-is, listed-kind, listed-body, listed-next, book-listed}
-use Rattle.start.specs.Rows.{Book, Entry, Rows, Takes, AtStart}
+use Rattle.report.specs.Elaborates.{Expanded}
+use Rattle.start.specs.Rows.{Entry, Rows, Takes, AtStart}
 
 -- ---- an entry of the contents
 module _ {s : List ℕ} {entry at : ℕ} {d : Definition} {ds : List Definition} (l : Listed s entry at (d ∷ ds)) where
@@ -69,10 +70,6 @@ module _ {s : List ℕ} {place : ℕ} {pl hs hi : List ℕ} {n : ℕ} {pl′ hs�
       row (macro m ps c) ds k w r = absurd (omega arith)
 
 -- ---- the definition number i
-pub book-short : {s : List ℕ} → Book s → length s ≤ 16384
-unfolding sizeBook
-book-short k = omega (arith, ap length (k .book), k .isBook .short)
-
 record From (s : List ℕ) (entry : ℕ) (ds : List Definition) : Type 0 where
   at : ℕ
   listed : Listed s entry at ds
@@ -125,10 +122,10 @@ module _ {s pl hs hi : List ℕ} where
   }
 
   module _ {n left : ℕ} (g : Back s pl hs hi n left) where
-    pub back-entry : 0 < left → (k : Book s) → Entry s (pastAt s 2 (6 * (left - 1)))
+    pub back-entry : 0 < left → (k : Expanded s) → Entry s (pastAt s 2 (6 * (left - 1)))
     back-entry h k = let x = nth s (k .of) (k .book) (k .isBook) (left - 1) (omega (arith, g .says (k .of) (k .book) (k .isBook) .0)) in record { at = x .at; first = x .first; more = _; listed = x .listed }
 
-    pub back-room : 0 < left → (k : Book s) → n < 512
+    pub back-room : 0 < left → (k : Expanded s) → n < 512
     back-room h k = omega (arith, g .says (k .of) (k .book) (k .isBook) .1, k .isBook .few)
 
     pub back-step : 0 < left → {entry : ℕ} → entry ≡ pastAt s 2 (6 * (left - 1)) → {pl′ hs′ hi′ : List ℕ} {r : ℕ} → Takes s entry pl hs hi n pl′ hs′ hi′ r → Back s pl′ hs′ hi′ r (left - 1)

@@ -10,11 +10,6 @@ use Rattle.laws.specs.Book.{IsBook}
 use Rattle.taken.specs.Taken.{both, taken, Table, Hints, Packed}
 use Rattle.contents.specs.Listed.{Listed}
 
-pub record Book (s : List ℕ) : Type 0 where
-  pub of : List Definition
-  pub book : s ≡ wBook of
-  pub isBook : IsBook of
-
 -- a definition is listed at a place of the contents
 pub record Entry (s : List ℕ) (entry : ℕ) : Type 0 where
   pub at : ℕ

@@ -5,7 +5,8 @@ use seek::past;
 use taken::take_source_name;
 ghost use Prim.Native.Nat.{_≤_, _<_};
 ghost use lib.ListN.{length};
-ghost use Rattle.start.specs.Rows.{Book, Entry, Takes, AtStart};
+ghost use Rattle.report.specs.Elaborates.{Expanded};
+ghost use Rattle.start.specs.Rows.{Entry, Takes, AtStart};
 
 // The definition whose entry stands at a place of the contents gets row n if it is a format or a constant; the number of rows then.
 fn take_entry(
@@ -31,7 +32,7 @@ fn take_entry(
 
 // "Taken at the start: all kind 1 and 2 names": a row for each, that of the last first; the number of rows.
 pub fn take_at_start(s: &[u8], places: &mut [u16], hashes: &mut [u16], hints: &mut [u16]) -> usize
-    requires { ⌜ Book (now s) × (512 ≤ length (now places)) × (512 ≤ length (now hashes)) × (512 ≤ length (now hints)) ⌝ }
+    requires { ⌜ Expanded (now s) × (512 ≤ length (now places)) × (512 ≤ length (now hashes)) × (512 ≤ length (now hints)) ⌝ }
     ensures { λ r. ⌜ AtStart (now (s .entry)) (now (places .exit)) (now (hashes .exit)) (now (hints .exit)) r ⌝ }
 {
     let mut left = number(s, 0) as usize;

@@ -8,8 +8,8 @@ use native.Mathlib.Omega.{arith}
 use lib.ListN.{length, take, length-set, length-append}
 use Rattle.definition.specs.Code.{Code, number}
 use Rattle.definition.specs.Res.{Res, bad, ok}
-use Rattle.definition.specs.Tree.{Shell, wrap, vec, option, array, Combinator, plain, chained, Inner, leaf, struct, choice, shell, bytes, invocation, macro-invocation}
-use Rattle.definition.specs.Write.{wU16, wName, wText, wLen, wList, wOpen, countA, wInner, wCombinator, wInners}
+use Rattle.definition.specs.Tree.{Combinator, plain, chained, Inner, leaf, struct, choice, shell, bytes, invocation, macro-invocation}
+use Rattle.definition.specs.Write.{wU16, wName, wText, wLen, wList, countA, wInner, wCombinator, wInners}
 use Rattle.definition.specs.Size.{size, levels}
 use Rattle.laws.proofs.Sizes.{adds, open-some, sizeI, size-struct, size-choice, size-shell, size-plain, size-chained}
 use Rattle.laws.proofs.Splits.{s-inner}

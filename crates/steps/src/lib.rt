@@ -12,6 +12,7 @@ ghost use Prim.Native.Nat.{_≤_};
 ghost use lib.ListN.{length};
 ghost use Rattle.ends.specs.Ends.{Right};
 ghost use Rattle.frames.specs.Frames.{Standing};
+ghost use Rattle.tables.specs.Parts.{orderIn, rowsIn, paramsIn, numberIn};
 ghost use Rattle.lift.specs.Bound.{Sized};
 ghost use Rattle.lift.specs.Sheet.{Tables};
 ghost use Rattle.naming.specs.Lifts.{Scratch};
@@ -39,13 +40,11 @@ pub fn open_child(
     places: &mut [u16],
     hashes: &mut [u16],
     hints: &mut [u16],
-    rows: &mut [u16],
-    params: &mut [u16],
-    number: &mut [u16],
+    sheet: &mut [u16],
     w: Counts,
 ) -> Child
-    requires { ⌜ Tables (now s) (now made) (now places) (now hashes) (now hints) (now rows) (now params) w × Standing (now s) at × Scratch (now s) (now bound) (now uses) (now spare) × (length (now path) ≡ 255) × (b ≤ 65536) × Sized (now binders) b × Right (now s) (now ends) ⌝ }
-    ensures { λ r. ⌜ Comes (now (s .entry)) at (now (path .entry)) len (now (binders .entry)) b (now (made .entry)) (now (places .entry)) (now (hashes .entry)) (now (hints .entry)) (now (rows .entry)) (now (params .entry)) (now (number .entry)) w (now (path .exit)) (now (made .exit)) (now (places .exit)) (now (hashes .exit)) (now (hints .exit)) (now (rows .exit)) (now (params .exit)) (now (number .exit)) r ⌝ }
+    requires { ⌜ Tables (now s) (now made) (now places) (now hashes) (now hints) (rowsIn (now sheet)) (paramsIn (now sheet)) w × Standing (now s) at × Scratch (now s) (now bound) (now uses) (now spare) × (length (now path) ≡ 255) × (b ≤ 65536) × Sized (now binders) b × Right (now s) (now ends) ⌝ }
+    ensures { λ r. ⌜ Comes (now (s .entry)) at (now (path .entry)) len (now (binders .entry)) b (now (made .entry)) (now (places .entry)) (now (hashes .entry)) (now (hints .entry)) (rowsIn (now (sheet .entry))) (paramsIn (now (sheet .entry))) (numberIn (now (sheet .entry))) w (now (path .exit)) (now (made .exit)) (now (places .exit)) (now (hashes .exit)) (now (hints .exit)) (rowsIn (now (sheet .exit))) (paramsIn (now (sheet .exit))) (numberIn (now (sheet .exit))) r × (orderIn (now (sheet .exit)) ≡ orderIn (now (sheet .entry))) ⌝ }
 {
     let end = end_of(s, ends, at);
     let last = combinator_past(s, ends, end);
@@ -67,9 +66,7 @@ pub fn open_child(
             places,
             hashes,
             hints,
-            rows,
-            params,
-            number,
+            sheet,
             w,
         );
         match named {

@@ -25,8 +25,8 @@ use Rattle.writer.proofs.Put.{put-fits, part-written, take-written, length-put}
 use Rattle.writer.proofs.Wrote.{fitted, place-is, same-length}
 use Rattle.areas.specs.First.{first}
 use Rattle.areas.proofs.First.{first-long, first-kept, first-put}
-use Rattle.marks.specs.declared.Walk.{Walk}
-use Rattle.marks.specs.Steps.{walk}
+use Rattle.walk.specs.declared.Walk.{Walk}
+use Rattle.walk.specs.Steps.{walk}
 use Rattle.calls.specs.Walk.{combinatorAt, skipAt}
 use Rattle.calls.specs.Walked.{Walked, Skipped}
 use Rattle.pieces.specs.Pieces.{pieces, places}

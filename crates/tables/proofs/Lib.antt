@@ -1,3 +1,4 @@
 pub mod Last
 pub mod Stored
 pub mod Params
+pub mod Parts

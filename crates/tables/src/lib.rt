@@ -4,6 +4,7 @@ ghost use Prim.Native.Nat.{_≤_, min};
 ghost use lib.ListN.{getD, set};
 ghost use Rattle.tables.specs.Rows.{withParam};
 ghost use Rattle.tables.specs.Numbers.{plus};
+ghost use Rattle.tables.specs.Parts.{StoredIn};
 
 // The number at a place of a table, 0 past its end.
 pub fn entry(table: &[u16], at: usize) -> u16
@@ -35,6 +36,22 @@ pub fn store(t: &mut [u16], i: usize, x: usize)
         return;
     }
     t[i] = x as u16;
+}
+
+// A number into the part of n numbers that begins at a place of a table, as far as the part and the table reach.
+pub fn store_in(t: &mut [u16], from: usize, n: usize, i: usize, x: usize)
+    ensures { λ _. ⌜ StoredIn (now (t .entry)) from n i (min x 65535) (now (t .exit)) ⌝ }
+{
+    if n <= i {
+        return;
+    }
+    if t.len() <= from {
+        return;
+    }
+    if t.len() - from <= i {
+        return;
+    }
+    store(t, from + i, x);
 }
 
 // The binder number j: its name's place, its type's, whether that is a parameter's own, and the type's size after lifting.

@@ -33,16 +33,16 @@ source-place : (at : ℕ) → at < 32768 → placeOf at ≡ Source at
 unfolding placeOf
 source-place at h = rw (lt-ltb at 32768 h)
 
-made-place : (at : ℕ) → placeOf (32768 + at) ≡ Made at
+pub made-place : (at : ℕ) → placeOf (32768 + at) ≡ Made at
 unfolding placeOf
 made-place at = rw (le-ltb (32768 + at) 32768 (omega arith)) (ap Made (omega arith))
 
 -- ---- a name that stands before a write, and the name that was written
 module _ (s : List ℕ) (q end : ℕ) (p : List ℕ) (h : q + 1 + getD s q 0 ≤ end) where
-  byte-before : getD (put s end p) q 0 ≡ getD s q 0
+  pub byte-before : getD (put s end p) q 0 ≡ getD s q 0
   byte-before = getD-put-before s end p q (omega arith)
 
-  name-before : nameAt (put s end p) q ≡ nameAt s q
+  pub name-before : nameAt (put s end p) q ≡ nameAt s q
   unfolding nameAt
   name-before = rw byte-before (part-put-before (q + 1) (getD s q 0) s end p h)
 

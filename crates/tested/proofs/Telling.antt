@@ -7,17 +7,15 @@ use Prim.Native.Nat.{ℕ}
 use lib.Dec.{leb}
 use lib.ListN.{take}
 use Rattle.definition.specs.Code.{work-short}
-use Rattle.definition.specs.Out.{Out, refused, done, _>>=_, given}
-use Rattle.definition.specs.Tree.{Definition}
+use Rattle.definition.specs.Out.{done, _>>=_, given}
 use Rattle.definition.specs.Answer.{expanded}
 use Rattle.definition.specs.Premise.{callsKnown, chainsPlain, tested, told as toldOf, premise}
 use Rattle.premise.specs.Holds.{Holds as Passes}
 use Rattle.opening.specs.declared.Opened.the-variants.{Book, Refused as Stopped}
-use Rattle.tested.specs.declared.Tested.{Tested}
-use Rattle.tested.specs.declared.Tested.the-variants.{Holds, Fails, Refused}
+use Rattle.report.specs.declared.Tested.the-variants.{Holds, Fails, Refused}
 use Rattle.beginning.specs.Begins.{opened}
 use Rattle.opening.specs.Opens.{Opens}
-use Rattle.tested.specs.Tells.{told}
+use Rattle.report.specs.Tells.{told}
 
 premise-says : (b : List ℕ) (n : ℕ) → premise b n ≡ toldOf (tested b n)
 unfolding premise

@@ -2,19 +2,13 @@
 use opening::Opened;
 use opening::open_book;
 use premise::holds;
+use report::Tested;
 use zeroing::zero_range;
 ghost use mathlib.Core.Path.{_≡_};
 ghost use lib.ListN.{length};
 ghost use Rattle.definition.specs.Answer.{zeroed};
 ghost use Rattle.definition.specs.Premise.{premise};
-ghost use Rattle.tested.specs.Tells.{told};
-
-// The premise test's answer: yes, no or a code.
-pub enum Tested {
-    Holds,
-    Fails,
-    Refused { code: u8 },
-}
+ghost use Rattle.report.specs.Tells.{told};
 
 // The premise test, with the work area left as it is then.
 fn test(book: &[u8], work: &mut [u8]) -> Tested

@@ -22,7 +22,7 @@ use Rattle.lifting.specs.Trace.{Trace, Binder, first, refOf, refs, bindRef, own
 use Rattle.lifting.proofs.Found.{Later, later-self, later-on}
 use Rattle.lifting.proofs.Measured.{size-call}
 use Rattle.tables.specs.Rows.{typeAt}
-use Rattle.lift.specs.Bound.{Bound, typeOf as boundType, firstOf, joined, bindersOf, namesSize, typesSize}
+use Rattle.lift.specs.Bound.{Bound, typeOf as boundType, firstOf, joined, bindersOf, typesSize}
 use Rattle.lift.specs.Sheet.{Sheet, callSize, headSize}
 use Rattle.naming.specs.Walk.{Extent, binds}
 use Rattle.walked.specs.Book.{ownBound}
@@ -77,7 +77,7 @@ first-both rs (b ∷ binders) n = step (eqName (b .name) n) (first-both rs binde
 -- what types the parameters, by place and by size
 pub record Typed (ns : List Name) (rs : List Record) (bs : List Bound) (ts : List Ref) : Type 0 where
   pub types : map boundType bs ≡ map typeAt ts
-  pub sizes : Near (namesSize ns + typesSize bs) (length (wAll wParam (paramsOf rs ns ts) []))
+  pub sizes : Near (namesRoom ns + typesSize bs) (length (wAll wParam (paramsOf rs ns ts) []))
 
 -- code 8 in both, or in neither
 pub data Each (ns : List Name) (t : Trace) : Maybe (List Bound) → Res Trace (List Ref) → Type 0 where
@@ -90,14 +90,14 @@ unfolding wAll wParam paramsOf wName sizeI
 param-room rs n ns t ts = let e = adds (wInner (typeOf rs t)) (s-inner (typeOf rs t)) (wAll wParam (paramsOf rs ns ts) []) in simp length-append (omega arith)
 
 typed-cons : (n : Name) (ns : List Name) (rs : List Record) (b : Bound) (bs : List Bound) (r : Ref) (ts : List Ref) → b .type ≡ typeAt r → b .size ≡ cut (sizeI (typeOf rs r)) → Typed ns rs bs ts → Typed (n ∷ ns) rs (b ∷ bs) (r ∷ ts)
-unfolding namesSize typesSize
+unfolding namesRoom typesSize
 typed-cons n ns rs b bs r ts e f q =
     let here : Near (1 + length n + b .size) (1 + length n + sizeI (typeOf rs r)) = rw f (near-sum (exact refl) (near-cut (sizeI (typeOf rs r)))) in
-    let a : 1 + length n + namesSize ns + (b .size + typesSize bs) ≡ 1 + length n + b .size + (namesSize ns + typesSize bs) = omega arith in
+    let a : 1 + length n + namesRoom ns + (b .size + typesSize bs) ≡ 1 + length n + b .size + (namesRoom ns + typesSize bs) = omega arith in
     record { types = rw (e, q .types); sizes = rw (a, param-room rs n ns r ts) (near-sum here (q .sizes)) }
 
 pub each-both : (env : List Bound) (binders : List Binder) (ns : List Name) (t : Trace) → Means env binders (t .records) → Each ns t (bindersOf env ns) (refs binders ns t)
-unfolding bindersOf refs joined refOf namesSize typesSize wAll paramsOf
+unfolding bindersOf refs joined refOf namesRoom typesSize wAll paramsOf
 each-both env binders [] t m = there (record { types = refl; sizes = exact refl })
 each-both env binders (n ∷ ns) t m =
     let f : First (t .records) (firstOf env n) (first binders n) = rw (m .meant (t .records) (later-self (t .records))) (first-both (t .records) binders n) in
@@ -114,18 +114,13 @@ each-both env binders (n ∷ ns) t m =
     step (both {b} {r} e f) h = rest b r e f h
 
 -- code 10's sums
-names-room : (ns : List Name) → namesSize ns ≡ namesRoom ns
-unfolding namesSize namesRoom
-names-room [] = refl
-names-room (n ∷ ns) = ap (1 + length n +_) (names-room ns)
-
 pub call-size : (r : Record) → callSize (r .name) (r .params) ≡ size (call r)
 unfolding callSize callRoom
-call-size r = omega (arith, size-call r, names-room (r .params))
+call-size r = omega (arith, size-call r)
 
 pub head-near : (rs : List Record) (r : Record) (bs : List Bound) → Typed (r .params) rs bs (r .types) → Near (headSize (r .name) (r .params) bs) (treeHead rs r)
 unfolding headSize treeHead head wName wList wU16
 head-near rs r bs q =
-    let a : length (r .name) + 3 + namesSize (r .params) + typesSize bs ≡ length (r .name) + 3 + (namesSize (r .params) + typesSize bs) = omega arith in
+    let a : length (r .name) + 3 + namesRoom (r .params) + typesSize bs ≡ length (r .name) + 3 + (namesRoom (r .params) + typesSize bs) = omega arith in
     let b : treeHead rs r ≡ length (r .name) + 3 + length (wAll wParam (paramsOf rs (r .params) (r .types)) []) = simp length-append (omega arith) in
     rw (a, b) (near-sum (exact refl) (q .sizes))

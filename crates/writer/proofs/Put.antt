@@ -1,18 +1,15 @@
 -- Laws of a buffer that is written from a place on, and of its parts.
 -- Assumes nothing.
-use mathlib.Core.Path.{_≡_, refl, sym, ap, _∙_}
-use mathlib.Core.Logic.{⊎-elim}
+use mathlib.Core.Path.{_≡_, sym, ap, _∙_}
+use mathlib.Core.Logic.{_⊎_, inl, inr, ⊎-elim}
 use mathlib.Core.List.{List, [], _∷_, _++_, append-assoc, append-nil}
 use Prim.Native.Nat.{ℕ, suc, _+_, _-_, _≤_, _<_, min}
 use native.Mathlib.Nat.{add-zero}
-use mathlib.Core.Logic.{_⊎_, inl, inr}
-use mathlib.Core.Bool.{Bool, true, false}
-use lib.Dec.{leb}
-use borrow.Author.Tests.{leb-true, leb-false}
 use native.Mathlib.Numerals.{add-one}
 use native.Mathlib.Omega.{arith}
 use lib.ListN.{length, take, drop, getD, set, length-append, length-take, length-drop, take-append-drop, List·getD-append, drop-of-length-le}
 use lib.Seq.{set-split, take-at, drop-at, length-take-le, drop-drop, take-append-le, take-append-add, getD-drop, getD-take, getD-append-add, take-suc, take-add, take-all, take-nil, take-take}
+pub use Rattle.numbers.proofs.Order.{within}
 use Rattle.writer.specs.Buf.{put, part}
 
 pub length-put : (d : List ℕ) (at : ℕ) (p : List ℕ) → length (put d at p) ≡ length d
@@ -39,14 +36,6 @@ put-fits d at p h =
 
 head-length : (d : List ℕ) (at : ℕ) (p : List ℕ) → at + length p ≤ length d → length (take at d ++ p) ≡ at + length p
 head-length d at p h = simp (length-append, length-take) (omega arith)
-
--- one number is within another, or past it
-pub within : (m n : ℕ) → (m ≤ n) ⊎ (n < m)
-within m n = by (leb m n) (λ e. leb-true m n e) (λ e. leb-false m n e)
-  where
-    by : (b : Bool) → (b ≡ true → m ≤ n) → (b ≡ false → n < m) → (m ≤ n) ⊎ (n < m)
-    by true f g = inl (f refl)
-    by false f g = inr (g refl)
 
 module _ (d : List ℕ) (at : ℕ) (p q : List ℕ) where
   after-whole : at + length p ≤ length d → put (put d at p) (at + length p) q ≡ put d at (p ++ q)

@@ -17,6 +17,10 @@ place-is w = w .place
 pub same-length : {d : List ℕ} {at : ℕ} {p d′ : List ℕ} {r : ℕ} → Wrote d at p d′ r → length d′ ≡ length d
 same-length w = ap length (w .holds) ∙ length-put _ _ _
 
+-- it is at most one past the end
+pub place-within : {d : List ℕ} {at : ℕ} {p d′ : List ℕ} {r : ℕ} → Wrote d at p d′ r → r ≤ suc (length d′)
+place-within w = omega (arith, place-is w, same-length w)
+
 module _ {d : List ℕ} {at : ℕ} {p d′ : List ℕ} {r : ℕ} (w : Wrote d at p d′ r) where
   -- a place within the buffer says that all of it fitted
   pub fitted : r ≤ length d → at + length p ≤ length d
@@ -39,8 +43,8 @@ module _ {d : List ℕ} {at : ℕ} {p d′ : List ℕ} {r : ℕ} (w : Wrote d at
           ∙ sym (put-past (put d at p) (at + length p) q (rw length-put (omega arith)))
           ∙ put-put d at p q
 
--- no bytes at a place that the buffer has, one byte, and whatever starts past the end
-pub wrote-none : (d : List ℕ) (at : ℕ) → at ≤ length d → Wrote d at [] d at
+-- no bytes at a place that a write may leave, one byte, and whatever starts past the end
+pub wrote-none : (d : List ℕ) (at : ℕ) → at ≤ suc (length d) → Wrote d at [] d at
 unfolding after
 wrote-none d at h = record { place = omega arith; holds = sym (put-nil d at) }
 

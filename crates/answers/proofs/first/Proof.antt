@@ -7,8 +7,6 @@ use lib.ListN.{length-take}
 use lib.Seq.{take-all}
 use Rattle.answers.proofs.first.Statement.{statement}
 use Rattle.answers.proofs.first.Tie as tie
-use Rattle.answers.proofs.first.Reads as reads
-use Rattle.answers.proofs.first.Lts as lts
 
 returns : tie.Need-returns
 returns c = sym (take-all (c .before .args .n) (c .before .args .s .now) (omega arith))

@@ -5,10 +5,6 @@ use native.Mathlib.Omega.{arith}
 use Rattle.beginning.proofs.Beginning.{all-bytes, begins-1, begins-2, begins-bad, begins-sound, begins-plain}
 use Rattle.beginning.proofs.begin.Statement.{statement}
 use Rattle.beginning.proofs.begin.Tie as tie
-use Rattle.beginning.proofs.begin.Reads as reads
-use Rattle.beginning.proofs.begin.Lts as lts
-use Rattle.book.proofs.read.Reads as read-reads
-use Rattle.kept.proofs.has_no_macros.Reads as has-no-macros-reads
 
 returns : tie.Need-returns
 returns c = begins-1 _ _ (c .if1 .taken)

@@ -3,28 +3,32 @@
 use mathlib.Core.Path.{refl, _∙_}
 use native.Mathlib.Omega.{arith}
 use borrow.Author.Needs.{needs}
+use Rattle.tables.specs.Parts.{orderIn, rowsIn, paramsIn, numberIn}
 use Rattle.frames.proofs.Ends.{stood, follows}
 use Rattle.body.proofs.Rounds.{Round, left, round-start, round-deep, pass-safe, close-safe, resume-safe, round-pass, round-less-pass, walks-last, round-back, round-less-back, open-safe, walks-refused, round-open, round-less-open, some, Lengths, lengths-on}
 use Rattle.body.proofs.expand_combinator.Statement.{statement}
 use Rattle.body.proofs.expand_combinator.Tie as tie
 
 abbrev Inv-loop : tie.InvT-loop
-Inv-loop s ends at path₀ len binders₀ b bound₀ uses₀ spare₀ made₀ places₀ hashes₀ hints₀ rows₀ params₀ number₀ order₀ n end last frames₀ f₀ d₀ counts₀ finished₀ path binders bound uses spare made places hashes hints rows params number order frames f d counts finished =
-    Round s at path₀ len binders₀ b made₀ places₀ rows₀ params₀ order₀ counts₀ n path binders bound uses spare made places hashes hints rows params number order frames f d counts finished
-    × Lengths path₀ binders₀ bound₀ uses₀ spare₀ made₀ places₀ hashes₀ hints₀ rows₀ params₀ number₀ order₀ path binders bound uses spare made places hashes hints rows params number order
+Inv-loop s ends at path₀ len binders₀ b bound₀ uses₀ spare₀ made₀ places₀ hashes₀ hints₀ sheet₀ n end last frames₀ f₀ d₀ counts₀ finished₀ path binders bound uses spare made places hashes hints sheet frames f d counts finished =
+    Round s at path₀ len binders₀ b made₀ places₀ (rowsIn sheet₀) (paramsIn sheet₀) (orderIn sheet₀) counts₀ n path binders bound uses spare made places hashes hints (rowsIn sheet) (paramsIn sheet) (numberIn sheet) (orderIn sheet) frames f d counts finished
+    × Lengths path₀ binders₀ bound₀ uses₀ spare₀ made₀ places₀ hashes₀ hints₀ sheet₀ path binders bound uses spare made places hashes hints sheet
 
 abbrev μ-loop : tie.MeasureT-loop
-μ-loop s ends at path₀ len binders₀ b bound₀ uses₀ spare₀ made₀ places₀ hashes₀ hints₀ rows₀ params₀ number₀ order₀ n end last frames₀ f₀ d₀ counts₀ finished₀ path binders bound uses spare made places hashes hints rows params number order frames f d counts finished =
+μ-loop s ends at path₀ len binders₀ b bound₀ uses₀ spare₀ made₀ places₀ hashes₀ hints₀ sheet₀ n end last frames₀ f₀ d₀ counts₀ finished₀ path binders bound uses spare made places hashes hints sheet frames f d counts finished =
     left s frames f d
 
 end-of-requires : tie.Need-end-of-requires Inv-loop μ-loop
-end-of-requires c κs = let p = c .before .before .before .before .before .before .before .before .before .before .before .before .before .before .before .pre in (p .3, stood (omega (arith, p .0 .tables .source)) (p .1 .stands))
+end-of-requires c κs = let p = c .before .before .before .before .before .before .before .before .before .before .before .before .pre in (p .3, stood (omega (arith, p .0 .tables .source)) (p .1 .stands))
 
 past-requires : tie.Need-combinator-past-requires Inv-loop μ-loop
-past-requires c κs = let p = c .before .before .before .before .before .before .before .before .before .before .before .before .before .before .before .before .pre in (p .3, follows (omega (arith, p .0 .tables .source)) (p .1 .stands) (c .end-of .ensures))
+past-requires c κs = let p = c .before .before .before .before .before .before .before .before .before .before .before .before .before .pre in (p .3, follows (omega (arith, p .0 .tables .source)) (p .1 .stands) (c .end-of .ensures))
+
+open-node-requires : tie.Need-open-node-requires Inv-loop μ-loop
+open-node-requires c κs = c .before .end-of .ensures
 
 loop-holds : tie.Need-loop-holds Inv-loop μ-loop
-loop-holds c = (round-start _ (c .before .before .before .before .before .before .before .before .before .before .before .before .before .before .before .before .before .before .pre .2) (c .before .before .before .before .before .before .before .before .before .before .before .before .before .before .before .before .before .before .pre .0) (c .before .before .before .before .before .before .before .before .before .before .before .before .before .before .before .before .before .before .pre .1) (c .open-node .ensures) refl, record { path = refl; binders = refl; bound = refl; uses = refl; spare = refl; made = refl; places = refl; hashes = refl; hints = refl; rows = refl; params = refl; number = refl; order = refl })
+loop-holds c = (round-start _ (c .before .before .before .before .before .before .before .before .before .before .before .before .before .before .before .pre .2) (c .before .before .before .before .before .before .before .before .before .before .before .before .before .before .before .pre .0) (c .before .before .before .before .before .before .before .before .before .before .before .before .before .before .before .pre .1) (c .open-node .ensures) refl, record { path = refl; binders = refl; bound = refl; uses = refl; spare = refl; made = refl; places = refl; hashes = refl; hints = refl; sheet = refl })
 
 pass-requires : tie.Need-pass-requires Inv-loop μ-loop
 pass-requires c κs = pass-safe (c .before .before .before .before .before .before .before .loop .inv .0)
@@ -35,56 +39,11 @@ loop-less c = round-less-pass (c .before .before .before .before .before .before
 loop-again : tie.Need-loop-again Inv-loop μ-loop
 loop-again c = (
   round-pass (c .before .before .before .before .before .before .before .before .loop .inv .0) _ (c .before .before .before .before .before .before .next-step .ensures) (c .before .before .step .given .1) (c .pass .ensures),
-  lengths-on (c .before .before .before .before .before .before .before .before .loop .inv .1) (record { path = c .before .before .before .before .before .path .given; binders = refl; bound = refl; uses = refl; spare = refl; made = refl; places = refl; hashes = refl; hints = refl; rows = refl; params = refl; number = refl; order = refl }),
+  lengths-on (c .before .before .before .before .before .before .before .before .loop .inv .1) (record { path = c .before .before .before .before .before .path .given; binders = refl; bound = refl; uses = refl; spare = refl; made = refl; places = refl; hashes = refl; hints = refl; sheet = refl }),
 )
 
 close-node-requires : tie.Need-close-node-requires Inv-loop μ-loop
 close-node-requires c κs = close-safe (c .before .before .before .before .before .before .before .loop .inv .0)
-
-returns : tie.Need-returns Inv-loop μ-loop
-returns c = walks-last (c .before .before .before .before .before .before .before .before .before .before .before .loop .inv .0) _ (c .before .before .before .before .before .before .before .before .before .next-step .ensures) (c .before .before .before .before .before .enum-told .given .1) (c .before .before .before .close-node .ensures .0) (c .before .before .before .close-node .ensures .1) (c .if1 .taken)
-
-mul-p : tie.Need-mul-p Inv-loop μ-loop
-mul-p c = omega (arith, round-deep (c .before .before .before .before .before .before .before .before .before .before .before .loop .inv .0))
-
-array-copy-out-p : tie.Need-array-copy-out-p Inv-loop μ-loop
-array-copy-out-p c = omega (arith, round-deep (c .before .before .before .before .before .before .before .before .before .before .before .loop .inv .0))
-
-resume-node-requires : tie.Need-resume-node-requires Inv-loop μ-loop
-resume-node-requires c κs = resume-safe (c .before .before .before .before .before .before .before .before .before .before .before .before .before .loop .inv .0) (some _ (c .before .before .if1 .left))
-
-loop-less-2 : tie.Need-loop-less-2 Inv-loop μ-loop
-loop-less-2 c = round-less-back (c .before .before .before .before .before .before .before .before .before .before .before .before .before .before .before .before .loop .inv .0) _ (c .before .before .before .before .before .before .before .before .before .before .before .before .before .before .next-step .ensures) (c .before .before .before .before .before .before .before .before .before .before .enum-told .given .1) (c .before .before .before .before .before .before .before .before .close-node .ensures .0) (c .before .before .before .before .before .before .before .before .close-node .ensures .1) (some _ (c .before .before .before .before .before .if1 .left)) (c .before .before .resume-node .ensures .0) (c .before .before .resume-node .ensures .1)
-
-loop-again-2 : tie.Need-loop-again-2 Inv-loop μ-loop
-loop-again-2 c = (
-  round-back (c .before .before .before .before .before .before .before .before .before .before .before .before .before .before .before .before .loop .inv .0) _ (c .before .before .before .before .before .before .before .before .before .before .before .before .before .before .next-step .ensures) (c .before .before .before .before .before .before .before .before .before .before .enum-told .given .1) (c .before .before .before .before .before .before .before .before .close-node .ensures .0) (c .before .before .before .before .before .before .before .before .close-node .ensures .1) (some _ (c .before .before .before .before .before .if1 .left)) (c .before .before .resume-node .ensures .0) (c .before .before .resume-node .ensures .1),
-  lengths-on (c .before .before .before .before .before .before .before .before .before .before .before .before .before .before .before .before .loop .inv .1) (record { path = c .before .before .before .before .before .before .before .before .before .before .before .before .before .path .given; binders = c .before .binders .given; bound = refl; uses = refl; spare = refl; made = refl; places = refl; hashes = refl; hints = refl; rows = refl; params = refl; number = refl; order = c .before .before .before .before .before .before .before .order .given }),
-)
-
-open-child-requires : tie.Need-open-child-requires Inv-loop μ-loop
-open-child-requires c κs = open-safe (c .before .before .before .before .before .before .before .before .before .before .before .before .before .before .before .before .before .before .before .loop .inv .0) _ (c .before .before .before .before .before .before .before .before .before .before .before .before .before .before .before .before .before .next-step .ensures) (c .before .before .before .before .before .before .before .before .before .before .before .before .before .step2 .given .1) (c .before .before .before .before .before .before .before .before .before .before .before .before .before .before .before .before .path .given) (c .before .before .before .before .before .before .before .before .before .before .before .before .before .before .before .before .before .before .before .before .before .before .before .before .before .before .before .before .before .before .before .before .before .before .before .before .before .before .pre .3)
-
-returns-2 : tie.Need-returns-2 Inv-loop μ-loop
-returns-2 c = walks-refused (c .before .before .before .before .before .before .before .before .before .before .before .before .before .before .before .before .before .before .before .before .before .before .before .before .before .before .before .before .before .before .before .before .before .before .before .before .before .before .before .before .before .before .before .before .before .loop .inv .0) _ (c .before .before .before .before .before .before .before .before .before .before .before .before .before .before .before .before .before .before .before .before .before .before .before .before .before .before .before .before .before .before .before .before .before .before .before .before .before .before .before .before .before .before .before .next-step .ensures) (c .before .before .before .before .before .before .before .before .before .before .before .before .before .before .before .before .before .before .before .before .before .before .before .before .before .before .before .before .before .before .before .before .before .before .before .before .before .before .before .step2 .given .1) (c .before .before .before .before .before .before .before .before .before .before .before .before .before .before .before .before .before .before .before .before .before .before .before .before .before .before .before .before .before .before .before .before .before .before .before .before .before .before .before .before .before .before .path .given) (c .before .before .before .before .before .before .before .before .before .before .before .before .before .before .before .before .before .before .before .before .before .before .before .before .before .open-child .ensures) (c .before .child .given .1)
-
-mul-frames : tie.Need-mul-frames Inv-loop μ-loop
-mul-frames c = omega (arith, round-deep (c .before .before .before .before .before .before .before .before .before .before .before .before .before .before .before .before .before .before .before .before .before .before .before .before .before .before .before .before .before .before .before .before .before .before .before .before .before .before .before .before .before .before .before .before .before .loop .inv .0))
-
-add-d : tie.Need-add-d Inv-loop μ-loop
-add-d c = omega (arith, round-deep (c .before .before .before .before .before .before .before .before .before .before .before .before .before .before .before .before .before .before .before .before .before .before .before .before .before .before .before .before .before .before .before .before .before .before .before .before .before .before .before .before .before .before .before .before .before .loop .inv .0))
-
-array-set-from-frames : tie.Need-array-set-from-frames Inv-loop μ-loop
-array-set-from-frames c = omega (arith, round-deep (c .before .before .before .before .before .before .before .before .before .before .before .before .before .before .before .before .before .before .before .before .before .before .before .before .before .before .before .before .before .before .before .before .before .before .before .before .before .before .before .before .before .before .before .before .before .loop .inv .0))
-
-loop-less-3 : tie.Need-loop-less-3 Inv-loop μ-loop
-loop-less-3 c = round-less-open (c .before .before .before .before .before .before .before .before .before .before .before .before .before .before .before .before .before .before .before .before .before .before .before .before .before .before .before .before .before .before .before .before .before .before .before .before .before .before .before .before .before .before .before .before .before .loop .inv .0) _ (c .before .before .before .before .before .before .before .before .before .before .before .before .before .before .before .before .before .before .before .before .before .before .before .before .before .before .before .before .before .before .before .before .before .before .before .before .before .before .before .before .before .before .before .next-step .ensures) (c .before .before .before .before .before .before .before .before .before .before .before .before .before .before .before .before .before .before .before .before .before .before .before .before .before .before .before .before .before .before .before .before .before .before .before .before .before .before .before .step2 .given .1) (c .before .before .before .before .before .before .before .before .before .before .before .before .before .before .before .before .before .before .before .before .before .before .before .before .before .before .before .before .before .before .before .before .before .before .before .before .before .before .before .before .before .before .path .given) (c .before .before .before .before .before .before .before .before .before .before .before .before .before .before .before .before .before .before .before .before .before .before .before .before .before .open-child .ensures) (c .before .child2 .given .1)
-
-loop-again-3 : tie.Need-loop-again-3 Inv-loop μ-loop
-loop-again-3 c = (
-  round-open (c .before .before .before .before .before .before .before .before .before .before .before .before .before .before .before .before .before .before .before .before .before .before .before .before .before .before .before .before .before .before .before .before .before .before .before .before .before .before .before .before .before .before .before .before .before .loop .inv .0) _ (c .before .before .before .before .before .before .before .before .before .before .before .before .before .before .before .before .before .before .before .before .before .before .before .before .before .before .before .before .before .before .before .before .before .before .before .before .before .before .before .before .before .before .before .next-step .ensures) (c .before .before .before .before .before .before .before .before .before .before .before .before .before .before .before .before .before .before .before .before .before .before .before .before .before .before .before .before .before .before .before .before .before .before .before .before .before .before .before .step2 .given .1) (c .before .before .before .before .before .before .before .before .before .before .before .before .before .before .before .before .before .before .before .before .before .before .before .before .before .before .before .before .before .before .before .before .before .before .before .before .before .before .before .before .before .before .path .given) (c .before .before .before .before .before .before .before .before .before .before .before .before .before .before .before .before .before .before .before .before .before .before .before .before .before .open-child .ensures) (c .before .child2 .given .1) (c .before .before .before .before .before .before .before .before .before .before .before .before .before .before .before .before .before .before .before .before .before .before .before .before .path2 .given) (c .before .before .before .before .before .before .before .before .before .before .before .before .before .before .before .before .before .before .before .before .before .before .bound .given) (c .before .before .before .before .before .before .before .before .before .before .before .before .before .before .before .before .before .before .before .before .uses .given) (c .before .before .before .before .before .before .before .before .before .before .before .before .before .before .before .before .before .before .spare .given),
-  lengths-on (c .before .before .before .before .before .before .before .before .before .before .before .before .before .before .before .before .before .before .before .before .before .before .before .before .before .before .before .before .before .before .before .before .before .before .before .before .before .before .before .before .before .before .before .before .before .loop .inv .1) (record { path = c .before .before .before .before .before .before .before .before .before .before .before .before .before .before .before .before .before .before .before .before .before .before .before .before .path2 .given ∙ c .before .before .before .before .before .before .before .before .before .before .before .before .before .before .before .before .before .before .before .before .before .before .before .before .before .before .before .before .before .before .before .before .before .before .before .before .before .before .before .before .before .before .path .given; binders = refl; bound = c .before .before .before .before .before .before .before .before .before .before .before .before .before .before .before .before .before .before .before .before .before .before .bound .given; uses = c .before .before .before .before .before .before .before .before .before .before .before .before .before .before .before .before .before .before .before .before .uses .given; spare = c .before .before .before .before .before .before .before .before .before .before .before .before .before .before .before .before .before .before .spare .given; made = c .before .before .before .before .before .before .before .before .before .before .before .before .before .before .before .before .made .given; places = c .before .before .before .before .before .before .before .before .before .before .before .before .before .before .places .given; hashes = c .before .before .before .before .before .before .before .before .before .before .before .before .hashes .given; hints = c .before .before .before .before .before .before .before .before .before .before .hints .given; rows = c .before .before .before .before .before .before .before .before .rows .given; params = c .before .before .before .before .before .before .params .given; number = c .before .before .before .before .number .given; order = refl }),
-)
 
 same-length : tie.Need-same-length Inv-loop μ-loop
 same-length c = c .before .before .before .before .before .before .before .before .path .given ∙ c .before .before .before .before .before .before .before .before .before .before .before .loop .inv .1 .path
@@ -114,55 +73,82 @@ same-length-9 : tie.Need-same-length-9 Inv-loop μ-loop
 same-length-9 c = c .before .before .before .before .before .before .before .before .before .before .before .loop .inv .1 .hints
 
 same-length-10 : tie.Need-same-length-10 Inv-loop μ-loop
-same-length-10 c = c .before .before .before .before .before .before .before .before .before .before .before .loop .inv .1 .rows
+same-length-10 c = c .before .before .sheet .given ∙ c .before .before .before .before .before .before .before .before .before .before .before .loop .inv .1 .sheet
+
+returns : tie.Need-returns Inv-loop μ-loop
+returns c = walks-last (c .before .before .before .before .before .before .before .before .before .before .before .loop .inv .0) _ (c .before .before .before .before .before .before .before .before .before .next-step .ensures) (c .before .before .before .before .before .enum-told .given .1) (c .before .before .before .close-node .ensures .0) (c .before .before .before .close-node .ensures .1) (c .if1 .taken)
+
+mul-p : tie.Need-mul-p Inv-loop μ-loop
+mul-p c = omega (arith, round-deep (c .before .before .before .before .before .before .before .before .before .before .before .loop .inv .0))
+
+array-copy-out-p : tie.Need-array-copy-out-p Inv-loop μ-loop
+array-copy-out-p c = omega (arith, round-deep (c .before .before .before .before .before .before .before .before .before .before .before .loop .inv .0))
+
+resume-node-requires : tie.Need-resume-node-requires Inv-loop μ-loop
+resume-node-requires c κs = resume-safe (c .before .before .before .before .before .before .before .before .before .before .before .before .before .loop .inv .0) (some _ (c .before .before .if1 .left))
+
+loop-less-2 : tie.Need-loop-less-2 Inv-loop μ-loop
+loop-less-2 c = round-less-back (c .before .before .before .before .before .before .before .before .before .before .before .before .before .before .before .before .loop .inv .0) _ (c .before .before .before .before .before .before .before .before .before .before .before .before .before .before .next-step .ensures) (c .before .before .before .before .before .before .before .before .before .before .enum-told .given .1) (c .before .before .before .before .before .before .before .before .close-node .ensures .0) (c .before .before .before .before .before .before .before .before .close-node .ensures .1) (some _ (c .before .before .before .before .before .if1 .left)) (c .before .before .resume-node .ensures .0) (c .before .before .resume-node .ensures .1)
+
+loop-again-2 : tie.Need-loop-again-2 Inv-loop μ-loop
+loop-again-2 c = (
+  round-back (c .before .before .before .before .before .before .before .before .before .before .before .before .before .before .before .before .loop .inv .0) _ (c .before .before .before .before .before .before .before .before .before .before .before .before .before .before .next-step .ensures) (c .before .before .before .before .before .before .before .before .before .before .enum-told .given .1) (c .before .before .before .before .before .before .before .before .close-node .ensures .0) (c .before .before .before .before .before .before .before .before .close-node .ensures .1) (some _ (c .before .before .before .before .before .if1 .left)) (c .before .before .resume-node .ensures .0) (c .before .before .resume-node .ensures .1),
+  lengths-on (c .before .before .before .before .before .before .before .before .before .before .before .before .before .before .before .before .loop .inv .1) (record { path = c .before .before .before .before .before .before .before .before .before .before .before .before .before .path .given; binders = c .before .binders .given; bound = refl; uses = refl; spare = refl; made = refl; places = refl; hashes = refl; hints = refl; sheet = c .before .before .before .before .before .before .before .sheet .given }),
+)
+
+open-child-requires : tie.Need-open-child-requires Inv-loop μ-loop
+open-child-requires c κs = open-safe (c .before .before .before .before .before .before .before .before .before .before .before .before .before .before .before .before .before .loop .inv .0) _ (c .before .before .before .before .before .before .before .before .before .before .before .before .before .before .before .next-step .ensures) (c .before .before .before .before .before .before .before .before .before .before .before .step2 .given .1) (c .before .before .before .before .before .before .before .before .before .before .before .before .before .before .path .given) (c .before .before .before .before .before .before .before .before .before .before .before .before .before .before .before .before .before .before .before .before .before .before .before .before .before .before .before .before .before .before .before .before .before .pre .3)
 
 same-length-11 : tie.Need-same-length-11 Inv-loop μ-loop
-same-length-11 c = c .before .before .before .before .before .before .before .before .before .before .before .loop .inv .1 .params
+same-length-11 c = c .before .before .before .before .before .before .before .before .before .before .before .before .before .before .before .before .before .before .before .before .path2 .given ∙ c .before .before .before .before .before .before .before .before .before .before .before .before .before .before .before .before .before .before .before .before .before .before .before .before .before .before .before .before .before .before .before .before .before .before .before .before .path .given ∙ c .before .before .before .before .before .before .before .before .before .before .before .before .before .before .before .before .before .before .before .before .before .before .before .before .before .before .before .before .before .before .before .before .before .before .before .before .before .before .before .loop .inv .1 .path
 
 same-length-12 : tie.Need-same-length-12 Inv-loop μ-loop
-same-length-12 c = c .before .before .before .before .before .before .before .before .before .before .before .loop .inv .1 .number
+same-length-12 c = c .before .before .before .before .before .before .before .before .before .before .before .before .before .before .before .before .before .before .before .before .before .before .before .before .before .before .before .before .before .before .before .before .before .before .before .before .before .before .before .loop .inv .1 .binders
 
 same-length-13 : tie.Need-same-length-13 Inv-loop μ-loop
-same-length-13 c = c .before .before .order .given ∙ c .before .before .before .before .before .before .before .before .before .before .before .loop .inv .1 .order
+same-length-13 c = c .before .before .before .before .before .before .before .before .before .before .before .before .before .before .before .before .before .before .bound .given ∙ c .before .before .before .before .before .before .before .before .before .before .before .before .before .before .before .before .before .before .before .before .before .before .before .before .before .before .before .before .before .before .before .before .before .before .before .before .before .before .before .loop .inv .1 .bound
 
 same-length-14 : tie.Need-same-length-14 Inv-loop μ-loop
-same-length-14 c = c .before .before .before .before .before .before .before .before .before .before .before .before .before .before .before .before .before .before .before .before .before .before .before .before .path2 .given ∙ c .before .before .before .before .before .before .before .before .before .before .before .before .before .before .before .before .before .before .before .before .before .before .before .before .before .before .before .before .before .before .before .before .before .before .before .before .before .before .before .before .before .before .path .given ∙ c .before .before .before .before .before .before .before .before .before .before .before .before .before .before .before .before .before .before .before .before .before .before .before .before .before .before .before .before .before .before .before .before .before .before .before .before .before .before .before .before .before .before .before .before .before .loop .inv .1 .path
+same-length-14 c = c .before .before .before .before .before .before .before .before .before .before .before .before .before .before .before .before .uses .given ∙ c .before .before .before .before .before .before .before .before .before .before .before .before .before .before .before .before .before .before .before .before .before .before .before .before .before .before .before .before .before .before .before .before .before .before .before .before .before .before .before .loop .inv .1 .uses
 
 same-length-15 : tie.Need-same-length-15 Inv-loop μ-loop
-same-length-15 c = c .before .before .before .before .before .before .before .before .before .before .before .before .before .before .before .before .before .before .before .before .before .before .before .before .before .before .before .before .before .before .before .before .before .before .before .before .before .before .before .before .before .before .before .before .before .loop .inv .1 .binders
+same-length-15 c = c .before .before .before .before .before .before .before .before .before .before .before .before .before .before .spare .given ∙ c .before .before .before .before .before .before .before .before .before .before .before .before .before .before .before .before .before .before .before .before .before .before .before .before .before .before .before .before .before .before .before .before .before .before .before .before .before .before .before .loop .inv .1 .spare
 
 same-length-16 : tie.Need-same-length-16 Inv-loop μ-loop
-same-length-16 c = c .before .before .before .before .before .before .before .before .before .before .before .before .before .before .before .before .before .before .before .before .before .before .bound .given ∙ c .before .before .before .before .before .before .before .before .before .before .before .before .before .before .before .before .before .before .before .before .before .before .before .before .before .before .before .before .before .before .before .before .before .before .before .before .before .before .before .before .before .before .before .before .before .loop .inv .1 .bound
+same-length-16 c = c .before .before .before .before .before .before .before .before .before .before .before .before .made .given ∙ c .before .before .before .before .before .before .before .before .before .before .before .before .before .before .before .before .before .before .before .before .before .before .before .before .before .before .before .before .before .before .before .before .before .before .before .before .before .before .before .loop .inv .1 .made
 
 same-length-17 : tie.Need-same-length-17 Inv-loop μ-loop
-same-length-17 c = c .before .before .before .before .before .before .before .before .before .before .before .before .before .before .before .before .before .before .before .before .uses .given ∙ c .before .before .before .before .before .before .before .before .before .before .before .before .before .before .before .before .before .before .before .before .before .before .before .before .before .before .before .before .before .before .before .before .before .before .before .before .before .before .before .before .before .before .before .before .before .loop .inv .1 .uses
+same-length-17 c = c .before .before .before .before .before .before .before .before .before .before .places .given ∙ c .before .before .before .before .before .before .before .before .before .before .before .before .before .before .before .before .before .before .before .before .before .before .before .before .before .before .before .before .before .before .before .before .before .before .before .before .before .before .before .loop .inv .1 .places
 
 same-length-18 : tie.Need-same-length-18 Inv-loop μ-loop
-same-length-18 c = c .before .before .before .before .before .before .before .before .before .before .before .before .before .before .before .before .before .before .spare .given ∙ c .before .before .before .before .before .before .before .before .before .before .before .before .before .before .before .before .before .before .before .before .before .before .before .before .before .before .before .before .before .before .before .before .before .before .before .before .before .before .before .before .before .before .before .before .before .loop .inv .1 .spare
+same-length-18 c = c .before .before .before .before .before .before .before .before .hashes .given ∙ c .before .before .before .before .before .before .before .before .before .before .before .before .before .before .before .before .before .before .before .before .before .before .before .before .before .before .before .before .before .before .before .before .before .before .before .before .before .before .before .loop .inv .1 .hashes
 
 same-length-19 : tie.Need-same-length-19 Inv-loop μ-loop
-same-length-19 c = c .before .before .before .before .before .before .before .before .before .before .before .before .before .before .before .before .made .given ∙ c .before .before .before .before .before .before .before .before .before .before .before .before .before .before .before .before .before .before .before .before .before .before .before .before .before .before .before .before .before .before .before .before .before .before .before .before .before .before .before .before .before .before .before .before .before .loop .inv .1 .made
+same-length-19 c = c .before .before .before .before .before .before .hints .given ∙ c .before .before .before .before .before .before .before .before .before .before .before .before .before .before .before .before .before .before .before .before .before .before .before .before .before .before .before .before .before .before .before .before .before .before .before .before .before .before .before .loop .inv .1 .hints
 
 same-length-20 : tie.Need-same-length-20 Inv-loop μ-loop
-same-length-20 c = c .before .before .before .before .before .before .before .before .before .before .before .before .before .before .places .given ∙ c .before .before .before .before .before .before .before .before .before .before .before .before .before .before .before .before .before .before .before .before .before .before .before .before .before .before .before .before .before .before .before .before .before .before .before .before .before .before .before .before .before .before .before .before .before .loop .inv .1 .places
+same-length-20 c = c .before .before .before .before .sheet2 .given ∙ c .before .before .before .before .before .before .before .before .before .before .before .before .before .before .before .before .before .before .before .before .before .before .before .before .before .before .before .before .before .before .before .before .before .before .before .before .before .before .before .loop .inv .1 .sheet
 
-same-length-21 : tie.Need-same-length-21 Inv-loop μ-loop
-same-length-21 c = c .before .before .before .before .before .before .before .before .before .before .before .before .hashes .given ∙ c .before .before .before .before .before .before .before .before .before .before .before .before .before .before .before .before .before .before .before .before .before .before .before .before .before .before .before .before .before .before .before .before .before .before .before .before .before .before .before .before .before .before .before .before .before .loop .inv .1 .hashes
+returns-2 : tie.Need-returns-2 Inv-loop μ-loop
+returns-2 c = walks-refused (c .before .before .before .before .before .before .before .before .before .before .before .before .before .before .before .before .before .before .before .before .before .before .before .before .before .before .before .before .before .before .before .before .before .before .before .before .before .before .before .loop .inv .0) _ (c .before .before .before .before .before .before .before .before .before .before .before .before .before .before .before .before .before .before .before .before .before .before .before .before .before .before .before .before .before .before .before .before .before .before .before .before .before .next-step .ensures) (c .before .before .before .before .before .before .before .before .before .before .before .before .before .before .before .before .before .before .before .before .before .before .before .before .before .before .before .before .before .before .before .before .before .step2 .given .1) (c .before .before .before .before .before .before .before .before .before .before .before .before .before .before .before .before .before .before .before .before .before .before .before .before .before .before .before .before .before .before .before .before .before .before .before .before .path .given) (c .before .before .before .before .before .before .before .before .before .before .before .before .before .before .before .before .before .before .before .before .before .open-child .ensures .0) (c .before .child .given .1) (c .before .before .before .before .before .before .before .before .before .before .before .before .before .before .before .before .before .before .before .before .before .open-child .ensures .1)
 
-same-length-22 : tie.Need-same-length-22 Inv-loop μ-loop
-same-length-22 c = c .before .before .before .before .before .before .before .before .before .before .hints .given ∙ c .before .before .before .before .before .before .before .before .before .before .before .before .before .before .before .before .before .before .before .before .before .before .before .before .before .before .before .before .before .before .before .before .before .before .before .before .before .before .before .before .before .before .before .before .before .loop .inv .1 .hints
+mul-frames : tie.Need-mul-frames Inv-loop μ-loop
+mul-frames c = omega (arith, round-deep (c .before .before .before .before .before .before .before .before .before .before .before .before .before .before .before .before .before .before .before .before .before .before .before .before .before .before .before .before .before .before .before .before .before .before .before .before .before .before .before .loop .inv .0))
 
-same-length-23 : tie.Need-same-length-23 Inv-loop μ-loop
-same-length-23 c = c .before .before .before .before .before .before .before .before .rows .given ∙ c .before .before .before .before .before .before .before .before .before .before .before .before .before .before .before .before .before .before .before .before .before .before .before .before .before .before .before .before .before .before .before .before .before .before .before .before .before .before .before .before .before .before .before .before .before .loop .inv .1 .rows
+add-d : tie.Need-add-d Inv-loop μ-loop
+add-d c = omega (arith, round-deep (c .before .before .before .before .before .before .before .before .before .before .before .before .before .before .before .before .before .before .before .before .before .before .before .before .before .before .before .before .before .before .before .before .before .before .before .before .before .before .before .loop .inv .0))
 
-same-length-24 : tie.Need-same-length-24 Inv-loop μ-loop
-same-length-24 c = c .before .before .before .before .before .before .params .given ∙ c .before .before .before .before .before .before .before .before .before .before .before .before .before .before .before .before .before .before .before .before .before .before .before .before .before .before .before .before .before .before .before .before .before .before .before .before .before .before .before .before .before .before .before .before .before .loop .inv .1 .params
+array-set-from-frames : tie.Need-array-set-from-frames Inv-loop μ-loop
+array-set-from-frames c = omega (arith, round-deep (c .before .before .before .before .before .before .before .before .before .before .before .before .before .before .before .before .before .before .before .before .before .before .before .before .before .before .before .before .before .before .before .before .before .before .before .before .before .before .before .loop .inv .0))
 
-same-length-25 : tie.Need-same-length-25 Inv-loop μ-loop
-same-length-25 c = c .before .before .before .before .number .given ∙ c .before .before .before .before .before .before .before .before .before .before .before .before .before .before .before .before .before .before .before .before .before .before .before .before .before .before .before .before .before .before .before .before .before .before .before .before .before .before .before .before .before .before .before .before .before .loop .inv .1 .number
+loop-less-3 : tie.Need-loop-less-3 Inv-loop μ-loop
+loop-less-3 c = round-less-open (c .before .before .before .before .before .before .before .before .before .before .before .before .before .before .before .before .before .before .before .before .before .before .before .before .before .before .before .before .before .before .before .before .before .before .before .before .before .before .before .loop .inv .0) _ (c .before .before .before .before .before .before .before .before .before .before .before .before .before .before .before .before .before .before .before .before .before .before .before .before .before .before .before .before .before .before .before .before .before .before .before .before .before .next-step .ensures) (c .before .before .before .before .before .before .before .before .before .before .before .before .before .before .before .before .before .before .before .before .before .before .before .before .before .before .before .before .before .before .before .before .before .step2 .given .1) (c .before .before .before .before .before .before .before .before .before .before .before .before .before .before .before .before .before .before .before .before .before .before .before .before .before .before .before .before .before .before .before .before .before .before .before .before .path .given) (c .before .before .before .before .before .before .before .before .before .before .before .before .before .before .before .before .before .before .before .before .before .open-child .ensures .0) (c .before .child2 .given .1)
 
-same-length-26 : tie.Need-same-length-26 Inv-loop μ-loop
-same-length-26 c = c .before .before .before .before .before .before .before .before .before .before .before .before .before .before .before .before .before .before .before .before .before .before .before .before .before .before .before .before .before .before .before .before .before .before .before .before .before .before .before .before .before .before .before .before .before .loop .inv .1 .order
+loop-again-3 : tie.Need-loop-again-3 Inv-loop μ-loop
+loop-again-3 c = (
+  round-open (c .before .before .before .before .before .before .before .before .before .before .before .before .before .before .before .before .before .before .before .before .before .before .before .before .before .before .before .before .before .before .before .before .before .before .before .before .before .before .before .loop .inv .0) _ (c .before .before .before .before .before .before .before .before .before .before .before .before .before .before .before .before .before .before .before .before .before .before .before .before .before .before .before .before .before .before .before .before .before .before .before .before .before .next-step .ensures) (c .before .before .before .before .before .before .before .before .before .before .before .before .before .before .before .before .before .before .before .before .before .before .before .before .before .before .before .before .before .before .before .before .before .step2 .given .1) (c .before .before .before .before .before .before .before .before .before .before .before .before .before .before .before .before .before .before .before .before .before .before .before .before .before .before .before .before .before .before .before .before .before .before .before .before .path .given) (c .before .before .before .before .before .before .before .before .before .before .before .before .before .before .before .before .before .before .before .before .before .open-child .ensures .0) (c .before .child2 .given .1) (c .before .before .before .before .before .before .before .before .before .before .before .before .before .before .before .before .before .before .before .before .before .open-child .ensures .1) (c .before .before .before .before .before .before .before .before .before .before .before .before .before .before .before .before .before .before .before .before .path2 .given) (c .before .before .before .before .before .before .before .before .before .before .before .before .before .before .before .before .before .before .bound .given) (c .before .before .before .before .before .before .before .before .before .before .before .before .before .before .before .before .uses .given) (c .before .before .before .before .before .before .before .before .before .before .before .before .before .before .spare .given),
+  lengths-on (c .before .before .before .before .before .before .before .before .before .before .before .before .before .before .before .before .before .before .before .before .before .before .before .before .before .before .before .before .before .before .before .before .before .before .before .before .before .before .before .loop .inv .1) (record { path = c .before .before .before .before .before .before .before .before .before .before .before .before .before .before .before .before .before .before .before .before .path2 .given ∙ c .before .before .before .before .before .before .before .before .before .before .before .before .before .before .before .before .before .before .before .before .before .before .before .before .before .before .before .before .before .before .before .before .before .before .before .before .path .given; binders = refl; bound = c .before .before .before .before .before .before .before .before .before .before .before .before .before .before .before .before .before .before .bound .given; uses = c .before .before .before .before .before .before .before .before .before .before .before .before .before .before .before .before .uses .given; spare = c .before .before .before .before .before .before .before .before .before .before .before .before .before .before .spare .given; made = c .before .before .before .before .before .before .before .before .before .before .before .before .made .given; places = c .before .before .before .before .before .before .before .before .before .before .places .given; hashes = c .before .before .before .before .before .before .before .before .hashes .given; hints = c .before .before .before .before .before .before .hints .given; sheet = c .before .before .before .before .sheet2 .given }),
+)
 
 pub expand-combinator-spec : {M : Type 1} → statement M
 expand-combinator-spec =
@@ -172,7 +158,7 @@ expand-combinator-spec =
     μ-loop
     end-of-requires
     past-requires
-    (λ c κs. c .before .end-of .ensures)
+    open-node-requires
     loop-holds
     (λ c κs. search needs)
     (λ c. search needs)
@@ -191,9 +177,6 @@ expand-combinator-spec =
     same-length-8
     same-length-9
     same-length-10
-    same-length-11
-    same-length-12
-    same-length-13
     returns
     (λ c. search needs)
     mul-p
@@ -204,6 +187,9 @@ expand-combinator-spec =
     (λ c. search needs)
     open-child-requires
     (λ c. search needs)
+    same-length-11
+    same-length-12
+    same-length-13
     same-length-14
     same-length-15
     same-length-16
@@ -211,12 +197,6 @@ expand-combinator-spec =
     same-length-18
     same-length-19
     same-length-20
-    same-length-21
-    same-length-22
-    same-length-23
-    same-length-24
-    same-length-25
-    same-length-26
     returns-2
     (λ c. search needs)
     mul-frames

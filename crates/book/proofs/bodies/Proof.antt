@@ -2,14 +2,9 @@ use borrow.Author.Needs.{needs}
 use native.Mathlib.Omega.{arith}
 use mathlib.Core.Path.{sym, _∙_}
 use Rattle.index.proofs.Rows.{small}
-use Rattle.book.proofs.Going.{Going, start-going, room, in-book, go-bad, go-on, go-end}
+use Rattle.book.proofs.Going.{Going, begin, room, in-book, go-bad, go-on, go-end}
 use Rattle.book.proofs.bodies.Statement.{statement}
 use Rattle.book.proofs.bodies.Tie as tie
-use Rattle.book.proofs.bodies.Reads as reads
-use Rattle.book.proofs.bodies.Lts as lts
-use Rattle.book.proofs.two.Reads as two-reads
-use Rattle.book.proofs.wide.Reads as wide-reads
-use Rattle.reader.proofs.body.Reads as body-reads
 
 abbrev Inv-loop : tie.InvT-loop
 Inv-loop s n more width left₀ here₀ want₀ left here want = Going s more left want here
@@ -17,32 +12,32 @@ Inv-loop s n more width left₀ here₀ want₀ left here want = Going s more le
 abbrev μ-loop : tie.MeasureT-loop
 μ-loop s n more width left₀ here₀ want₀ left here want = left
 
-wide-requires : tie.Need-wide-requires Inv-loop μ-loop
-wide-requires c κs = search needs
-
 add-width : tie.Need-add-width Inv-loop μ-loop
 add-width c = search needs
 
 mul-want : tie.Need-mul-want Inv-loop μ-loop
-mul-want c = omega (arith, small (c .wide .result) (c .before .before .args .n) (c .wide .ensures .1) (c .before .before .pre .few))
+mul-want c = omega (arith, small (c .before .args .more) (c .before .args .n) (omega arith) (c .before .pre .few))
 
 add-want : tie.Need-add-want Inv-loop μ-loop
-add-want c = omega (arith, small (c .wide .result) (c .before .before .args .n) (c .wide .ensures .1) (c .before .before .pre .few))
+add-want c = omega (arith, small (c .before .args .more) (c .before .args .n) (omega arith) (c .before .pre .few))
 
 loop-holds : tie.Need-loop-holds Inv-loop μ-loop
-loop-holds c = start-going _ (c .before .before .args .more) _ _ (c .wide .ensures .0) (c .before .before .pre)
+loop-holds c = begin _ (c .before .args .more) _ (c .before .pre)
 
 shared-slice-read-kind : tie.Need-shared-slice-read-kind Inv-loop μ-loop
-shared-slice-read-kind c = omega (arith, room _ (c .before .before .before .before .before .args .more) _ _ _ (c .before .before .loop .inv) (c .before .loop-test .taken))
+shared-slice-read-kind c = omega (arith, room _ (c .before .before .before .before .args .more) _ _ _ (c .before .before .loop .inv) (c .before .loop-test .taken))
 
 add-fifth : tie.Need-add-fifth Inv-loop μ-loop
-add-fifth c = omega (arith, room _ (c .before .before .before .before .before .args .more) _ _ _ (c .before .before .loop .inv) (c .before .loop-test .taken))
+add-fifth c = omega (arith, room _ (c .before .before .before .before .args .more) _ _ _ (c .before .before .loop .inv) (c .before .loop-test .taken))
 
-two-requires : tie.Need-two-requires Inv-loop μ-loop
-two-requires c κs = omega (arith, room _ (c .before .before .before .before .before .args .more) _ _ _ (c .before .before .loop .inv) (c .before .loop-test .taken))
+number-requires : tie.Need-number-requires Inv-loop μ-loop
+number-requires c κs = search needs
+
+cast-end : tie.Need-cast-end Inv-loop μ-loop
+cast-end c = search needs
 
 add-end : tie.Need-add-end Inv-loop μ-loop
-add-end c = omega (arith, in-book _ (c .before .before .before .before .before .before .args .more) _ _ _ (c .before .before .before .loop .inv) (c .before .before .loop-test .taken))
+add-end c = omega (arith, in-book _ (c .before .before .before .before .before .args .more) _ _ _ (c .before .before .before .loop .inv) (c .before .before .loop-test .taken))
 
 body-requires : tie.Need-body-requires Inv-loop μ-loop
 body-requires c κs = search needs
@@ -51,13 +46,13 @@ enum-known-f : tie.Need-enum-known-f Inv-loop μ-loop
 enum-known-f c = search needs
 
 returns : tie.Need-returns Inv-loop μ-loop
-returns c = go-bad _ (c .before .before .before .before .before .before .before .before .before .before .args .more) _ _ _ (c .before .before .before .before .before .before .before .loop .inv) (c .before .before .before .before .before .before .loop-test .taken) _ _ (c .before .before .before .before .two .ensures .0) (sym (c .before .f .given .1) ∙ c .before .before .before .body .ensures)
+returns c = go-bad _ (c .before .before .before .before .before .before .before .before .before .args .more) _ _ _ (c .before .before .before .before .before .before .before .loop .inv) (c .before .before .before .before .before .before .loop-test .taken) _ _ (c .before .before .before .before .number .ensures) (sym (c .before .f .given .1) ∙ c .before .before .before .body .ensures)
 
 enum-told : tie.Need-enum-told Inv-loop μ-loop
 enum-told c = search needs
 
 add-here : tie.Need-add-here Inv-loop μ-loop
-add-here c = omega (arith, room _ (c .before .before .before .before .before .before .before .before .before .args .more) _ _ _ (c .before .before .before .before .before .before .loop .inv) (c .before .before .before .before .before .loop-test .taken))
+add-here c = omega (arith, room _ (c .before .before .before .before .before .before .before .before .args .more) _ _ _ (c .before .before .before .before .before .before .loop .inv) (c .before .before .before .before .before .loop-test .taken))
 
 sub-left : tie.Need-sub-left Inv-loop μ-loop
 sub-left c = search needs
@@ -66,10 +61,10 @@ loop-less : tie.Need-loop-less Inv-loop μ-loop
 loop-less c = search needs
 
 loop-again : tie.Need-loop-again Inv-loop μ-loop
-loop-again c = go-on _ (c .before .before .before .before .before .before .before .before .before .args .more) _ _ _ (c .before .before .before .before .before .before .loop .inv) (c .before .before .before .before .before .loop-test .taken) _ _ (c .before .before .before .two .ensures .0) (omega arith) (sym (c .enum-told .given .1) ∙ c .before .before .body .ensures)
+loop-again c = go-on _ (c .before .before .before .before .before .before .before .before .args .more) _ _ _ (c .before .before .before .before .before .before .loop .inv) (c .before .before .before .before .before .loop-test .taken) _ (c .before .before .before .number .ensures) (sym (c .enum-told .given .1) ∙ c .before .before .body .ensures)
 
 returns-2 : tie.Need-returns-2 Inv-loop μ-loop
-returns-2 c = go-end _ (c .before .before .before .before .args .more) _ _ _ (c .before .loop .inv) (c .loop-test .left)
+returns-2 c = go-end _ (c .before .before .before .args .more) _ _ _ (c .before .loop .inv) (c .loop-test .left)
 
 pub bodies-spec : {M : Type 1} → statement M
 bodies-spec =
@@ -77,14 +72,14 @@ bodies-spec =
     (tie.spec
     Inv-loop
     μ-loop
-    wide-requires
     add-width
     mul-want
     add-want
     loop-holds
     shared-slice-read-kind
     add-fifth
-    two-requires
+    number-requires
+    cast-end
     add-end
     body-requires
     enum-known-f

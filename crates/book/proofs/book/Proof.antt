@@ -2,10 +2,6 @@ use Rattle.book.proofs.Whole.{book-bad, book-holds}
 use borrow.Author.Needs.{needs}
 use Rattle.book.proofs.book.Statement.{statement}
 use Rattle.book.proofs.book.Tie as tie
-use Rattle.book.proofs.book.Reads as reads
-use Rattle.book.proofs.book.Lts as lts
-use Rattle.book.proofs.bodies.Reads as bodies-reads
-use Rattle.index.proofs.contents.Reads as contents-reads
 
 contents-requires : tie.Need-contents-requires
 contents-requires c κs = search needs

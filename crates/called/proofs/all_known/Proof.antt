@@ -11,9 +11,6 @@ use mathlib.Core.Path.{_≡_, refl}
 use native.Mathlib.Omega.{arith}
 use Rattle.called.proofs.all_known.Statement.{statement}
 use Rattle.called.proofs.all_known.Tie as tie
-use Rattle.called.proofs.all_known.Reads as reads
-use Rattle.called.proofs.all_known.Lts as lts
-use Rattle.called.proofs.is_known.Reads as is-known-reads
 
 abbrev Inv-loop : tie.InvT-loop
 Inv-loop s marks places hashes n i₀ i = (i ≤ length marks) × (everyPlace (knownAt s places n) marks ≡ everyPlace (knownAt s places n) (drop i marks))
@@ -24,29 +21,11 @@ abbrev μ-loop : tie.MeasureT-loop
 loop-holds : tie.Need-loop-holds Inv-loop μ-loop
 loop-holds c = (omega arith, refl)
 
-add-loop : tie.Need-add-loop Inv-loop μ-loop
-add-loop c = search needs
-
-mul-call : tie.Need-mul-call Inv-loop μ-loop
-mul-call c = search needs
-
-shared-slice-read-call : tie.Need-shared-slice-read-call Inv-loop μ-loop
-shared-slice-read-call c = search needs
-
 cast-call : tie.Need-cast-call Inv-loop μ-loop
 cast-call c = omega (arith, c .shared-slice-known5 .given (c .before .before .loop .i))
 
-add-i : tie.Need-add-i Inv-loop μ-loop
-add-i c = search needs
-
-is-known-requires : tie.Need-is-known-requires Inv-loop μ-loop
-is-known-requires c κs = search needs
-
 returns : tie.Need-returns Inv-loop μ-loop
 returns c = every-stop _ _ _ (c .before .before .before .before .loop .inv .1) (c .before .before .before .loop-test .taken) (c .before .is-known .ensures) (not-true _ (c .if1 .taken))
-
-loop-less : tie.Need-loop-less Inv-loop μ-loop
-loop-less c = search needs
 
 loop-again : tie.Need-loop-again Inv-loop μ-loop
 loop-again c = (omega arith, every-next _ _ _ (c .before .before .before .before .loop .inv .1) (c .before .before .before .loop-test .taken) (c .before .is-known .ensures) (not-false _ (c .if1 .left)))
@@ -55,19 +34,4 @@ returns-2 : tie.Need-returns-2 Inv-loop μ-loop
 returns-2 c = every-end (knownAt (c .before .before .before .before .before .before .args .s .now) (c .before .before .before .before .before .before .args .places .now) (c .before .before .before .before .before .before .args .n)) (c .before .before .before .before .before .before .args .marks .now) (c .before .loop .i) (c .before .loop .inv .1) (omega arith)
 
 pub all-known-spec : {M : Type 1} → statement M
-all-known-spec =
-    tie.close
-    (tie.spec
-    Inv-loop
-    μ-loop
-    loop-holds
-    add-loop
-    mul-call
-    shared-slice-read-call
-    cast-call
-    add-i
-    is-known-requires
-    returns
-    loop-less
-    loop-again
-    returns-2)
+all-known-spec = tie.close (tie.spec Inv-loop μ-loop loop-holds (λ c. search needs) (λ c. search needs) (λ c. search needs) cast-call (λ c. search needs) (λ c κs. search needs) returns (λ c. search needs) loop-again returns-2)

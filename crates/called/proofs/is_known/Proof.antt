@@ -4,12 +4,6 @@ use borrow.Author.Needs.{needs}
 use Rattle.called.proofs.Every.{other-known, found-known}
 use Rattle.called.proofs.is_known.Statement.{statement}
 use Rattle.called.proofs.is_known.Tie as tie
-use Rattle.called.proofs.is_known.Reads as reads
-use Rattle.called.proofs.is_known.Lts as lts
-use Rattle.lookup.proofs.name_at.Reads as name-at-reads
-use Rattle.found.proofs.find_name.Reads as find-name-reads
-use Rattle.seek.proofs.byte.Reads as byte-reads
-use Rattle.seek.proofs.past.Reads as past-reads
 
 byte-requires : tie.Need-byte-requires
 byte-requires c κs = search needs

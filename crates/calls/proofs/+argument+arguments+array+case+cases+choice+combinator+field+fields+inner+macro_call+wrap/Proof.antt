@@ -6,7 +6,7 @@ use native.Mathlib.Omega.{arith}
 use Prim.Native.Nat.{_+_, _*_}
 use mathlib.Core.Path.{_≡_, refl, _∙_}
 use lib.ListN.{length}
-use Rattle.marks.specs.Steps.{moved, entered}
+use Rattle.walk.specs.Steps.{moved, entered}
 use Rattle.calls.specs.Walk.{times, many, fieldBy, wrapBy, caseBy, choiceBy, arrayBy, macroBy, innerBy, tailBy, combinatorBy, argumentBy, argumentAt, fieldAt, caseAt}
 use Rattle.calls.proofs.Level.{combinator-level, argument-level, more, done}
 use Prim.Native.Nat.{ℕ, _<_}
@@ -48,14 +48,14 @@ use Rattle.calls.proofs.+argument+arguments+array+case+cases+choice+com
 use Rattle.calls.proofs.wrap.Reads as wrap
 use Rattle.calls.proofs.wrap.Kinds as wrap-kinds
 use Rattle.calls.proofs.+argument+arguments+array+case+cases+choice+combinator+field+fields+inner+macro_call+wrap.Lts-wrap as wrap-lts
-use Rattle.marks.proofs.back.Reads as back-reads
+use Rattle.walk.proofs.back.Reads as back-reads
 use Rattle.marks.proofs.call.Reads as call-reads
-use Rattle.marks.proofs.chained_to.Reads as chained-to-reads
-use Rattle.marks.proofs.entered.Reads as entered-reads
+use Rattle.walk.proofs.chained_to.Reads as chained-to-reads
+use Rattle.walk.proofs.entered.Reads as entered-reads
 use Rattle.marks.proofs.mark.Reads as mark-reads
-use Rattle.marks.proofs.moved.Reads as moved-reads
-use Rattle.marks.proofs.silent.Reads as silent-reads
-use Rattle.marks.proofs.text_or_length.Reads as text-or-length-reads
+use Rattle.walk.proofs.moved.Reads as moved-reads
+use Rattle.walk.proofs.silent.Reads as silent-reads
+use Rattle.walk.proofs.text_or_length.Reads as text-or-length-reads
 use Rattle.seek.proofs.byte.Reads as byte-reads
 use Rattle.seek.proofs.label_past.Reads as label-past-reads
 use Rattle.seek.proofs.length_past.Reads as length-past-reads

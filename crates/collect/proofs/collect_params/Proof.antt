@@ -3,9 +3,6 @@ use Rattle.collect.specs.Walk.{collectAt}
 use borrow.Author.Needs.{needs}
 use Rattle.collect.proofs.collect_params.Statement.{statement}
 use Rattle.collect.proofs.collect_params.Tie as tie
-use Rattle.collect.proofs.collect_params.Reads as reads
-use Rattle.collect.proofs.collect_params.Lts as lts
-use Rattle.collect.proofs.collect_params_with_bound.Reads as collect-params-with-bound-reads
 
 collect-params-with-bound-requires : tie.Need-collect-params-with-bound-requires
 collect-params-with-bound-requires c κs = search needs

@@ -3,10 +3,6 @@ use Rattle.rows.proofs.Bind.{then, fails, made, walked, counts}
 use borrow.Author.Needs.{needs}
 use Rattle.combinator.proofs.invocation.Statement.{statement}
 use Rattle.combinator.proofs.invocation.Tie as tie
-use Rattle.combinator.proofs.invocation.Reads as reads
-use Rattle.combinator.proofs.invocation.Lts as lts
-use Rattle.cursor.proofs.Cursor.name.Reads as name-reads
-use Rattle.rows.proofs.names.Reads as names-reads
 
 name-requires : tie.Need-name-requires
 name-requires c κs = search needs

@@ -5,10 +5,6 @@ use Rattle.combinator.proofs.Table.{case-text}
 use borrow.Author.Needs.{needs}
 use Rattle.combinator.proofs.label.Statement.{statement}
 use Rattle.combinator.proofs.label.Tie as tie
-use Rattle.combinator.proofs.label.Reads as reads
-use Rattle.combinator.proofs.label.Lts as lts
-use Rattle.cursor.proofs.Cursor.name.Reads as name-reads
-use Rattle.cursor.proofs.Cursor.text.Reads as text-reads
 
 name-requires : tie.Need-name-requires
 name-requires c κs = search needs

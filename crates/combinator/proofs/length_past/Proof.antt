@@ -3,10 +3,6 @@ use Rattle.rows.proofs.Bind.{then, fails, made, walked, counts}
 use borrow.Author.Needs.{needs}
 use Rattle.combinator.proofs.length_past.Statement.{statement}
 use Rattle.combinator.proofs.length_past.Tie as tie
-use Rattle.combinator.proofs.length_past.Reads as reads
-use Rattle.combinator.proofs.length_past.Lts as lts
-use Rattle.cursor.proofs.Cursor.text.Reads as text-reads
-use Rattle.rows.proofs.names.Reads as names-reads
 
 names-requires : tie.Need-names-requires
 names-requires c κs = search needs

@@ -6,10 +6,6 @@ use Rattle.combinator.proofs.Laws.{no-selector, unselected, selected}
 use borrow.Author.Needs.{needs}
 use Rattle.combinator.proofs.selector.Statement.{statement}
 use Rattle.combinator.proofs.selector.Tie as tie
-use Rattle.combinator.proofs.selector.Reads as reads
-use Rattle.combinator.proofs.selector.Lts as lts
-use Rattle.cursor.proofs.Cursor.among.Reads as among-reads
-use Rattle.cursor.proofs.Cursor.name.Reads as name-reads
 
 among-requires : tie.Need-among-requires
 among-requires c κs = search needs

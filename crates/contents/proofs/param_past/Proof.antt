@@ -4,10 +4,6 @@ use borrow.Author.Needs.{needs}
 use Rattle.contents.proofs.Params.{param-past}
 use Rattle.contents.proofs.param_past.Statement.{statement}
 use Rattle.contents.proofs.param_past.Tie as tie
-use Rattle.contents.proofs.param_past.Reads as reads
-use Rattle.contents.proofs.param_past.Lts as lts
-use Rattle.skip.proofs.skip_over.Reads as skip-over-reads
-use Rattle.seek.proofs.name_past.Reads as name-past-reads
 
 name-past-requires : tie.Need-name-past-requires
 name-past-requires c κs = search needs

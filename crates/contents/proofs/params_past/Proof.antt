@@ -9,11 +9,6 @@ use Rattle.contents.specs.Params.{ParamsLeft}
 use Rattle.contents.proofs.Params.{params-none, params-step, params-past}
 use Rattle.contents.proofs.params_past.Statement.{statement}
 use Rattle.contents.proofs.params_past.Tie as tie
-use Rattle.contents.proofs.params_past.Reads as reads
-use Rattle.contents.proofs.params_past.Lts as lts
-use Rattle.contents.proofs.param_past.Reads as param-past-reads
-use Rattle.seek.proofs.number.Reads as number-reads
-use Rattle.seek.proofs.past.Reads as past-reads
 
 abbrev Inv-loop : tie.InvT-loop
 Inv-loop book at marks₀ left₀ here₀ marks left here = (length marks ≡ length marks₀) × ((r : ℕ) → ParamsLeft book here left r → ParamsLeft book here₀ left₀ r)

@@ -3,17 +3,18 @@
 use mathlib.Core.Path.{refl}
 use borrow.Author.Tests.{eq-eqb, ne-eqb}
 use borrow.Author.Needs.{needs}
+use Rattle.tables.proofs.Parts.{order-stored}
 use Rattle.done.specs.Done.{closedOf, orderOf}
 use Rattle.done.proofs.close_node.Statement.{statement}
 use Rattle.done.proofs.close_node.Tie as tie
 
 returns : tie.Need-returns
 unfolding closedOf orderOf
-returns c = rw (ne-eqb _ _ (c .before .before .before .before .before .if1 .taken), c .minus .ensures) (refl, c .before .before .before .store .ensures)
+returns c = rw (ne-eqb _ _ (c .before .before .before .before .before .if1 .taken), c .minus .ensures) (refl, order-stored (c .before .before .before .store-in .ensures))
 
 returns-2 : tie.Need-returns-2
 unfolding closedOf orderOf
-returns-2 c = rw (eq-eqb _ _ (c .before .before .before .before .if1 .left), c .plus3 .ensures, c .before .plus2 .ensures, c .before .before .plus .ensures, c .before .before .before .minus2 .ensures) (refl, refl)
+returns-2 c = rw (eq-eqb _ _ (c .before .before .before .before .if1 .left), c .plus3 .ensures, c .before .plus2 .ensures, c .before .before .plus .ensures, c .before .before .before .minus2 .ensures) (refl, record { order = refl; rows = refl; params = refl; number = refl })
 
 pub close-node-spec : {M : Type 1} → statement M
 close-node-spec =

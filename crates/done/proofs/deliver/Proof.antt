@@ -1,6 +1,5 @@
 -- `done::deliver` meets its contract.
 -- Assumes nothing.
-use mathlib.Core.Path.{refl}
 use borrow.Author.Tests.{eq-eqb, ne-eqb}
 use Rattle.done.specs.Done.{delivered}
 use borrow.Author.Needs.{needs}

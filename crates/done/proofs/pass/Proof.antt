@@ -1,6 +1,5 @@
 -- `done::pass` meets its contract.
 -- Assumes nothing.
-use mathlib.Core.Path.{refl}
 use Rattle.done.specs.Done.{passed}
 use borrow.Author.Needs.{needs}
 use Rattle.done.proofs.pass.Statement.{statement}

@@ -5,10 +5,6 @@ use mathlib.Core.Path.{ap, _∙_}
 use Rattle.definition.specs.Answer.{Answer}
 use Rattle.elab.proofs.samulsto_elaborate.Statement.{statement}
 use Rattle.elab.proofs.samulsto_elaborate.Tie as tie
-use Rattle.elab.proofs.samulsto_elaborate.Reads as reads
-use Rattle.elab.proofs.samulsto_elaborate.Lts as lts
-use Rattle.elaboration.proofs.elaborate.Reads as elaborate-reads
-use Rattle.elab.proofs.in_four_numbers.Reads as in-four-numbers-reads
 
 elaborate-requires : tie.Need-elaborate-requires
 elaborate-requires c κs = search needs

@@ -5,10 +5,6 @@ use mathlib.Core.Path.{ap, _∙_}
 use Rattle.definition.specs.Answer.{Answer}
 use Rattle.elab.proofs.samulsto_elaborate_nested.Statement.{statement}
 use Rattle.elab.proofs.samulsto_elaborate_nested.Tie as tie
-use Rattle.elab.proofs.samulsto_elaborate_nested.Reads as reads
-use Rattle.elab.proofs.samulsto_elaborate_nested.Lts as lts
-use Rattle.nesting.proofs.elaborate_nested.Reads as elaborate-nested-reads
-use Rattle.elab.proofs.in_four_numbers.Reads as in-four-numbers-reads
 
 elaborate-nested-requires : tie.Need-elaborate-nested-requires
 elaborate-nested-requires c κs = search needs

@@ -5,10 +5,6 @@ use Rattle.definition.specs.Premise.{PremiseAnswer}
 use mathlib.Core.Path.{ap, _∙_}
 use Rattle.elab.proofs.samulsto_premise.Statement.{statement}
 use Rattle.elab.proofs.samulsto_premise.Tie as tie
-use Rattle.elab.proofs.samulsto_premise.Reads as reads
-use Rattle.elab.proofs.samulsto_premise.Lts as lts
-use Rattle.elab.proofs.in_two_numbers.Reads as in-two-numbers-reads
-use Rattle.tested.proofs.premise.Reads as premise-reads
 
 premise-requires : tie.Need-premise-requires
 premise-requires c κs = search needs

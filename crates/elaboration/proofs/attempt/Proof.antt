@@ -4,11 +4,6 @@ use borrow.Author.Needs.{needs}
 use Rattle.elaboration.proofs.Answering.{plain-book, reports-code, reports-plain}
 use Rattle.elaboration.proofs.attempt.Statement.{statement}
 use Rattle.elaboration.proofs.attempt.Tie as tie
-use Rattle.elaboration.proofs.attempt.Reads as reads
-use Rattle.elaboration.proofs.attempt.Lts as lts
-use Rattle.room.proofs.lift_book.Reads as lift-book-reads
-use Rattle.elaboration.proofs.attempt_expanded.Reads as attempt-expanded-reads
-use Rattle.beginning.proofs.begin.Reads as begin-reads
 
 begin-requires : tie.Need-begin-requires
 begin-requires c κs = search needs

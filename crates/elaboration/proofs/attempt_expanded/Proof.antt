@@ -7,10 +7,6 @@ use native.Mathlib.Omega.{arith}
 use Rattle.elaboration.proofs.Answering.{opened-book, reports-code, reports-lifts}
 use Rattle.elaboration.proofs.attempt_expanded.Statement.{statement}
 use Rattle.elaboration.proofs.attempt_expanded.Tie as tie
-use Rattle.elaboration.proofs.attempt_expanded.Reads as reads
-use Rattle.elaboration.proofs.attempt_expanded.Lts as lts
-use Rattle.room.proofs.lift_book.Reads as lift-book-reads
-use Rattle.opening.proofs.expand_book.Reads as expand-book-reads
 
 slice-aggregate-expand-book : tie.Need-slice-aggregate-expand-book
 slice-aggregate-expand-book c = search needs

@@ -6,10 +6,6 @@ use Rattle.elaboration.proofs.Answering.{answers-it, fills-it}
 use Rattle.zeroing.proofs.Zero.{all-zero}
 use Rattle.elaboration.proofs.elaborate.Statement.{statement}
 use Rattle.elaboration.proofs.elaborate.Tie as tie
-use Rattle.elaboration.proofs.elaborate.Reads as reads
-use Rattle.elaboration.proofs.elaborate.Lts as lts
-use Rattle.elaboration.proofs.attempt.Reads as attempt-reads
-use Rattle.zeroing.proofs.zero_range.Reads as zero-range-reads
 
 attempt-requires : tie.Need-attempt-requires
 attempt-requires c κs = search needs

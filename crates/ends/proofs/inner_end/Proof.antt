@@ -1,7 +1,7 @@
 -- `ends::inner_end` meets its contract.
 -- Assumes nothing.
 use mathlib.Core.Path.{ap}
-use Rattle.marks.specs.declared.Walk.{Walk}
+use Rattle.walk.specs.declared.Walk.{Walk}
 use Rattle.ends.specs.Ends.{innerEnd}
 use borrow.Author.Needs.{needs}
 use Rattle.ends.proofs.inner_end.Statement.{statement}

@@ -8,11 +8,6 @@ use lib.ListN.{length}
 use Rattle.expansion.proofs.Expanding.{Going, expanding-all, expanding-on, expanding-call, expanding-stop}
 use Rattle.expansion.proofs.expand_macros_in_combinator.Statement.{statement}
 use Rattle.expansion.proofs.expand_macros_in_combinator.Tie as tie
-use Rattle.expansion.proofs.expand_macros_in_combinator.Reads as reads
-use Rattle.expansion.proofs.expand_macros_in_combinator.Lts as lts
-use Rattle.replaced.proofs.expand_call.Reads as expand-call-reads
-use Rattle.expansion.proofs.macro_of.Reads as macro-of-reads
-use Rattle.writer.proofs.put_part.Reads as put-part-reads
 
 abbrev Inv-loop : tie.InvT-loop
 Inv-loop macros places hashes rows book from to marks areas₀ row₀ out₀ start copied₀ o₀ i₀ areas row out copied o i =
@@ -25,44 +20,11 @@ abbrev μ-loop : tie.MeasureT-loop
 loop-holds : tie.Need-loop-holds Inv-loop μ-loop
 loop-holds c = record { low = omega arith; areas-long = refl; row-long = refl; out-long = refl; goes = λ d r e. e }
 
-add-loop : tie.Need-add-loop Inv-loop μ-loop
-add-loop c = search needs
-
-mul-call : tie.Need-mul-call Inv-loop μ-loop
-mul-call c = search needs
-
-shared-slice-read-call : tie.Need-shared-slice-read-call Inv-loop μ-loop
-shared-slice-read-call c = search needs
-
 cast-call : tie.Need-cast-call Inv-loop μ-loop
 cast-call c = omega (arith, c .shared-slice-known6 .given (c .before .before .loop .i))
 
-add-end : tie.Need-add-end Inv-loop μ-loop
-add-end c = search needs
-
-mul-end : tie.Need-mul-end Inv-loop μ-loop
-mul-end c = search needs
-
-shared-slice-read-end : tie.Need-shared-slice-read-end Inv-loop μ-loop
-shared-slice-read-end c = search needs
-
 cast-end : tie.Need-cast-end Inv-loop μ-loop
 cast-end c = omega (arith, c .shared-slice-known7 .given (c .before .before .before .loop .i + 1))
-
-add-i : tie.Need-add-i Inv-loop μ-loop
-add-i c = search needs
-
-macro-of-requires : tie.Need-macro-of-requires Inv-loop μ-loop
-macro-of-requires c κs = search needs
-
-enum-known-found : tie.Need-enum-known-found Inv-loop μ-loop
-enum-known-found c = search needs
-
-put-part-requires : tie.Need-put-part-requires Inv-loop μ-loop
-put-part-requires c κs = search needs
-
-expand-call-requires : tie.Need-expand-call-requires Inv-loop μ-loop
-expand-call-requires c κs = search needs
 
 same-length : tie.Need-same-length Inv-loop μ-loop
 same-length c = c .before .before .before .before .before .before .areas .given ∙ c .before .before .before .before .before .before .before .before .before .before .before .before .before .before .before .before .before .before .before .before .before .before .loop .inv .areas-long
@@ -76,9 +38,6 @@ same-length-3 c = c .before .before .out2 .given ∙ c .before .before .before .
 returns : tie.Need-returns Inv-loop μ-loop
 returns c = c .before .before .before .before .before .before .before .before .before .before .before .before .before .before .before .before .before .before .before .before .before .before .loop .inv .goes _ _ (expanding-stop (c .before .before .before .before .before .before .before .before .before .before .before .before .before .before .before .before .before .before .before .before .before .loop-test .taken) (rw (c .before .before .before .before .before .before .before .before .before .before .before .before .before .before .before .before .found .given .1) at (c .before .before .before .before .before .before .before .before .before .before .before .before .before .before .before .before .before .before .macro-of .ensures)) (c .before .before .before .before .before .before .before .before .before .before .before .before .before .put-part .ensures) (c .before .before .before .before .before .before .before .expand-call .ensures) (c .before .before .out2 .given) (c .if1 .taken))
 
-loop-less : tie.Need-loop-less Inv-loop μ-loop
-loop-less c = search needs
-
 loop-again : tie.Need-loop-again Inv-loop μ-loop
 loop-again c =
     let l = c .before .before .before .before .before .before .before .before .before .before .before .before .before .before .before .before .before .before .before .before .before .before .loop .inv in
@@ -91,20 +50,11 @@ loop-again c =
       goes = λ d r e. l .goes d r (expanding-call t (rw (c .before .before .before .before .before .before .before .before .before .before .before .before .before .before .before .before .found .given .1) at (c .before .before .before .before .before .before .before .before .before .before .before .before .before .before .before .before .before .before .macro-of .ensures)) (c .before .before .before .before .before .before .before .before .before .before .before .before .before .put-part .ensures) (c .before .before .before .before .before .before .before .expand-call .ensures) (c .before .before .out2 .given) (c .before .before .before .before .before .before .areas .given) (c .before .before .before .before .row .given) e);
     }
 
-enum-told : tie.Need-enum-told Inv-loop μ-loop
-enum-told c = search needs
-
-loop-less-2 : tie.Need-loop-less-2 Inv-loop μ-loop
-loop-less-2 c = search needs
-
 loop-again-2 : tie.Need-loop-again-2 Inv-loop μ-loop
 loop-again-2 c =
     let l = c .before .before .before .before .before .before .loop .inv in
     let t = c .before .before .before .before .before .loop-test .taken in
     record { low = omega arith; areas-long = l .areas-long; row-long = l .row-long; out-long = l .out-long; goes = λ d r e. l .goes d r (expanding-on t (rw (c .enum-told .given .1) at (c .before .before .macro-of .ensures)) e) }
-
-put-part-requires-2 : tie.Need-put-part-requires-2 Inv-loop μ-loop
-put-part-requires-2 c κs = search needs
 
 same-length-4 : tie.Need-same-length-4 Inv-loop μ-loop
 same-length-4 c = c .before .before .before .before .before .loop .inv .areas-long
@@ -119,36 +69,4 @@ returns-2 : tie.Need-returns-2 Inv-loop μ-loop
 returns-2 c = c .before .before .before .before .before .loop .inv .goes _ _ (expanding-all (omega arith) (c .before .before .put-part2 .ensures))
 
 pub expand-macros-in-combinator-spec : {M : Type 1} → statement M
-expand-macros-in-combinator-spec =
-    tie.close
-    (tie.spec
-    Inv-loop
-    μ-loop
-    loop-holds
-    add-loop
-    mul-call
-    shared-slice-read-call
-    cast-call
-    add-end
-    mul-end
-    shared-slice-read-end
-    cast-end
-    add-i
-    macro-of-requires
-    enum-known-found
-    put-part-requires
-    expand-call-requires
-    same-length
-    same-length-2
-    same-length-3
-    returns
-    loop-less
-    loop-again
-    enum-told
-    loop-less-2
-    loop-again-2
-    put-part-requires-2
-    same-length-4
-    same-length-5
-    same-length-6
-    returns-2)
+expand-macros-in-combinator-spec = tie.close (tie.spec Inv-loop μ-loop loop-holds (λ c. search needs) (λ c. search needs) (λ c. search needs) cast-call (λ c. search needs) (λ c. search needs) (λ c. search needs) cast-end (λ c. search needs) (λ c κs. search needs) (λ c. search needs) (λ c κs. search needs) (λ c κs. search needs) same-length same-length-2 same-length-3 returns (λ c. search needs) loop-again (λ c. search needs) (λ c. search needs) loop-again-2 (λ c κs. search needs) same-length-4 same-length-5 same-length-6 returns-2)

@@ -5,12 +5,6 @@ use Rattle.expansion.proofs.Expanding.{no-macro, found-macro}
 use borrow.Author.Needs.{needs}
 use Rattle.expansion.proofs.macro_of.Statement.{statement}
 use Rattle.expansion.proofs.macro_of.Tie as tie
-use Rattle.expansion.proofs.macro_of.Reads as reads
-use Rattle.expansion.proofs.macro_of.Lts as lts
-use Rattle.lookup.proofs.name_at.Reads as name-at-reads
-use Rattle.known.proofs.find_macro.Reads as find-macro-reads
-use Rattle.seek.proofs.byte.Reads as byte-reads
-use Rattle.seek.proofs.past.Reads as past-reads
 
 byte-requires : tie.Need-byte-requires
 byte-requires c κs = search needs

@@ -20,7 +20,7 @@ use Rattle.flat.proofs.wrap_past.Reads as wrap-past
 use Rattle.flat.proofs.wrap_past.Kinds as wrap-past-kinds
 use Rattle.flat.proofs.+calm_past+inner_past+tail_past+wrap_past.Lts-wrap_past as wrap-past-lts
 use Rattle.ends.proofs.inner_end.Reads as inner-end-reads
-use Rattle.marks.proofs.text_or_length.Reads as text-or-length-reads
+use Rattle.walk.proofs.text_or_length.Reads as text-or-length-reads
 use Rattle.seek.proofs.byte.Reads as byte-reads
 use Rattle.seek.proofs.length_past.Reads as length-past-reads
 use Rattle.seek.proofs.list_past.Reads as list-past-reads

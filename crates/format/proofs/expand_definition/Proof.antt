@@ -1,62 +1,76 @@
 -- `format::expand_definition` meets its contract.
 -- Assumes nothing.
-use Rattle.format.proofs.Formats.{defined-format, defined-none}
+use native.Mathlib.Omega.{arith}
+use borrow.Author.Needs.{needs}
+use Rattle.format.proofs.Formats.{len-most, has-params, ready, formatted, defined-format, defined-none}
 use Rattle.format.proofs.expand_definition.Statement.{statement}
 use Rattle.format.proofs.expand_definition.Tie as tie
 
-expand-format-requires : tie.Need-expand-format-requires
-expand-format-requires c κs = let p = c .before .before .before .before .before .before .before .before .before .before .before .before .before .before .before .before .before .before .before .before .before .before .before .before .before .before .before .before .before .pre in (p .0, p .1, p .2 (c .before .before .before .before .before .before .before .before .before .before .before .before .before .if1 .taken), p .3)
+returns : tie.Need-returns
+returns c = defined-none (c .if1 .taken) (c .before .before .before .before .before .before .before .before .before .before .before .before .before .pre .0)
+
+own-params-requires : tie.Need-own-params-requires
+own-params-requires c κs =
+    let p = c .before .before .before .before .before .before .before .before .before .before .before .before .before .before .before .before .before .before .before .before .before .pre in
+    (has-params (p .0 .tables .source) (c .before .before .name-past .ensures) (p .2 (c .before .before .before .before .before .before .before .before .if1 .left)), p .0 .tables .source, p .1 .binders-long)
+
+expand-combinator-requires : tie.Need-expand-combinator-requires
+expand-combinator-requires c κs =
+    let p = c .before .before .before .before .before .before .before .before .before .before .before .before .before .before .before .before .before .before .before .before .before .before .before .before .before .before .before .before .before .before .before .before .before .before .pre in (
+      p .0,
+      ready (p .0 .tables .source) (c .before .before .before .before .before .before .before .before .before .before .before .before .before .before .before .name-past .ensures) (c .before .before .before .before .before .before .before .before .before .before .before .before .own-params .ensures) (c .before .before .before .before .before .before .before .before .before .before .before .before .before .before .number .ensures) (p .2 (c .before .before .before .before .before .before .before .before .before .before .before .before .before .before .before .before .before .before .before .before .before .if1 .left))
+          (omega (arith, c .before .before .before .before .before .before .before .before .before .before .before .before .before .before .before .before .before .path .given, p .1 .path-long)) (omega (arith, c .before .before .before .before .before .before .before .before .before .before .before .binders .given, p .1 .binders-long)) (p .1 .scratch),
+      len-most (c .before .before .before .before .before .before .before .before .before .before .before .before .before .before .before .before .before .before .put-bytes .ensures) (p .1 .path-long),
+      p .3,
+    )
 
 same-path : tie.Need-same-length
-same-path c = c .before .before .before .before .before .before .before .before .before .before .before .before .before .before .before .before .before .before .before .before .before .before .before .before .before .path .given
+same-path c = omega (arith, c .before .before .before .before .before .before .before .before .before .before .before .before .before .before .before .before .before .before .before .path2 .given, c .before .before .before .before .before .before .before .before .before .before .before .before .before .before .before .before .before .before .before .before .before .before .before .before .before .before .before .before .before .before .before .before .before .before .before .before .before .before .path .given)
 
 same-binders : tie.Need-same-length-2
-same-binders c = c .before .before .before .before .before .before .before .before .before .before .before .before .before .before .before .before .before .before .before .before .before .before .before .binders .given
+same-binders c = omega (arith, c .before .before .before .before .before .before .before .before .before .before .before .before .before .before .before .before .before .binders2 .given, c .before .before .before .before .before .before .before .before .before .before .before .before .before .before .before .before .before .before .before .before .before .before .before .before .before .before .before .before .before .before .before .before .binders .given)
 
 same-bound : tie.Need-same-length-3
-same-bound c = c .before .before .before .before .before .before .before .before .before .before .before .before .before .before .before .before .before .before .before .before .before .bound .given
+same-bound c = c .before .before .before .before .before .before .before .before .before .before .before .before .before .before .before .bound .given
 
 same-uses : tie.Need-same-length-4
-same-uses c = c .before .before .before .before .before .before .before .before .before .before .before .before .before .before .before .before .before .before .before .uses .given
+same-uses c = c .before .before .before .before .before .before .before .before .before .before .before .before .before .uses .given
 
 same-spare : tie.Need-same-length-5
-same-spare c = c .before .before .before .before .before .before .before .before .before .before .before .before .before .before .before .before .before .spare .given
+same-spare c = c .before .before .before .before .before .before .before .before .before .before .before .spare .given
 
 same-made : tie.Need-same-length-6
-same-made c = c .before .before .before .before .before .before .before .before .before .before .before .before .before .before .before .made .given
+same-made c = c .before .before .before .before .before .before .before .before .before .made .given
 
 same-places : tie.Need-same-length-7
-same-places c = c .before .before .before .before .before .before .before .before .before .before .before .before .before .places .given
+same-places c = c .before .before .before .before .before .before .before .places .given
 
 same-hashes : tie.Need-same-length-8
-same-hashes c = c .before .before .before .before .before .before .before .before .before .before .before .hashes .given
+same-hashes c = c .before .before .before .before .before .hashes .given
 
 same-hints : tie.Need-same-length-9
-same-hints c = c .before .before .before .before .before .before .before .before .before .hints .given
+same-hints c = c .before .before .before .hints .given
 
-same-rows : tie.Need-same-length-10
-same-rows c = c .before .before .before .before .before .before .before .rows .given
-
-same-params : tie.Need-same-length-11
-same-params c = c .before .before .before .before .before .params .given
-
-same-numbers : tie.Need-same-length-12
-same-numbers c = c .before .before .before .numbers .given
-
-same-order : tie.Need-same-length-13
-same-order c = c .before .order .given
-
-returns : tie.Need-returns
-returns c = defined-format (c .before .before .before .before .before .before .before .before .before .before .before .before .before .before .before .before .before .before .before .before .before .before .before .before .before .before .before .before .before .before .before .before .before .before .before .before .before .before .before .before .if1 .taken) (c .before .before .before .before .before .before .before .before .before .before .before .before .before .before .before .before .before .before .before .before .before .before .before .before .before .before .expand-format .ensures)
+same-sheet : tie.Need-same-length-10
+same-sheet c = c .before .sheet .given
 
 returns-2 : tie.Need-returns-2
-returns-2 c = defined-none (c .if1 .left) (c .before .before .before .before .before .before .before .before .before .before .before .before .before .before .before .before .pre .0)
+returns-2 c =
+    let p = c .before .before .before .before .before .before .before .before .before .before .before .before .before .before .before .before .before .before .before .before .before .before .before .before .before .before .before .before .before .before .before .before .before .before .before .before .before .before .before .before .before .before .before .before .before .before .before .before .before .before .before .before .before .before .before .pre in
+    defined-format (c .before .before .before .before .before .before .before .before .before .before .before .before .before .before .before .before .before .before .before .before .before .before .before .before .before .before .before .before .before .before .before .before .before .before .before .before .before .before .before .before .before .before .if1 .left) (formatted (p .0 .tables .source) (c .before .before .before .before .before .before .before .before .before .before .before .before .before .before .before .before .before .before .before .before .before .before .before .before .before .before .before .before .before .before .before .before .before .before .before .before .name-past .ensures) (c .before .before .before .before .before .before .before .before .before .before .before .before .before .before .before .before .before .before .before .before .before .before .before .before .before .before .before .before .before .before .before .before .before .own-params .ensures) (c .before .before .before .before .before .before .before .before .before .before .before .before .before .before .before .before .before .before .before .before .before .before .before .before .before .before .before .before .before .before .before .before .before .before .before .number .ensures) (rw (c .before .before .before .before .before .before .before .before .before .before .before .before .before .before .before .before .before .before .before .before .before .before .before .before .before .before .before .before .before .before .before .before .before .before .before .before .before .before .before .before .before .name-at .ensures) at (c .before .before .before .before .before .before .before .before .before .before .before .before .before .before .before .before .before .before .before .before .before .before .before .before .before .before .before .before .before .before .before .before .before .before .before .before .before .before .before .put-bytes .ensures)) (c .before .before .before .before .before .before .before .before .before .before .before .before .before .before .before .before .before .before .before .before .expand-combinator .ensures))
 
 pub expand-definition-spec : {M : Type 1} → statement M
 expand-definition-spec =
     tie.close
     (tie.spec
-    expand-format-requires
+    returns
+    (λ c κs. search needs)
+    (λ c κs. search needs)
+    (λ c κs. search needs)
+    (λ c κs. search needs)
+    (λ c. search needs)
+    own-params-requires
+    expand-combinator-requires
     same-path
     same-binders
     same-bound
@@ -66,9 +80,5 @@ expand-definition-spec =
     same-places
     same-hashes
     same-hints
-    same-rows
-    same-params
-    same-numbers
-    same-order
-    returns
+    same-sheet
     returns-2)

@@ -1,6 +1,6 @@
 -- `frames::children_of` meets its contract.
 -- Assumes nothing.
-use borrow.Author.Tests.{eq-eqb, ne-eqb}
+use borrow.Author.Tests.{ne-eqb}
 use Rattle.frames.specs.Frames.{beginAt}
 use borrow.Author.Needs.{needs}
 use Rattle.frames.proofs.children_of.Statement.{statement}

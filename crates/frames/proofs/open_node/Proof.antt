@@ -1,6 +1,5 @@
 -- `frames::open_node` meets its contract.
 -- Assumes nothing.
-use mathlib.Core.Path.{refl}
 use Rattle.frames.specs.Frames.{frameAt}
 use borrow.Author.Needs.{needs}
 use Rattle.frames.proofs.open_node.Statement.{statement}

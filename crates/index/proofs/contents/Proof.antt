@@ -4,10 +4,6 @@ use Rattle.index.proofs.Whole.{is-few, has-two, no-table, a-table, no-c
 use borrow.Author.Needs.{needs}
 use Rattle.index.proofs.contents.Statement.{statement}
 use Rattle.index.proofs.contents.Tie as tie
-use Rattle.index.proofs.contents.Reads as reads
-use Rattle.index.proofs.contents.Lts as lts
-use Rattle.index.proofs.count.Reads as count-reads
-use Rattle.index.proofs.row.Reads as row-reads
 
 count-requires : tie.Need-count-requires
 count-requires c κs = search needs

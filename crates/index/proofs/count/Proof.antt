@@ -4,9 +4,6 @@ use Rattle.index.proofs.Whole.{k-none, k-many, k-ok}
 use borrow.Author.Needs.{needs}
 use Rattle.index.proofs.count.Statement.{statement}
 use Rattle.index.proofs.count.Tie as tie
-use Rattle.index.proofs.count.Reads as reads
-use Rattle.index.proofs.count.Lts as lts
-use Rattle.cursor.proofs.Cursor.u16.Reads as u16-reads
 
 u16-requires : tie.Need-u16-requires
 u16-requires c κs = search needs

@@ -9,10 +9,6 @@ use Rattle.index.specs.Table.{rowOf}
 use Rattle.index.proofs.Rows.{told-by, r-more, r-none, r-left, r-end, start-row, small}
 use Rattle.index.proofs.row.Statement.{statement}
 use Rattle.index.proofs.row.Tie as tie
-use Rattle.index.proofs.row.Reads as reads
-use Rattle.index.proofs.row.Lts as lts
-use Rattle.index.proofs.entry.Reads as entry-reads
-use Rattle.index.proofs.wide.Reads as wide-reads
 
 abbrev Inv-loop : tie.InvT-loop
 Inv-loop s n more width left₀ here₀ want₀ left here want = (here .at ≤ length s) × (left ≤ 0 → want ≤ length s) × ((r : Walked) → Ends s (here .at) r (rowOf (6 + more) s left want (drop (here .at) s)) → Ends s 2 r (rowOf (6 + more) s n (2 + (6 + more) * n) (drop 2 s)))
@@ -20,20 +16,17 @@ Inv-loop s n more width left₀ here₀ want₀ left here want = (here .at ≤ l
 abbrev μ-loop : tie.MeasureT-loop
 μ-loop s n more width left₀ here₀ want₀ left here want = left
 
-wide-requires : tie.Need-wide-requires Inv-loop μ-loop
-wide-requires c κs = search needs
-
 add-width : tie.Need-add-width Inv-loop μ-loop
 add-width c = search needs
 
 mul-want : tie.Need-mul-want Inv-loop μ-loop
-mul-want c = omega (arith, small (c .wide .result) (c .before .before .args .n) (c .wide .ensures .1) (c .before .before .pre .0))
+mul-want c = omega (arith, small (c .before .args .more) (c .before .args .n) (omega arith) (c .before .pre .0))
 
 add-want : tie.Need-add-want Inv-loop μ-loop
-add-want c = omega (arith, small (c .wide .result) (c .before .before .args .n) (c .wide .ensures .1) (c .before .before .pre .0))
+add-want c = omega (arith, small (c .before .args .more) (c .before .args .n) (omega arith) (c .before .pre .0))
 
 loop-holds : tie.Need-loop-holds Inv-loop μ-loop
-loop-holds c = let w = start-row _ (c .before .before .args .more) _ (c .before .before .args .n) (c .wide .ensures .0) (c .before .before .pre .1) in (c .before .before .pre .1, w .0, w .1)
+loop-holds c = (c .before .pre .1, start-row _ (c .before .args .more) (c .before .args .n) (c .before .pre .1), λ r i. i)
 
 entry-requires : tie.Need-entry-requires Inv-loop μ-loop
 entry-requires c κs = search needs
@@ -42,7 +35,7 @@ enum-known-f : tie.Need-enum-known-f Inv-loop μ-loop
 enum-known-f c = search needs
 
 returns : tie.Need-returns Inv-loop μ-loop
-returns c = c .before .before .before .before .before .loop .inv .2 _ (r-none _ (c .before .before .before .before .before .before .before .before .args .more) (c .before .before .before .entry .ensures) _ (c .before .f .given .1) (c .before .before .before .before .loop-test .taken))
+returns c = c .before .before .before .before .before .loop .inv .2 _ (r-none _ (c .before .before .before .before .before .before .before .args .more) (c .before .before .before .entry .ensures) _ (c .before .f .given .1) (c .before .before .before .before .loop-test .taken))
 
 enum-known-end : tie.Need-enum-known-end Inv-loop μ-loop
 enum-known-end c = search needs
@@ -54,13 +47,13 @@ loop-less : tie.Need-loop-less Inv-loop μ-loop
 loop-less c = search needs
 
 loop-again : tie.Need-loop-again Inv-loop μ-loop
-loop-again c = let t = told-by _ (c .before .before .before .before .before .before .before .before .args .more) (c .before .before .before .entry .ensures) _ _ _ (c .before .end .given .1) in (t .within, λ z. t .fits, λ r e. c .before .before .before .before .before .loop .inv .2 r (r-more _ (c .before .before .before .before .before .before .before .before .args .more) (c .before .before .before .entry .ensures) _ r (c .before .end .given .1) (c .before .before .before .before .loop-test .taken) e))
+loop-again c = let t = told-by _ (c .before .before .before .before .before .before .before .args .more) (c .before .before .before .entry .ensures) _ _ _ (c .before .end .given .1) in (t .within, λ z. t .fits, λ r e. c .before .before .before .before .before .loop .inv .2 r (r-more _ (c .before .before .before .before .before .before .before .args .more) (c .before .before .before .entry .ensures) _ r (c .before .end .given .1) (c .before .before .before .before .loop-test .taken) e))
 
 returns-2 : tie.Need-returns-2 Inv-loop μ-loop
-returns-2 c = c .before .before .loop .inv .2 _ (r-left _ (c .before .before .before .before .before .args .more) _ (c .before .loop-test .left) (c .before .before .loop .inv .0) (c .if1 .taken))
+returns-2 c = c .before .before .loop .inv .2 _ (r-left _ (c .before .before .before .before .args .more) _ (c .before .loop-test .left) (c .before .before .loop .inv .0) (c .if1 .taken))
 
 returns-3 : tie.Need-returns-3 Inv-loop μ-loop
-returns-3 c = c .before .before .loop .inv .2 _ (r-end _ (c .before .before .before .before .before .args .more) _ _ refl (c .before .loop-test .left) (c .if1 .left) (c .before .before .loop .inv .1 (c .before .loop-test .left)))
+returns-3 c = c .before .before .loop .inv .2 _ (r-end _ (c .before .before .before .before .args .more) _ _ refl (c .before .loop-test .left) (c .if1 .left) (c .before .before .loop .inv .1 (c .before .loop-test .left)))
 
 pub row-spec : {M : Type 1} → statement M
 row-spec =
@@ -68,7 +61,6 @@ row-spec =
     (tie.spec
     Inv-loop
     μ-loop
-    wide-requires
     add-width
     mul-want
     add-want

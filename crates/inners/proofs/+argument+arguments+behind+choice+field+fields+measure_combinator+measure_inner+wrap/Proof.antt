@@ -38,7 +38,7 @@ use Rattle.inners.proofs.+argument+arguments+behind+choice+field+fields
 use Rattle.inners.proofs.wrap.Reads as wrap
 use Rattle.inners.proofs.wrap.Kinds as wrap-kinds
 use Rattle.inners.proofs.+argument+arguments+behind+choice+field+fields+measure_combinator+measure_inner+wrap.Lts-wrap as wrap-lts
-use Rattle.marks.proofs.text_or_length.Reads as text-or-length-reads
+use Rattle.walk.proofs.text_or_length.Reads as text-or-length-reads
 use Rattle.inners.proofs.keep.Reads as keep-reads
 use Rattle.seek.proofs.byte.Reads as byte-reads
 use Rattle.seek.proofs.label_past.Reads as label-past-reads

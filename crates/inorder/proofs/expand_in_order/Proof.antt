@@ -3,23 +3,24 @@
 use mathlib.Core.Path.{refl, _∙_}
 use native.Mathlib.Omega.{arith}
 use borrow.Author.Needs.{needs}
+use Rattle.tables.specs.Parts.{orderIn, rowsIn, paramsIn, numberIn}
 use Rattle.body.proofs.Rounds.{Lengths}
 use Rattle.inorder.proofs.Order.{Going, going, going-format, going-step, going-refused, going-all, kept}
 use Rattle.inorder.proofs.expand_in_order.Statement.{statement}
 use Rattle.inorder.proofs.expand_in_order.Tie as tie
 
 abbrev Inv-loop : tie.InvT-loop
-Inv-loop s ends path₀ binders₀ bound₀ uses₀ spare₀ made₀ places₀ hashes₀ hints₀ rows₀ params₀ numbers₀ order₀ left₀ entry₀ at₀ w₀ n₀ path binders bound uses spare made places hashes hints rows params numbers order left entry at w n =
-    Going s made₀ places₀ rows₀ params₀ order₀ w₀ made places hashes hints rows params numbers order w n entry at left
-    × Lengths path₀ binders₀ bound₀ uses₀ spare₀ made₀ places₀ hashes₀ hints₀ rows₀ params₀ numbers₀ order₀ path binders bound uses spare made places hashes hints rows params numbers order
+Inv-loop s ends path₀ binders₀ bound₀ uses₀ spare₀ made₀ places₀ hashes₀ hints₀ sheet₀ left₀ entry₀ at₀ w₀ n₀ path binders bound uses spare made places hashes hints sheet left entry at w n =
+    Going s made₀ places₀ (rowsIn sheet₀) (paramsIn sheet₀) (orderIn sheet₀) w₀ made places hashes hints (rowsIn sheet) (paramsIn sheet) (numberIn sheet) (orderIn sheet) w n entry at left
+    × Lengths path₀ binders₀ bound₀ uses₀ spare₀ made₀ places₀ hashes₀ hints₀ sheet₀ path binders bound uses spare made places hashes hints sheet
 
 abbrev μ-loop : tie.MeasureT-loop
-μ-loop s ends path₀ binders₀ bound₀ uses₀ spare₀ made₀ places₀ hashes₀ hints₀ rows₀ params₀ numbers₀ order₀ left₀ entry₀ at₀ w₀ n₀ path binders bound uses spare made places hashes hints rows params numbers order left entry at w n =
+μ-loop s ends path₀ binders₀ bound₀ uses₀ spare₀ made₀ places₀ hashes₀ hints₀ sheet₀ left₀ entry₀ at₀ w₀ n₀ path binders bound uses spare made places hashes hints sheet left entry at w n =
     left
 
 loop-holds : tie.Need-loop-holds Inv-loop μ-loop
 loop-holds c = (
-  going (c .before .before .before .before .before .before .before .before .before .before .before .before .before .before .before .before .before .before .pre .0) (c .before .before .number .ensures) (c .before .past .ensures) (c .past2 .ensures),
+  going (c .before .before .before .before .before .before .before .before .before .before .before .before .before .before .before .pre .0) (c .before .before .number .ensures) (c .before .past .ensures) (c .past2 .ensures),
   record {
     path = refl;
     binders = refl;
@@ -30,123 +31,99 @@ loop-holds c = (
     places = refl;
     hashes = refl;
     hints = refl;
-    rows = refl;
-    params = refl;
-    number = refl;
-    order = refl;
+    sheet = refl;
   },
 )
 
 expand-definition-requires : tie.Need-expand-definition-requires Inv-loop μ-loop
 expand-definition-requires c κs =
-    let p = c .before .before .before .before .before .before .before .before .before .before .before .before .before .before .before .before .before .before .before .before .before .before .before .before .before .before .before .before .before .before .before .before .before .before .before .before .before .before .pre in
-    let i = c .before .before .before .before .before .before .before .before .before .before .before .before .before .before .before .before .before .before .before .loop .inv in
-    (i .0 .good, kept (p .1) (i .1), going-format (i .0) (c .before .before .before .before .before .before .before .before .before .before .before .before .before .before .before .before .before .before .loop-test .taken) (c .before .before .before .before .before .before .before .before .before .before .before .before .before .before .before .before .before .byte .ensures) (p .2), p .3)
+    let p = c .before .before .before .before .before .before .before .before .before .before .before .before .before .before .before .before .before .before .before .before .before .before .before .before .before .before .before .before .before .before .before .before .pre in
+    let i = c .before .before .before .before .before .before .before .before .before .before .before .before .before .before .before .before .loop .inv in
+    (i .0 .good, kept (p .1) (i .1), going-format (i .0) (c .before .before .before .before .before .before .before .before .before .before .before .before .before .before .before .loop-test .taken) (c .before .before .before .before .before .before .before .before .before .before .before .before .before .before .byte .ensures) (p .2), p .3)
 
 same-path : tie.Need-same-length Inv-loop μ-loop
-same-path c = c .before .before .before .before .before .before .before .before .before .before .before .before .before .before .before .before .before .before .before .before .before .before .before .before .before .before .before .before .path .given ∙ c .before .before .before .before .before .before .before .before .before .before .before .before .before .before .before .before .before .before .before .before .before .before .before .before .before .before .before .before .before .before .before .before .before .before .before .before .before .before .before .before .before .before .before .before .before .before .before .before .before .loop .inv .1 .path
+same-path c = c .before .before .before .before .before .before .before .before .before .before .before .before .before .before .before .before .before .before .before .before .before .before .path .given ∙ c .before .before .before .before .before .before .before .before .before .before .before .before .before .before .before .before .before .before .before .before .before .before .before .before .before .before .before .before .before .before .before .before .before .before .before .before .before .before .before .before .loop .inv .1 .path
 
 same-binders : tie.Need-same-length-2 Inv-loop μ-loop
-same-binders c = c .before .before .before .before .before .before .before .before .before .before .before .before .before .before .before .before .before .before .before .before .before .before .before .before .before .before .binders .given ∙ c .before .before .before .before .before .before .before .before .before .before .before .before .before .before .before .before .before .before .before .before .before .before .before .before .before .before .before .before .before .before .before .before .before .before .before .before .before .before .before .before .before .before .before .before .before .before .before .before .before .loop .inv .1 .binders
+same-binders c = c .before .before .before .before .before .before .before .before .before .before .before .before .before .before .before .before .before .before .before .before .binders .given ∙ c .before .before .before .before .before .before .before .before .before .before .before .before .before .before .before .before .before .before .before .before .before .before .before .before .before .before .before .before .before .before .before .before .before .before .before .before .before .before .before .before .loop .inv .1 .binders
 
 same-bound : tie.Need-same-length-3 Inv-loop μ-loop
-same-bound c = c .before .before .before .before .before .before .before .before .before .before .before .before .before .before .before .before .before .before .before .before .before .before .before .before .bound .given ∙ c .before .before .before .before .before .before .before .before .before .before .before .before .before .before .before .before .before .before .before .before .before .before .before .before .before .before .before .before .before .before .before .before .before .before .before .before .before .before .before .before .before .before .before .before .before .before .before .before .before .loop .inv .1 .bound
+same-bound c = c .before .before .before .before .before .before .before .before .before .before .before .before .before .before .before .before .before .before .bound .given ∙ c .before .before .before .before .before .before .before .before .before .before .before .before .before .before .before .before .before .before .before .before .before .before .before .before .before .before .before .before .before .before .before .before .before .before .before .before .before .before .before .before .loop .inv .1 .bound
 
 same-uses : tie.Need-same-length-4 Inv-loop μ-loop
-same-uses c = c .before .before .before .before .before .before .before .before .before .before .before .before .before .before .before .before .before .before .before .before .before .before .uses .given ∙ c .before .before .before .before .before .before .before .before .before .before .before .before .before .before .before .before .before .before .before .before .before .before .before .before .before .before .before .before .before .before .before .before .before .before .before .before .before .before .before .before .before .before .before .before .before .before .before .before .before .loop .inv .1 .uses
+same-uses c = c .before .before .before .before .before .before .before .before .before .before .before .before .before .before .before .before .uses .given ∙ c .before .before .before .before .before .before .before .before .before .before .before .before .before .before .before .before .before .before .before .before .before .before .before .before .before .before .before .before .before .before .before .before .before .before .before .before .before .before .before .before .loop .inv .1 .uses
 
 same-spare : tie.Need-same-length-5 Inv-loop μ-loop
-same-spare c = c .before .before .before .before .before .before .before .before .before .before .before .before .before .before .before .before .before .before .before .before .spare .given ∙ c .before .before .before .before .before .before .before .before .before .before .before .before .before .before .before .before .before .before .before .before .before .before .before .before .before .before .before .before .before .before .before .before .before .before .before .before .before .before .before .before .before .before .before .before .before .before .before .before .before .loop .inv .1 .spare
+same-spare c = c .before .before .before .before .before .before .before .before .before .before .before .before .before .before .spare .given ∙ c .before .before .before .before .before .before .before .before .before .before .before .before .before .before .before .before .before .before .before .before .before .before .before .before .before .before .before .before .before .before .before .before .before .before .before .before .before .before .before .before .loop .inv .1 .spare
 
 same-made : tie.Need-same-length-6 Inv-loop μ-loop
-same-made c = c .before .before .before .before .before .before .before .before .before .before .before .before .before .before .before .before .before .before .made .given ∙ c .before .before .before .before .before .before .before .before .before .before .before .before .before .before .before .before .before .before .before .before .before .before .before .before .before .before .before .before .before .before .before .before .before .before .before .before .before .before .before .before .before .before .before .before .before .before .before .before .before .loop .inv .1 .made
+same-made c = c .before .before .before .before .before .before .before .before .before .before .before .before .made .given ∙ c .before .before .before .before .before .before .before .before .before .before .before .before .before .before .before .before .before .before .before .before .before .before .before .before .before .before .before .before .before .before .before .before .before .before .before .before .before .before .before .before .loop .inv .1 .made
 
 same-places : tie.Need-same-length-7 Inv-loop μ-loop
-same-places c = c .before .before .before .before .before .before .before .before .before .before .before .before .before .before .before .before .places .given ∙ c .before .before .before .before .before .before .before .before .before .before .before .before .before .before .before .before .before .before .before .before .before .before .before .before .before .before .before .before .before .before .before .before .before .before .before .before .before .before .before .before .before .before .before .before .before .before .before .before .before .loop .inv .1 .places
+same-places c = c .before .before .before .before .before .before .before .before .before .before .places .given ∙ c .before .before .before .before .before .before .before .before .before .before .before .before .before .before .before .before .before .before .before .before .before .before .before .before .before .before .before .before .before .before .before .before .before .before .before .before .before .before .before .before .loop .inv .1 .places
 
 same-hashes : tie.Need-same-length-8 Inv-loop μ-loop
-same-hashes c = c .before .before .before .before .before .before .before .before .before .before .before .before .before .before .hashes .given ∙ c .before .before .before .before .before .before .before .before .before .before .before .before .before .before .before .before .before .before .before .before .before .before .before .before .before .before .before .before .before .before .before .before .before .before .before .before .before .before .before .before .before .before .before .before .before .before .before .before .before .loop .inv .1 .hashes
+same-hashes c = c .before .before .before .before .before .before .before .before .hashes .given ∙ c .before .before .before .before .before .before .before .before .before .before .before .before .before .before .before .before .before .before .before .before .before .before .before .before .before .before .before .before .before .before .before .before .before .before .before .before .before .before .before .before .loop .inv .1 .hashes
 
 same-hints : tie.Need-same-length-9 Inv-loop μ-loop
-same-hints c = c .before .before .before .before .before .before .before .before .before .before .before .before .hints .given ∙ c .before .before .before .before .before .before .before .before .before .before .before .before .before .before .before .before .before .before .before .before .before .before .before .before .before .before .before .before .before .before .before .before .before .before .before .before .before .before .before .before .before .before .before .before .before .before .before .before .before .loop .inv .1 .hints
+same-hints c = c .before .before .before .before .before .before .hints .given ∙ c .before .before .before .before .before .before .before .before .before .before .before .before .before .before .before .before .before .before .before .before .before .before .before .before .before .before .before .before .before .before .before .before .before .before .before .before .before .before .before .before .loop .inv .1 .hints
 
-same-rows : tie.Need-same-length-10 Inv-loop μ-loop
-same-rows c = c .before .before .before .before .before .before .before .before .before .before .rows .given ∙ c .before .before .before .before .before .before .before .before .before .before .before .before .before .before .before .before .before .before .before .before .before .before .before .before .before .before .before .before .before .before .before .before .before .before .before .before .before .before .before .before .before .before .before .before .before .before .before .before .before .loop .inv .1 .rows
-
-same-params : tie.Need-same-length-11 Inv-loop μ-loop
-same-params c = c .before .before .before .before .before .before .before .before .params .given ∙ c .before .before .before .before .before .before .before .before .before .before .before .before .before .before .before .before .before .before .before .before .before .before .before .before .before .before .before .before .before .before .before .before .before .before .before .before .before .before .before .before .before .before .before .before .before .before .before .before .before .loop .inv .1 .params
-
-same-numbers : tie.Need-same-length-12 Inv-loop μ-loop
-same-numbers c = c .before .before .before .before .before .before .numbers .given ∙ c .before .before .before .before .before .before .before .before .before .before .before .before .before .before .before .before .before .before .before .before .before .before .before .before .before .before .before .before .before .before .before .before .before .before .before .before .before .before .before .before .before .before .before .before .before .before .before .before .before .loop .inv .1 .number
-
-same-order : tie.Need-same-length-13 Inv-loop μ-loop
-same-order c = c .before .before .before .before .order .given ∙ c .before .before .before .before .before .before .before .before .before .before .before .before .before .before .before .before .before .before .before .before .before .before .before .before .before .before .before .before .before .before .before .before .before .before .before .before .before .before .before .before .before .before .before .before .before .before .before .before .before .loop .inv .1 .order
+same-sheet : tie.Need-same-length-10 Inv-loop μ-loop
+same-sheet c = c .before .before .before .before .sheet .given ∙ c .before .before .before .before .before .before .before .before .before .before .before .before .before .before .before .before .before .before .before .before .before .before .before .before .before .before .before .before .before .before .before .before .before .before .before .before .before .before .before .before .loop .inv .1 .sheet
 
 returns : tie.Need-returns Inv-loop μ-loop
-returns c = going-refused (c .before .before .before .before .before .before .before .before .before .before .before .before .before .before .before .before .before .before .before .before .before .before .before .before .before .before .before .before .before .before .before .before .before .before .before .before .before .before .before .before .before .before .before .before .before .before .before .before .before .loop .inv .0) (c .before .before .before .before .before .before .before .before .before .before .before .before .before .before .before .before .before .before .before .before .before .before .before .before .before .before .before .before .before .before .before .before .before .before .before .before .before .before .before .before .before .before .before .before .before .before .before .before .loop-test .taken) (c .before .before .before .before .before .before .before .before .before .before .before .before .before .before .before .before .before .before .before .before .before .before .before .before .before .before .before .before .before .before .before .before .before .before .before .before .before .before .before .before .before .before .before .before .before .before .before .byte .ensures) (rw (c .before .c .given .1) at (c .before .before .before .before .before .before .before .before .before .before .before .before .before .before .before .before .before .before .before .before .before .before .before .before .before .before .before .before .before .expand-definition .ensures))
+returns c = going-refused (c .before .before .before .before .before .before .before .before .before .before .before .before .before .before .before .before .before .before .before .before .before .before .before .before .before .before .before .before .before .before .before .before .before .before .before .before .before .before .before .before .loop .inv .0) (c .before .before .before .before .before .before .before .before .before .before .before .before .before .before .before .before .before .before .before .before .before .before .before .before .before .before .before .before .before .before .before .before .before .before .before .before .before .before .before .loop-test .taken) (c .before .before .before .before .before .before .before .before .before .before .before .before .before .before .before .before .before .before .before .before .before .before .before .before .before .before .before .before .before .before .before .before .before .before .before .before .before .before .byte .ensures) (rw (c .before .c .given .1) at (c .before .before .before .before .before .before .before .before .before .before .before .before .before .before .before .before .before .before .before .before .before .before .before .expand-definition .ensures))
 
 loop-less : tie.Need-loop-less Inv-loop μ-loop
-loop-less c = omega (arith, c .before .before .before .before .before .before .before .before .before .before .before .before .before .before .before .before .before .before .before .before .before .before .before .before .before .before .before .before .before .before .before .before .before .before .before .before .before .before .before .before .before .before .before .before .before .before .before .before .loop-test .taken)
+loop-less c = omega (arith, c .before .before .before .before .before .before .before .before .before .before .before .before .before .before .before .before .before .before .before .before .before .before .before .before .before .before .before .before .before .before .before .before .before .before .before .before .before .before .before .loop-test .taken)
 
 loop-again : tie.Need-loop-again Inv-loop μ-loop
 loop-again c =
-    let i = c .before .before .before .before .before .before .before .before .before .before .before .before .before .before .before .before .before .before .before .before .before .before .before .before .before .before .before .before .before .before .before .before .before .before .before .before .before .before .before .before .before .before .before .before .before .before .before .before .before .loop .inv in (
-      going-step (i .0) (c .before .before .before .before .before .before .before .before .before .before .before .before .before .before .before .before .before .before .before .before .before .before .before .before .before .before .before .before .before .before .before .before .before .before .before .before .before .before .before .before .before .before .before .before .before .before .before .before .loop-test .taken) (c .before .before .before .before .before .before .before .before .before .before .before .before .before .before .before .before .before .before .before .before .before .before .before .before .before .before .before .before .before .before .before .before .before .before .before .before .before .before .before .before .before .before .before .before .before .before .before .byte .ensures) (rw (c .before .v .given .1) at (c .before .before .before .before .before .before .before .before .before .before .before .before .before .before .before .before .before .before .before .before .before .before .before .before .before .before .before .before .before .expand-definition .ensures)) (c .before .before .before .before .before .before .before .before .before .before .before .before .before .before .before .before .before .before .before .before .before .before .before .before .before .before .before .before .before .before .before .before .before .before .before .before .before .before .before .before .before .before .before .before .before .before .before .before .before .before .before .before .before .before .before .before .before .before .before .before .before .before .before .before .before .before .before .before .pre .2) (c .before .before .before .before .before .before .before .before .before .before .before .before .before .before .before .before .before .before .before .before .before .before .before .before .before .before .before .before .before .before .before .before .before .before .before .before .before .before .before .before .before .before .before .before .before .number2 .ensures ∙ rw (c .before .before .before .before .before .before .before .before .before .before .before .before .before .before .before .before .before .before .before .before .before .before .before .before .before .before .before .before .before .before .before .before .before .before .before .before .before .before .before .before .before .before .before .before .before .before .past3 .ensures)) (c .before .before .before .before .before .before .before .before .before .before .before .before .before .before .before .before .before .before .before .before .before .before .before .before .before .before .before .before .before .before .before .before .before .before .before .before .before .before .before .before .before .before .before .before .past4 .ensures) (c .before .before .before .before .before .before .before .before .before .before .before .before .before .before .before .before .before .before .before .before .before .before .before .before .before .before .before .before .before .before .before .before .before .before .before .before .before .before .before .before .before .before .before .past5 .ensures),
+    let i = c .before .before .before .before .before .before .before .before .before .before .before .before .before .before .before .before .before .before .before .before .before .before .before .before .before .before .before .before .before .before .before .before .before .before .before .before .before .before .before .before .loop .inv in (
+      going-step (i .0) (c .before .before .before .before .before .before .before .before .before .before .before .before .before .before .before .before .before .before .before .before .before .before .before .before .before .before .before .before .before .before .before .before .before .before .before .before .before .before .before .loop-test .taken) (c .before .before .before .before .before .before .before .before .before .before .before .before .before .before .before .before .before .before .before .before .before .before .before .before .before .before .before .before .before .before .before .before .before .before .before .before .before .before .byte .ensures) (rw (c .before .v .given .1) at (c .before .before .before .before .before .before .before .before .before .before .before .before .before .before .before .before .before .before .before .before .before .before .before .expand-definition .ensures)) (c .before .before .before .before .before .before .before .before .before .before .before .before .before .before .before .before .before .before .before .before .before .before .before .before .before .before .before .before .before .before .before .before .before .before .before .before .before .before .before .before .before .before .before .before .before .before .before .before .before .before .before .before .before .before .before .before .pre .2) (c .before .before .before .before .before .before .before .before .before .before .before .before .before .before .before .before .before .before .before .before .before .before .before .before .before .before .before .before .before .before .before .before .before .before .before .before .number2 .ensures ∙ rw (c .before .before .before .before .before .before .before .before .before .before .before .before .before .before .before .before .before .before .before .before .before .before .before .before .before .before .before .before .before .before .before .before .before .before .before .before .before .past3 .ensures)) (c .before .before .before .before .before .before .before .before .before .before .before .before .before .before .before .before .before .before .before .before .before .before .before .before .before .before .before .before .before .before .before .before .before .before .before .past4 .ensures) (c .before .before .before .before .before .before .before .before .before .before .before .before .before .before .before .before .before .before .before .before .before .before .before .before .before .before .before .before .before .before .before .before .before .before .past5 .ensures),
       record {
-        path = c .before .before .before .before .before .before .before .before .before .before .before .before .before .before .before .before .before .before .before .before .before .before .before .before .before .before .before .before .path .given ∙ i .1 .path;
-        binders = c .before .before .before .before .before .before .before .before .before .before .before .before .before .before .before .before .before .before .before .before .before .before .before .before .before .before .binders .given ∙ i .1 .binders;
-        bound = c .before .before .before .before .before .before .before .before .before .before .before .before .before .before .before .before .before .before .before .before .before .before .before .before .bound .given ∙ i .1 .bound;
-        uses = c .before .before .before .before .before .before .before .before .before .before .before .before .before .before .before .before .before .before .before .before .before .before .uses .given ∙ i .1 .uses;
-        spare = c .before .before .before .before .before .before .before .before .before .before .before .before .before .before .before .before .before .before .before .before .spare .given ∙ i .1 .spare;
-        made = c .before .before .before .before .before .before .before .before .before .before .before .before .before .before .before .before .before .before .made .given ∙ i .1 .made;
-        places = c .before .before .before .before .before .before .before .before .before .before .before .before .before .before .before .before .places .given ∙ i .1 .places;
-        hashes = c .before .before .before .before .before .before .before .before .before .before .before .before .before .before .hashes .given ∙ i .1 .hashes;
-        hints = c .before .before .before .before .before .before .before .before .before .before .before .before .hints .given ∙ i .1 .hints;
-        rows = c .before .before .before .before .before .before .before .before .before .before .rows .given ∙ i .1 .rows;
-        params = c .before .before .before .before .before .before .before .before .params .given ∙ i .1 .params;
-        number = c .before .before .before .before .before .before .numbers .given ∙ i .1 .number;
-        order = c .before .before .before .before .order .given ∙ i .1 .order;
+        path = c .before .before .before .before .before .before .before .before .before .before .before .before .before .before .before .before .before .before .before .before .before .before .path .given ∙ i .1 .path;
+        binders = c .before .before .before .before .before .before .before .before .before .before .before .before .before .before .before .before .before .before .before .before .binders .given ∙ i .1 .binders;
+        bound = c .before .before .before .before .before .before .before .before .before .before .before .before .before .before .before .before .before .before .bound .given ∙ i .1 .bound;
+        uses = c .before .before .before .before .before .before .before .before .before .before .before .before .before .before .before .before .uses .given ∙ i .1 .uses;
+        spare = c .before .before .before .before .before .before .before .before .before .before .before .before .before .before .spare .given ∙ i .1 .spare;
+        made = c .before .before .before .before .before .before .before .before .before .before .before .before .made .given ∙ i .1 .made;
+        places = c .before .before .before .before .before .before .before .before .before .before .places .given ∙ i .1 .places;
+        hashes = c .before .before .before .before .before .before .before .before .hashes .given ∙ i .1 .hashes;
+        hints = c .before .before .before .before .before .before .hints .given ∙ i .1 .hints;
+        sheet = c .before .before .before .before .sheet .given ∙ i .1 .sheet;
       },
     )
 
-end-path : tie.Need-same-length-14 Inv-loop μ-loop
+end-path : tie.Need-same-length-11 Inv-loop μ-loop
 end-path c = c .before .loop .inv .1 .path
 
-end-binders : tie.Need-same-length-15 Inv-loop μ-loop
+end-binders : tie.Need-same-length-12 Inv-loop μ-loop
 end-binders c = c .before .loop .inv .1 .binders
 
-end-bound : tie.Need-same-length-16 Inv-loop μ-loop
+end-bound : tie.Need-same-length-13 Inv-loop μ-loop
 end-bound c = c .before .loop .inv .1 .bound
 
-end-uses : tie.Need-same-length-17 Inv-loop μ-loop
+end-uses : tie.Need-same-length-14 Inv-loop μ-loop
 end-uses c = c .before .loop .inv .1 .uses
 
-end-spare : tie.Need-same-length-18 Inv-loop μ-loop
+end-spare : tie.Need-same-length-15 Inv-loop μ-loop
 end-spare c = c .before .loop .inv .1 .spare
 
-end-made : tie.Need-same-length-19 Inv-loop μ-loop
+end-made : tie.Need-same-length-16 Inv-loop μ-loop
 end-made c = c .before .loop .inv .1 .made
 
-end-places : tie.Need-same-length-20 Inv-loop μ-loop
+end-places : tie.Need-same-length-17 Inv-loop μ-loop
 end-places c = c .before .loop .inv .1 .places
 
-end-hashes : tie.Need-same-length-21 Inv-loop μ-loop
+end-hashes : tie.Need-same-length-18 Inv-loop μ-loop
 end-hashes c = c .before .loop .inv .1 .hashes
 
-end-hints : tie.Need-same-length-22 Inv-loop μ-loop
+end-hints : tie.Need-same-length-19 Inv-loop μ-loop
 end-hints c = c .before .loop .inv .1 .hints
 
-end-rows : tie.Need-same-length-23 Inv-loop μ-loop
-end-rows c = c .before .loop .inv .1 .rows
-
-end-params : tie.Need-same-length-24 Inv-loop μ-loop
-end-params c = c .before .loop .inv .1 .params
-
-end-numbers : tie.Need-same-length-25 Inv-loop μ-loop
-end-numbers c = c .before .loop .inv .1 .number
-
-end-order : tie.Need-same-length-26 Inv-loop μ-loop
-end-order c = c .before .loop .inv .1 .order
+end-sheet : tie.Need-same-length-20 Inv-loop μ-loop
+end-sheet c = c .before .loop .inv .1 .sheet
 
 returns-2 : tie.Need-returns-2 Inv-loop μ-loop
 returns-2 c = going-all (c .before .loop .inv .0) (omega (arith, c .loop-test .left))
@@ -181,10 +158,7 @@ expand-in-order-spec =
     same-places
     same-hashes
     same-hints
-    same-rows
-    same-params
-    same-numbers
-    same-order
+    same-sheet
     returns
     (λ c. search needs)
     loop-less
@@ -198,8 +172,5 @@ expand-in-order-spec =
     end-places
     end-hashes
     end-hints
-    end-rows
-    end-params
-    end-numbers
-    end-order
+    end-sheet
     returns-2)

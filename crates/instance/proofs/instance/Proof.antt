@@ -7,9 +7,6 @@ use native.Mathlib.Omega.{arith}
 use Rattle.instance.proofs.Making.{Making, instanced-none, instanced-stop, instanced-step}
 use Rattle.instance.proofs.instance.Statement.{statement}
 use Rattle.instance.proofs.instance.Tie as tie
-use Rattle.instance.proofs.instance.Reads as reads
-use Rattle.instance.proofs.instance.Lts as lts
-use Rattle.substitution.proofs.substitute_next.Reads as substitute-next-reads
 
 abbrev Inv-loop : tie.InvT-loop
 Inv-loop macros book pairs areas₀ marks₀ here₀ left₀ areas marks here left = Making macros book areas₀ marks₀ here₀ left₀ areas marks here left

@@ -4,12 +4,6 @@ use Rattle.instance.proofs.Pairing.{paired}
 use borrow.Author.Needs.{needs}
 use Rattle.instance.proofs.pairs.Statement.{statement}
 use Rattle.instance.proofs.pairs.Tie as tie
-use Rattle.instance.proofs.pairs.Reads as reads
-use Rattle.instance.proofs.pairs.Lts as lts
-use Rattle.numbers.proofs.least.Reads as least-reads
-use Rattle.seek.proofs.name_past.Reads as name-past-reads
-use Rattle.seek.proofs.number.Reads as number-reads
-use Rattle.seek.proofs.past.Reads as past-reads
 
 name-past-requires : tie.Need-name-past-requires
 name-past-requires c κs = search needs

@@ -1,7 +1,7 @@
 -- `invocation::put_called` meets its contract.
 -- Assumes nothing.
 use Rattle.writer.proofs.Wrote.{glue}
-use Rattle.invocation.proofs.Rest.{wrote-as}
+use Rattle.writer.proofs.Rest.{wrote-as}
 use Rattle.invocation.proofs.Names.{called-is}
 use borrow.Author.Needs.{needs}
 use Rattle.invocation.proofs.put_called.Statement.{statement}

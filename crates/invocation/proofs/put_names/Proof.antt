@@ -4,10 +4,10 @@ use mathlib.Core.Path.{_≡_, refl, _∙_}
 use Prim.Native.Nat.{suc, _+_, _≤_}
 use native.Mathlib.Omega.{arith}
 use lib.ListN.{length}
-use Rattle.writer.proofs.Wrote.{glue, same-length as wrote-long}
+use Rattle.writer.proofs.Wrote.{glue, place-within, same-length as wrote-long}
 use Rattle.tables.specs.Rows.{namesFrom}
 use Rattle.invocation.specs.Invocation.{namesBytes}
-use Rattle.invocation.proofs.Rest.{place-within, Rest, rest-all, rest-on, rest-end}
+use Rattle.writer.proofs.Rest.{Rest, rest-all, rest-on, rest-end}
 use Rattle.invocation.proofs.Names.{names-more, names-done}
 use borrow.Author.Needs.{needs}
 use Rattle.invocation.proofs.put_names.Statement.{statement}

@@ -10,10 +10,6 @@ use Rattle.known.specs.Table.{FindsMacro}
 use Rattle.known.proofs.Rows.{found-none, found-here, found-on}
 use Rattle.known.proofs.find_macro.Statement.{statement}
 use Rattle.known.proofs.find_macro.Tie as tie
-use Rattle.known.proofs.find_macro.Reads as reads
-use Rattle.known.proofs.find_macro.Lts as lts
-use Rattle.hash.proofs.name_hash.Reads as name-hash-reads
-use Rattle.known.proofs.same_row.Reads as same-row-reads
 
 abbrev Inv-loop : tie.InvT-loop
 Inv-loop name macros places hashes n hash i₀ i = (i ≤ n) × (hash ≡ hashOf name) × ((r : Found) → FindsMacro name macros places hashes i r → FindsMacro name macros places hashes n r)

@@ -5,10 +5,6 @@ use Rattle.known.proofs.Rows.{row-past-places, row-past-hashes, row-oth
 use borrow.Author.Needs.{needs}
 use Rattle.known.proofs.same_row.Statement.{statement}
 use Rattle.known.proofs.same_row.Tie as tie
-use Rattle.known.proofs.same_row.Reads as reads
-use Rattle.known.proofs.same_row.Lts as lts
-use Rattle.lookup.proofs.name_at.Reads as name-at-reads
-use Rattle.lookup.proofs.same_name.Reads as same-name-reads
 
 returns : tie.Need-returns
 returns c = row-past-places (c .if1 .taken)

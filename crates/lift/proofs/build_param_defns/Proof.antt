@@ -1,10 +1,11 @@
 -- `lift::build_param_defns` meets its contract.
 -- Assumes nothing.
-use mathlib.Core.Path.{_≡_, ap, sym, _∙_}
+use mathlib.Core.Path.{_≡_, refl, ap, sym, _∙_}
 use Prim.Native.Nat.{_-_, _≤_}
 use native.Mathlib.Omega.{arith}
 use lib.ListN.{length}
 use borrow.Author.Needs.{needs}
+use Rattle.tables.specs.Parts.{orderIn, rowsIn, paramsIn, numberIn, Parts}
 use Rattle.lift.specs.Bound.{boundFrom, Filled, Within, Builds}
 use Rattle.lift.proofs.Binders.{first-found, found-sized}
 use Rattle.lift.proofs.Params.{filled-none, filled-missing, filled-more, use-short}
@@ -12,13 +13,18 @@ use Rattle.lift.proofs.build_param_defns.Statement.{statement}
 use Rattle.lift.proofs.build_param_defns.Tie as tie
 
 abbrev Inv-loop : tie.InvT-loop
-Inv-loop s uses k binders b params₀ first names₀ types₀ i₀ params names types i = (i ≤ k) × Within i names types × Filled s uses i (boundFrom s binders 0 b) params₀ first params names types
+Inv-loop s uses k binders b sheet₀ first names₀ types₀ i₀ sheet names types i =
+    (i ≤ k) × Within i names types × Filled s uses i (boundFrom s binders 0 b) (paramsIn sheet₀) first (paramsIn sheet) names types × Parts sheet (orderIn sheet₀) (rowsIn sheet₀) (paramsIn sheet) (numberIn sheet₀)
+    × (length sheet ≡ length sheet₀)
 
 abbrev μ-loop : tie.MeasureT-loop
-μ-loop s uses k binders b params₀ first names₀ types₀ i₀ params names types i = k - i
+μ-loop s uses k binders b sheet₀ first names₀ types₀ i₀ sheet names types i = k - i
 
 loop-holds : tie.Need-loop-holds Inv-loop μ-loop
-loop-holds c = (omega arith, record { names-least = omega arith; names-most = omega arith; types-least = omega arith; types-most = omega arith }, filled-none _ _ _ _ _)
+loop-holds c = (omega arith, record { names-least = omega arith; names-most = omega arith; types-least = omega arith; types-most = omega arith }, filled-none _ _ _ _ _, record { order = refl; rows = refl; params = refl; number = refl }, refl)
+
+read : tie.Need-shared-slice-read-x Inv-loop μ-loop
+read c = omega (arith, c .before .before .before .before .before .before .before .pre .1)
 
 enum-told : tie.Need-enum-told Inv-loop μ-loop
 enum-told c = search needs
@@ -27,9 +33,17 @@ returns : tie.Need-returns Inv-loop μ-loop
 unfolding Builds
 returns c =
     let l = c .before .before .before .before .before .before .loop in
-    let s = c .before .before .before .before .before .before .before .before .before .before .before in
-    filled-missing (l .inv .2) (omega (arith, s .pre .1)) (s .args .k) (c .before .before .before .before .before .loop-test .taken) (s .pre .1)
-    (rw (← (c .before .before .before .name-of-use .ensures)) (first-found (s .args .s .now) (s .args .binders .now) (c .before .before .before .name-of-use .result .now) 0 (s .args .b) ∙ (rw (← (c .before .before .find-binder .ensures), c .enum-told .given .1))))
+    let s = c .before .before .before .before .before .before .before .before .before .before .before in (
+      filled-missing (l .inv .2) (omega (arith, s .pre .1)) (s .args .k) (c .before .before .before .before .before .loop-test .taken) (s .pre .1)
+          (rw (← (c .before .before .before .name-of-use .ensures)) (first-found (s .args .s .now) (s .args .binders .now) (c .before .before .before .name-of-use .result .now) 0 (s .args .b) ∙ (rw (← (c .before .before .find-binder .ensures), c .enum-told .given .1)))),
+      l .inv .3,
+    )
+
+same-missing : tie.Need-same-length Inv-loop μ-loop
+same-missing c = c .before .before .before .before .before .before .loop .inv .4
+
+same-all : tie.Need-same-length-2 Inv-loop μ-loop
+same-all c = c .before .loop .inv .4
 
 enum-known : tie.Need-enum-known-found Inv-loop μ-loop
 enum-known c = search needs
@@ -46,19 +60,23 @@ more c = omega (arith, c .struct-known .given)
 loop-again : tie.Need-loop-again Inv-loop μ-loop
 loop-again c =
     let l = c .before .before .before .before .before .before .before .before .before .before .before .before .loop in
+    let w = l .inv .1 in
     let n = c .before .before .before .before .before .before .before .before .before .name-of-use in
     let f = c .before .before .before .before .before .before .before .before .find-binder in
+    let u = c .before .before .before .put-param .ensures in
     let d = c .before .before .before .before .before .before .found .given .0 .0 in
     let s = c .before .before .before .before .before .before .before .before .before .before .before .before .before .before .before .before .before in
     let e = sym (f .ensures) ∙ c .before .before .before .before .before .before .found .given .1 in
     let q = ap length (n .ensures) in
     let short = use-short _ _ (n .ensures) in
     let sized = found-sized _ _ _ 0 _ d e (λ j h. s .pre .4 j (omega arith)) in (
-      omega arith,
-      record { names-least = omega arith; names-most = omega arith; types-least = omega arith; types-most = omega (arith, c .struct-known .given) },
-      filled-more (l .inv .2) (omega (arith, s .pre .1)) d
+      omega (arith, c .before .before .before .before .before .before .before .before .before .before .before .loop-test .taken),
+      record { names-least = omega (arith, w .names-least); names-most = omega (arith, w .names-most); types-least = omega (arith, w .types-least); types-most = omega (arith, c .struct-known .given, w .types-most) },
+      filled-more (l .inv .2) (omega (arith, s .pre .1, c .before .before .before .before .before .before .before .before .before .before .before .loop-test .taken)) d
           (rw (← (n .ensures)) (first-found (s .args .s .now) (s .args .binders .now) (n .result .now) 0 (s .args .b) ∙ (rw e)))
-          (c .before .before .before .put-param .ensures) q,
+          (u .params) q,
+      record { order = u .order ∙ l .inv .3 .order; rows = u .rows ∙ l .inv .3 .rows; params = refl; number = u .number ∙ l .inv .3 .number },
+      c .before .before .sheet .given ∙ l .inv .4,
     )
 
 returns-2 : tie.Need-returns-2 Inv-loop μ-loop
@@ -66,7 +84,7 @@ unfolding Builds
 returns-2 c =
     let l = c .before .loop in
     let e : l .i ≡ c .before .before .before .before .before .before .args .k = omega arith in
-    (rw e at (l .inv .2), rw e at (l .inv .1))
+    ((rw e at (l .inv .2), rw e at (l .inv .1)), l .inv .3)
 
 pub build-param-defns-spec : {M : Type 1} → statement M
 build-param-defns-spec =
@@ -76,11 +94,11 @@ build-param-defns-spec =
     μ-loop
     loop-holds
     (λ c. omega arith)
-    (λ c. omega (arith, c .before .before .before .before .before .before .before .pre .1))
+    read
     (λ c κs. search needs)
     (λ c κs. search needs)
     enum-told
-    (λ c. search needs)
+    same-missing
     returns
     enum-known
     (λ c. omega arith)
@@ -92,5 +110,5 @@ build-param-defns-spec =
     (λ c. omega arith)
     (λ c. omega arith)
     loop-again
-    (λ c. search needs)
+    same-all
     returns-2)

@@ -1,8 +1,9 @@
 -- `lift::put_param` meets its contract.
 -- Assumes nothing.
-use mathlib.Core.Path.{refl}
+use mathlib.Core.Path.{refl, _∙_}
 use native.Mathlib.Omega.{arith}
 use borrow.Author.Needs.{needs}
+use Rattle.tables.specs.Parts.{paramsIn}
 use Rattle.tables.proofs.Params.{param-put}
 use Rattle.lift.proofs.put_param.Statement.{statement}
 use Rattle.lift.proofs.put_param.Tie as tie
@@ -11,8 +12,16 @@ returns : tie.Need-returns
 returns c =
     let s = c .before .before .before .before .before .before .before .before .before .before .before .before .before .before .before .before .before .before .before in
     let z = c .before .before .before .before .before .before .before .before .before .before .before .before .before .before .before .before .before .struct-known .given in
-    param-put (s .args .params .now) (s .args .i) _ _ _ _ _ _ (c .before .before .before .before .before .before .before .before .before .before .before .before .before .before .store .ensures) (c .before .before .before .before .before .before .before .before .before .before .store2 .ensures) (c .before .before .before .before .before .before .store3 .ensures) (c .before .before .store4 .ensures)
-    (omega arith) (omega (arith, z)) (omega (arith, z)) refl refl
+    let a = c .before .before .before .before .before .before .before .before .before .before .before .before .before .before .put-in-params .ensures in
+    let b = c .before .before .before .before .before .before .before .before .before .before .put-in-params2 .ensures in
+    let d = c .before .before .before .before .before .before .put-in-params3 .ensures in
+    let e = c .before .before .put-in-params4 .ensures in
+    record {
+      order = e .order ∙ d .order ∙ b .order ∙ a .order;
+      rows = e .rows ∙ d .rows ∙ b .rows ∙ a .rows;
+      params = param-put (paramsIn (s .args .sheet .now)) (s .args .i) _ _ _ _ _ _ (a .params) (b .params) (d .params) (e .params) (omega arith) (omega (arith, z)) (omega (arith, z)) refl refl;
+      number = e .number ∙ d .number ∙ b .number ∙ a .number;
+    }
 
 pub put-param-spec : {M : Type 1} → statement M
 put-param-spec =

@@ -1,6 +1,8 @@
 -- `lift::put_row` meets its contract.
 -- Assumes nothing.
+use mathlib.Core.Path.{_∙_}
 use borrow.Author.Needs.{needs}
+use Rattle.tables.specs.Parts.{rowsIn}
 use Rattle.lift.proofs.Rows.{row-put}
 use Rattle.lift.proofs.put_row.Statement.{statement}
 use Rattle.lift.proofs.put_row.Tie as tie
@@ -9,7 +11,17 @@ returns : tie.Need-returns
 returns c =
     let s = c .before .before .before .before .before .before .before .before .before .before .before .before .before .before .before .before .before .before .before .before .before in
     let p = s .pre in
-    row-put (s .args .rows .now) (s .args .i) _ _ _ _ _ (c .before .before .before .before .before .before .before .before .before .before .before .before .before .before .before .before .before .before .store .ensures) (c .before .before .before .before .before .before .before .before .before .before .before .before .before .before .store2 .ensures) (c .before .before .before .before .before .before .before .before .before .before .store3 .ensures) (c .before .before .before .before .before .before .store4 .ensures) (c .before .before .store5 .ensures) (p .1) (p .2) (p .3) (p .4) (p .5)
+    let a = c .before .before .before .before .before .before .before .before .before .before .before .before .before .before .before .before .before .before .put-in-rows .ensures in
+    let b = c .before .before .before .before .before .before .before .before .before .before .before .before .before .before .put-in-rows2 .ensures in
+    let d = c .before .before .before .before .before .before .before .before .before .before .put-in-rows3 .ensures in
+    let e = c .before .before .before .before .before .before .put-in-rows4 .ensures in
+    let f = c .before .before .put-in-rows5 .ensures in
+    record {
+      order = f .order ∙ e .order ∙ d .order ∙ b .order ∙ a .order;
+      rows = row-put (rowsIn (s .args .sheet .now)) (s .args .i) _ _ _ _ _ (a .rows) (b .rows) (d .rows) (e .rows) (f .rows) (p .1) (p .2) (p .3) (p .4) (p .5);
+      params = f .params ∙ e .params ∙ d .params ∙ b .params ∙ a .params;
+      number = f .number ∙ e .number ∙ d .number ∙ b .number ∙ a .number;
+    }
 
 pub put-row-spec : {M : Type 1} → statement M
 put-row-spec =

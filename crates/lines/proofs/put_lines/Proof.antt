@@ -3,10 +3,6 @@
 use borrow.Author.Needs.{needs}
 use Rattle.lines.proofs.put_lines.Statement.{statement}
 use Rattle.lines.proofs.put_lines.Tie as tie
-use Rattle.lines.proofs.put_lines.Reads as reads
-use Rattle.lines.proofs.put_lines.Lts as lts
-use Rattle.lines.proofs.put_listing.Reads as put-listing-reads
-use Rattle.lines.proofs.put_nested_listing.Reads as put-nested-listing-reads
 
 put-nested-listing-requires : tie.Need-put-nested-listing-requires
 put-nested-listing-requires c κs = search needs

@@ -7,10 +7,6 @@ use Rattle.beginning.proofs.Beginning.{all-bytes}
 use Rattle.lines.proofs.Whole.{tells}
 use Rattle.lines.proofs.put_listing.Statement.{statement}
 use Rattle.lines.proofs.put_listing.Tie as tie
-use Rattle.lines.proofs.put_listing.Reads as reads
-use Rattle.lines.proofs.put_listing.Lts as lts
-use Rattle.elaboration.proofs.elaborate.Reads as elaborate-reads
-use Rattle.answers.proofs.put_answer.Reads as put-answer-reads
 
 slice-aggregate-elaborate : tie.Need-slice-aggregate-elaborate
 slice-aggregate-elaborate c = search needs

@@ -7,10 +7,6 @@ use Rattle.beginning.proofs.Beginning.{all-bytes}
 use Rattle.lines.proofs.Whole.{tells-nested}
 use Rattle.lines.proofs.put_nested_listing.Statement.{statement}
 use Rattle.lines.proofs.put_nested_listing.Tie as tie
-use Rattle.lines.proofs.put_nested_listing.Reads as reads
-use Rattle.lines.proofs.put_nested_listing.Lts as lts
-use Rattle.nesting.proofs.elaborate_nested.Reads as elaborate-nested-reads
-use Rattle.answers.proofs.put_answer.Reads as put-answer-reads
 
 slice-aggregate-elaborate-nested : tie.Need-slice-aggregate-elaborate-nested
 slice-aggregate-elaborate-nested c = search needs

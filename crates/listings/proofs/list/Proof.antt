@@ -3,15 +3,6 @@ use lib.ListN.{length-take}
 use borrow.Author.Needs.{needs}
 use Rattle.listings.proofs.list.Statement.{statement}
 use Rattle.listings.proofs.list.Tie as tie
-use Rattle.listings.proofs.list.Reads as reads
-use Rattle.listings.proofs.list.Lts as lts
-use Rattle.io.proofs.large_buffer.Reads as large-buffer-reads
-use Rattle.io.proofs.read_full.Reads as read-full-reads
-use Rattle.io.proofs.write_all.Reads as write-all-reads
-use Rattle.libc.proofs.close.Reads as close-reads
-use Rattle.lines.proofs.put_lines.Reads as put-lines-reads
-use Rattle.os.proofs.fail.Reads as fail-reads
-use Rattle.os.proofs.open_read.Reads as open-read-reads
 
 open-read-requires : tie.Need-open-read-requires
 open-read-requires c κs = search needs

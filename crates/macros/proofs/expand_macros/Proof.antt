@@ -4,11 +4,6 @@ use Rattle.macros.proofs.Plain.{passed-plain}
 use borrow.Author.Needs.{needs}
 use Rattle.macros.proofs.expand_macros.Statement.{statement}
 use Rattle.macros.proofs.expand_macros.Tie as tie
-use Rattle.macros.proofs.expand_macros.Reads as reads
-use Rattle.macros.proofs.expand_macros.Lts as lts
-use Rattle.macros.proofs.expand_marked.Reads as expand-marked-reads
-use Rattle.kept.proofs.has_no_macros.Reads as has-no-macros-reads
-use Rattle.writer.proofs.put_bytes.Reads as put-bytes-reads
 
 has-no-macros-requires : tie.Need-has-no-macros-requires
 has-no-macros-requires c κs = search needs

@@ -7,13 +7,6 @@ use Rattle.macros.proofs.Passing.{passed-grown, passed-book}
 use borrow.Author.Needs.{needs}
 use Rattle.macros.proofs.expand_marked.Statement.{statement}
 use Rattle.macros.proofs.expand_marked.Tie as tie
-use Rattle.macros.proofs.expand_marked.Reads as reads
-use Rattle.macros.proofs.expand_marked.Lts as lts
-use Rattle.kept.proofs.count_kept.Reads as count-kept-reads
-use Rattle.macros.proofs.book.expand_all.Reads as expand-all-reads
-use Rattle.numbers.proofs.least.Reads as least-reads
-use Rattle.known.proofs.table.Reads as table-reads
-use Rattle.writer.proofs.put_u16.Reads as put-u16-reads
 
 slice-aggregate-table : tie.Need-slice-aggregate-table
 slice-aggregate-table c = search needs

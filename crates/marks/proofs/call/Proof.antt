@@ -4,11 +4,6 @@ use Rattle.marks.specs.Steps.{callAt}
 use borrow.Author.Needs.{needs}
 use Rattle.marks.proofs.call.Statement.{statement}
 use Rattle.marks.proofs.call.Tie as tie
-use Rattle.marks.proofs.call.Reads as reads
-use Rattle.marks.proofs.call.Lts as lts
-use Rattle.marks.proofs.mark.Reads as mark-reads
-use Rattle.seek.proofs.list_past.Reads as list-past-reads
-use Rattle.seek.proofs.name_past.Reads as name-past-reads
 
 name-past-requires : tie.Need-name-past-requires
 name-past-requires c κs = search needs

@@ -6,9 +6,6 @@ use Rattle.writer.proofs.Put.{take-least}
 use borrow.Author.Needs.{needs}
 use Rattle.marks.proofs.first_marks.Statement.{statement}
 use Rattle.marks.proofs.first_marks.Tie as tie
-use Rattle.marks.proofs.first_marks.Reads as reads
-use Rattle.marks.proofs.first_marks.Lts as lts
-use Rattle.numbers.proofs.least.Reads as least-reads
 
 least-requires : tie.Need-least-requires
 least-requires c κs = search needs

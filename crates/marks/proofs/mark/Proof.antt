@@ -4,9 +4,6 @@ use Rattle.marks.proofs.Marks.{marked}
 use borrow.Author.Needs.{needs}
 use Rattle.marks.proofs.mark.Statement.{statement}
 use Rattle.marks.proofs.mark.Tie as tie
-use Rattle.marks.proofs.mark.Reads as reads
-use Rattle.marks.proofs.mark.Lts as lts
-use Rattle.marks.proofs.put_mark.Reads as put-mark-reads
 
 cast-put-mark : tie.Need-cast-put-mark
 cast-put-mark c = search needs

@@ -5,8 +5,6 @@ use Rattle.writer.proofs.Wrote.{wrote-one, wrote-past}
 use borrow.Author.Needs.{needs}
 use Rattle.marks.proofs.put_mark.Statement.{statement}
 use Rattle.marks.proofs.put_mark.Tie as tie
-use Rattle.marks.proofs.put_mark.Reads as reads
-use Rattle.marks.proofs.put_mark.Lts as lts
 
 add-result : tie.Need-add-result
 add-result c = search needs

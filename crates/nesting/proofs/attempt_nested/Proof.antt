@@ -7,10 +7,6 @@ use native.Mathlib.Omega.{arith}
 use Rattle.nesting.proofs.Nesting.{opened-book, reports-code, reports-lifts}
 use Rattle.nesting.proofs.attempt_nested.Statement.{statement}
 use Rattle.nesting.proofs.attempt_nested.Tie as tie
-use Rattle.nesting.proofs.attempt_nested.Reads as reads
-use Rattle.nesting.proofs.attempt_nested.Lts as lts
-use Rattle.room.proofs.lift_book.Reads as lift-book-reads
-use Rattle.nesting.proofs.open_nested.Reads as open-nested-reads
 
 slice-aggregate-open-nested : tie.Need-slice-aggregate-open-nested
 slice-aggregate-open-nested c = search needs

@@ -6,10 +6,6 @@ use Rattle.nesting.proofs.Nesting.{answers-it, fills-it}
 use Rattle.zeroing.proofs.Zero.{all-zero}
 use Rattle.nesting.proofs.elaborate_nested.Statement.{statement}
 use Rattle.nesting.proofs.elaborate_nested.Tie as tie
-use Rattle.nesting.proofs.elaborate_nested.Reads as reads
-use Rattle.nesting.proofs.elaborate_nested.Lts as lts
-use Rattle.nesting.proofs.attempt_nested.Reads as attempt-nested-reads
-use Rattle.zeroing.proofs.zero_range.Reads as zero-range-reads
 
 attempt-nested-requires : tie.Need-attempt-nested-requires
 attempt-nested-requires c κs = search needs

@@ -9,10 +9,6 @@ use Rattle.nesting.proofs.Nesting.{areas-long, opens-code, opens-6, ope
 use borrow.Author.Needs.{needs}
 use Rattle.nesting.proofs.open_nested.Statement.{statement}
 use Rattle.nesting.proofs.open_nested.Tie as tie
-use Rattle.nesting.proofs.open_nested.Reads as reads
-use Rattle.nesting.proofs.open_nested.Lts as lts
-use Rattle.opening.proofs.open_book.Reads as open-book-reads
-use Rattle.passes.proofs.expand_again.Reads as expand-again-reads
 
 open-book-requires : tie.Need-open-book-requires
 open-book-requires c κs = search needs

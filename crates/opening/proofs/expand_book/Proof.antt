@@ -9,9 +9,6 @@ use Rattle.beginning.proofs.Beginning.{all-bytes}
 use Rattle.opening.proofs.Opening.{opens-6, opens-book}
 use Rattle.opening.proofs.expand_book.Statement.{statement}
 use Rattle.opening.proofs.expand_book.Tie as tie
-use Rattle.opening.proofs.expand_book.Reads as reads
-use Rattle.opening.proofs.expand_book.Lts as lts
-use Rattle.macros.proofs.expand_macros.Reads as expand-macros-reads
 
 slice-relend-prefix-expand-macros : tie.Need-slice-relend-prefix-expand-macros
 slice-relend-prefix-expand-macros c = omega (arith, c .before .before .before .pre .wide)

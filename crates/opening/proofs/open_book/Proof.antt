@@ -4,10 +4,6 @@ use borrow.Author.Needs.{needs}
 use Rattle.opening.proofs.Opening.{opens-refused}
 use Rattle.opening.proofs.open_book.Statement.{statement}
 use Rattle.opening.proofs.open_book.Tie as tie
-use Rattle.opening.proofs.open_book.Reads as reads
-use Rattle.opening.proofs.open_book.Lts as lts
-use Rattle.beginning.proofs.begin.Reads as begin-reads
-use Rattle.opening.proofs.expand_book.Reads as expand-book-reads
 
 begin-requires : tie.Need-begin-requires
 begin-requires c κs = search needs

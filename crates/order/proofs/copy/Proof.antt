@@ -8,8 +8,6 @@ use Rattle.writer.specs.Buf.{put, part}
 use Rattle.order.proofs.Tables.{copy-none, copy-step}
 use Rattle.order.proofs.copy.Statement.{statement}
 use Rattle.order.proofs.copy.Tie as tie
-use Rattle.order.proofs.copy.Reads as reads
-use Rattle.order.proofs.copy.Lts as lts
 
 abbrev Inv-loop : tie.InvT-loop
 Inv-loop src lo hi dst₀ i₀ dst i = (lo ≤ i) × (i ≤ hi) × (length dst ≡ length dst₀) × (dst ≡ put dst₀ lo (part lo i src))

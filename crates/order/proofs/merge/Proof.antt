@@ -6,9 +6,6 @@ use Rattle.definition.specs.Names.{before}
 use Rattle.order.proofs.Merging.{Merging, merging-all, merging-done, left-there, right-there, merge-left, merge-right}
 use Rattle.order.proofs.merge.Statement.{statement}
 use Rattle.order.proofs.merge.Tie as tie
-use Rattle.order.proofs.merge.Reads as reads
-use Rattle.order.proofs.merge.Lts as lts
-use Rattle.order.proofs.takes_left.Reads as takes-left-reads
 
 abbrev Inv-loop : tie.InvT-loop
 Inv-loop s src lo mid hi dst₀ i₀ j₀ k₀ dst i j k = Merging s src lo mid hi dst₀ i j k dst

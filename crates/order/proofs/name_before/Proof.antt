@@ -7,8 +7,6 @@ use Rattle.definition.specs.Names.{before}
 use Rattle.order.proofs.Tables.{before-on, before-not, before-longer, before-end}
 use Rattle.order.proofs.name_before.Statement.{statement}
 use Rattle.order.proofs.name_before.Tie as tie
-use Rattle.order.proofs.name_before.Reads as reads
-use Rattle.order.proofs.name_before.Lts as lts
 
 abbrev Inv-loop : tie.InvT-loop
 Inv-loop a b i₀ i = (i ≤ length a) × (before a b ≡ before (drop i a) (drop i b))

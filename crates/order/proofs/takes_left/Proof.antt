@@ -7,9 +7,6 @@ use Rattle.order.proofs.Merging.{left-none, left-only, left-not, left-y
 use borrow.Author.Needs.{needs}
 use Rattle.order.proofs.takes_left.Statement.{statement}
 use Rattle.order.proofs.takes_left.Tie as tie
-use Rattle.order.proofs.takes_left.Reads as reads
-use Rattle.order.proofs.takes_left.Lts as lts
-use Rattle.order.proofs.use_before.Reads as use-before-reads
 
 returns : tie.Need-returns
 returns c = rw (part-back (c .before .before .before .args .i) (c .before .before .before .args .mid) (c .before .before .before .args .src .now) (c .if1 .taken)) (left-none _ _)

@@ -2,10 +2,6 @@ use Rattle.definition.specs.Names.{before}
 use borrow.Author.Needs.{needs}
 use Rattle.order.proofs.use_before.Statement.{statement}
 use Rattle.order.proofs.use_before.Tie as tie
-use Rattle.order.proofs.use_before.Reads as reads
-use Rattle.order.proofs.use_before.Lts as lts
-use Rattle.uses.proofs.name_of_use.Reads as name-of-use-reads
-use Rattle.order.proofs.name_before.Reads as name-before-reads
 
 name-of-use-requires : tie.Need-name-of-use-requires
 name-of-use-requires c κs = search needs

@@ -6,9 +6,6 @@ use Rattle.definition.specs.Names.{before}
 use Rattle.params.proofs.Once.{drop-one, keep-one, Dropping, once-none, dropping-all, dropping-done}
 use Rattle.params.proofs.each_once.Statement.{statement}
 use Rattle.params.proofs.each_once.Tie as tie
-use Rattle.params.proofs.each_once.Reads as reads
-use Rattle.params.proofs.each_once.Lts as lts
-use Rattle.params.proofs.same_use.Reads as same-use-reads
 
 abbrev Inv-loop : tie.InvT-loop
 Inv-loop s uses₀ n last₀ m₀ i₀ uses last m i = Dropping s n uses₀ last m i uses

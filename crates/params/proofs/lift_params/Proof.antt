@@ -4,10 +4,6 @@ use Rattle.params.specs.Params.{paramsAt, sortedOr}
 use borrow.Author.Needs.{needs}
 use Rattle.params.proofs.lift_params.Statement.{statement}
 use Rattle.params.proofs.lift_params.Tie as tie
-use Rattle.params.proofs.lift_params.Reads as reads
-use Rattle.params.proofs.lift_params.Lts as lts
-use Rattle.collect.proofs.collect_params.Reads as collect-params-reads
-use Rattle.params.proofs.sorted_params.Reads as sorted-params-reads
 
 collect-params-requires : tie.Need-collect-params-requires
 collect-params-requires c κs = search needs

@@ -2,10 +2,6 @@ use Rattle.definition.specs.Names.{before}
 use borrow.Author.Needs.{needs}
 use Rattle.params.proofs.same_use.Statement.{statement}
 use Rattle.params.proofs.same_use.Tie as tie
-use Rattle.params.proofs.same_use.Reads as reads
-use Rattle.params.proofs.same_use.Lts as lts
-use Rattle.uses.proofs.name_of_use.Reads as name-of-use-reads
-use Rattle.lookup.proofs.same_name.Reads as same-name-reads
 
 name-of-use-requires : tie.Need-name-of-use-requires
 name-of-use-requires c κs = search needs

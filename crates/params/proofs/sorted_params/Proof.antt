@@ -2,11 +2,6 @@ use Rattle.params.proofs.Whole.{sorted-is}
 use borrow.Author.Needs.{needs}
 use Rattle.params.proofs.sorted_params.Statement.{statement}
 use Rattle.params.proofs.sorted_params.Tie as tie
-use Rattle.params.proofs.sorted_params.Reads as reads
-use Rattle.params.proofs.sorted_params.Lts as lts
-use Rattle.params.proofs.each_once.Reads as each-once-reads
-use Rattle.numbers.proofs.least.Reads as least-reads
-use Rattle.order.proofs.sort.Reads as sort-reads
 
 least-requires : tie.Need-least-requires
 least-requires c κs = search needs

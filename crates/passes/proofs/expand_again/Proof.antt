@@ -7,11 +7,6 @@ use Rattle.passes.proofs.Repeating.{Going, again-settled, again-left, a
 use borrow.Author.Needs.{needs}
 use Rattle.passes.proofs.expand_again.Statement.{statement}
 use Rattle.passes.proofs.expand_again.Tie as tie
-use Rattle.passes.proofs.expand_again.Reads as reads
-use Rattle.passes.proofs.expand_again.Lts as lts
-use Rattle.passes.proofs.first_bytes.Reads as first-bytes-reads
-use Rattle.passes.proofs.pass_back.Reads as pass-back-reads
-use Rattle.settled.proofs.settled.Reads as settled-reads
 
 abbrev Inv-loop : tie.InvT-loop
 Inv-loop macros book₀ len areas₀ next₀ n₀ left₀ book areas next n left = (length book ≡ length book₀) × (length areas ≡ length areas₀) × (length next ≡ length next₀) × Going macros book₀ len 15 (length areas₀) (length next₀) book n left

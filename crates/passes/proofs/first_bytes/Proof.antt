@@ -6,9 +6,6 @@ use Rattle.writer.proofs.Put.{take-least}
 use borrow.Author.Needs.{needs}
 use Rattle.passes.proofs.first_bytes.Statement.{statement}
 use Rattle.passes.proofs.first_bytes.Tie as tie
-use Rattle.passes.proofs.first_bytes.Reads as reads
-use Rattle.passes.proofs.first_bytes.Lts as lts
-use Rattle.numbers.proofs.least.Reads as least-reads
 
 least-requires : tie.Need-least-requires
 least-requires c κs = search needs

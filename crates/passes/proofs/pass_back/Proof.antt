@@ -4,11 +4,6 @@ use Rattle.passes.proofs.Repeating.{back-grown, back-book}
 use borrow.Author.Needs.{needs}
 use Rattle.passes.proofs.pass_back.Statement.{statement}
 use Rattle.passes.proofs.pass_back.Tie as tie
-use Rattle.passes.proofs.pass_back.Reads as reads
-use Rattle.passes.proofs.pass_back.Lts as lts
-use Rattle.macros.proofs.expand_macros.Reads as expand-macros-reads
-use Rattle.passes.proofs.first_bytes.Reads as first-bytes-reads
-use Rattle.writer.proofs.put_part.Reads as put-part-reads
 
 first-bytes-requires : tie.Need-first-bytes-requires
 first-bytes-requires c κs = search needs

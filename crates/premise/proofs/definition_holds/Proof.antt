@@ -4,9 +4,6 @@ use borrow.Author.Needs.{needs}
 use Rattle.bodies.proofs.Tested.{definition-format, definition-other}
 use Rattle.premise.proofs.definition_holds.Statement.{statement}
 use Rattle.premise.proofs.definition_holds.Tie as tie
-use Rattle.premise.proofs.definition_holds.Reads as reads
-use Rattle.premise.proofs.definition_holds.Lts as lts
-use Rattle.premise.proofs.format_holds.Reads as format-holds-reads
 
 format-holds-requires : tie.Need-format-holds-requires
 format-holds-requires c κs = c .before .before .before .before .before .before .pre

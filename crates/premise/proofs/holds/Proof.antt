@@ -6,10 +6,6 @@ use lib.ListN.{length-replicate}
 use Prim.Native.Nat.{ℕ}
 use Rattle.premise.proofs.holds.Statement.{statement}
 use Rattle.premise.proofs.holds.Tie as tie
-use Rattle.premise.proofs.holds.Reads as reads
-use Rattle.premise.proofs.holds.Lts as lts
-use Rattle.premise.proofs.bodies_hold.Reads as bodies-hold-reads
-use Rattle.called.proofs.take_names.Reads as take-names-reads
 
 slice-aggregate-take-names : tie.Need-slice-aggregate-take-names
 slice-aggregate-take-names c = search needs

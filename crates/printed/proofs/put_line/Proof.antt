@@ -5,16 +5,6 @@ use Rattle.writer.proofs.Wrote.{glue}
 use Rattle.printed.proofs.Lines.{line-order, line-const, line-none, line-format}
 use Rattle.printed.proofs.put_line.Statement.{statement}
 use Rattle.printed.proofs.put_line.Tie as tie
-use Rattle.printed.proofs.put_line.Reads as reads
-use Rattle.printed.proofs.put_line.Lts as lts
-use Rattle.shown.proofs.put_count.Reads as put-count-reads
-use Rattle.shown.proofs.put_shown.Reads as put-shown-reads
-use Rattle.printed.proofs.put_word.Reads as put-word-reads
-use Rattle.lookup.proofs.name_at.Reads as name-at-reads
-use Rattle.seek.proofs.name_past.Reads as name-past-reads
-use Rattle.seek.proofs.number.Reads as number-reads
-use Rattle.writer.proofs.put_byte.Reads as put-byte-reads
-use Rattle.writer.proofs.put_bytes.Reads as put-bytes-reads
 
 slice-aggregate-put-bytes : tie.Need-slice-aggregate-put-bytes
 slice-aggregate-put-bytes c = search needs

@@ -4,12 +4,6 @@ use borrow.Author.Needs.{needs}
 use Rattle.printed.proofs.Lines.{lists}
 use Rattle.printed.proofs.put_result.Statement.{statement}
 use Rattle.printed.proofs.put_result.Tie as tie
-use Rattle.printed.proofs.put_result.Reads as reads
-use Rattle.printed.proofs.put_result.Lts as lts
-use Rattle.numbers.proofs.minus.Reads as minus-reads
-use Rattle.shown.proofs.put_count.Reads as put-count-reads
-use Rattle.printed.proofs.put_lines.Reads as put-lines-reads
-use Rattle.writer.proofs.put_bytes.Reads as put-bytes-reads
 
 slice-aggregate-put-bytes : tie.Need-slice-aggregate-put-bytes
 slice-aggregate-put-bytes c = search needs

@@ -5,9 +5,6 @@ use Rattle.printed.specs.Lines.{wordOf}
 use Rattle.printed.proofs.Lines.{word-format}
 use Rattle.printed.proofs.put_word.Statement.{statement}
 use Rattle.printed.proofs.put_word.Tie as tie
-use Rattle.printed.proofs.put_word.Reads as reads
-use Rattle.printed.proofs.put_word.Lts as lts
-use Rattle.writer.proofs.put_bytes.Reads as put-bytes-reads
 
 slice-aggregate-put-bytes : tie.Need-slice-aggregate-put-bytes
 slice-aggregate-put-bytes c = search needs

@@ -5,9 +5,6 @@ use Rattle.reader.proofs.Judge.{out-of-book, back-to-front, body-fails,
 use borrow.Author.Needs.{needs}
 use Rattle.reader.proofs.body.Statement.{statement}
 use Rattle.reader.proofs.body.Tie as tie
-use Rattle.reader.proofs.body.Reads as reads
-use Rattle.reader.proofs.body.Lts as lts
-use Rattle.reader.proofs.definition.Reads as definition-reads
 
 returns : tie.Need-returns
 returns c = out-of-book _ _ _ _ (c .if1 .taken)

@@ -3,10 +3,6 @@ use Rattle.rows.proofs.Bind.{then, fails, made, walked}
 use borrow.Author.Needs.{needs}
 use Rattle.reader.proofs.constant.Statement.{statement}
 use Rattle.reader.proofs.constant.Tie as tie
-use Rattle.reader.proofs.constant.Reads as reads
-use Rattle.reader.proofs.constant.Lts as lts
-use Rattle.cursor.proofs.Cursor.name.Reads as name-reads
-use Rattle.cursor.proofs.Cursor.text.Reads as text-reads
 
 name-requires : tie.Need-name-requires
 name-requires c κs = search needs

@@ -6,12 +6,6 @@ use Rattle.reader.proofs.Judge.{a-kind, no-such-kind}
 use borrow.Author.Needs.{needs}
 use Rattle.reader.proofs.definition.Statement.{statement}
 use Rattle.reader.proofs.definition.Tie as tie
-use Rattle.reader.proofs.definition.Reads as reads
-use Rattle.reader.proofs.definition.Lts as lts
-use Rattle.cursor.proofs.Cursor.text.Reads as text-reads
-use Rattle.reader.proofs.constant.Reads as constant-reads
-use Rattle.reader.proofs.format.Reads as format-reads
-use Rattle.reader.proofs.macro_body.Reads as macro-body-reads
 
 format-requires : tie.Need-format-requires
 format-requires c κs = search needs

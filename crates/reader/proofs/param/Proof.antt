@@ -4,10 +4,6 @@ use Rattle.reader.proofs.OneParam.{no-param-name, a-param}
 use borrow.Author.Needs.{needs}
 use Rattle.reader.proofs.param.Statement.{statement}
 use Rattle.reader.proofs.param.Tie as tie
-use Rattle.reader.proofs.param.Reads as reads
-use Rattle.reader.proofs.param.Lts as lts
-use Rattle.cursor.proofs.Cursor.name.Reads as name-reads
-use Rattle.combinator.proofs.inner.Reads as inner-reads
 
 name-requires : tie.Need-name-requires
 name-requires c κs = search needs

@@ -8,10 +8,6 @@ use Rattle.rows.proofs.Bind.{then-got, fails-none}
 use Rattle.rows.proofs.Rows.{Reaches, one-more, no-more, none-left}
 use Rattle.reader.proofs.params.Statement.{statement}
 use Rattle.reader.proofs.params.Tie as tie
-use Rattle.reader.proofs.params.Reads as reads
-use Rattle.reader.proofs.params.Lts as lts
-use Rattle.cursor.proofs.Cursor.u16.Reads as u16-reads
-use Rattle.reader.proofs.param.Reads as param-reads
 
 abbrev Inv-loop : tie.InvT-loop
 Inv-loop s n left₀ here₀ left here = Reaches (params) s left₀ here₀ left here

@@ -1,15 +1,10 @@
 -- `refusal::put_refusal` meets its contract.
 -- Assumes nothing.
 use borrow.Author.Needs.{needs}
-use Rattle.writer.proofs.Wrote.{glue, same-length as kept-length}
+use Rattle.writer.proofs.Wrote.{glue}
 use Rattle.refusal.specs.Refusal.{refusal}
 use Rattle.refusal.proofs.put_refusal.Statement.{statement}
 use Rattle.refusal.proofs.put_refusal.Tie as tie
-use Rattle.refusal.proofs.put_refusal.Reads as reads
-use Rattle.refusal.proofs.put_refusal.Lts as lts
-use Rattle.shown.proofs.put_count.Reads as put-count-reads
-use Rattle.writer.proofs.put_byte.Reads as put-byte-reads
-use Rattle.writer.proofs.put_bytes.Reads as put-bytes-reads
 
 slice-aggregate-put-bytes : tie.Need-slice-aggregate-put-bytes
 slice-aggregate-put-bytes c = search needs

@@ -6,12 +6,6 @@ use Rattle.replaced.proofs.Opening.{called-grown, called-done}
 use borrow.Author.Needs.{needs}
 use Rattle.replaced.proofs.expand_call.Statement.{statement}
 use Rattle.replaced.proofs.expand_call.Tie as tie
-use Rattle.replaced.proofs.expand_call.Reads as reads
-use Rattle.replaced.proofs.expand_call.Lts as lts
-use Rattle.replaced.proofs.opened.Reads as opened-reads
-use Rattle.instance.proofs.pairs.Reads as pairs-reads
-use Rattle.instance.proofs.instance.Reads as instance-reads
-use Rattle.writer.proofs.put_part.Reads as put-part-reads
 
 opened-requires : tie.Need-opened-requires
 opened-requires c κs = search needs

@@ -5,13 +5,6 @@ use Rattle.replaced.proofs.Opening as opening
 use borrow.Author.Needs.{needs}
 use Rattle.replaced.proofs.opened.Statement.{statement}
 use Rattle.replaced.proofs.opened.Tie as tie
-use Rattle.replaced.proofs.opened.Reads as reads
-use Rattle.replaced.proofs.opened.Lts as lts
-use Rattle.seek.proofs.name_past.Reads as name-past-reads
-use Rattle.seek.proofs.names_past.Reads as names-past-reads
-use Rattle.seek.proofs.number.Reads as number-reads
-use Rattle.seek.proofs.past.Reads as past-reads
-use Rattle.writer.proofs.put_part.Reads as put-part-reads
 
 name-past-requires : tie.Need-name-past-requires
 name-past-requires c κs = search needs

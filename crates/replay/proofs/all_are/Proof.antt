@@ -3,8 +3,6 @@ use lib.ListN.{length}
 use borrow.Author.Needs.{needs}
 use Rattle.replay.proofs.all_are.Statement.{statement}
 use Rattle.replay.proofs.all_are.Tie as tie
-use Rattle.replay.proofs.all_are.Reads as reads
-use Rattle.replay.proofs.all_are.Lts as lts
 
 abbrev Inv-loop : tie.InvT-loop
 Inv-loop s b i₀ i = i ≤ length s

@@ -2,9 +2,6 @@ use Prim.Native.Nat.{_≤_, _-_}
 use borrow.Author.Needs.{needs}
 use Rattle.replay.proofs.print_all.Statement.{statement}
 use Rattle.replay.proofs.print_all.Tie as tie
-use Rattle.replay.proofs.print_all.Reads as reads
-use Rattle.replay.proofs.print_all.Lts as lts
-use Rattle.replay.proofs.print.Reads as print-reads
 
 abbrev Inv-loop : tie.InvT-loop
 Inv-loop what last t code₀ code = code ≤ 16

@@ -1,7 +1,7 @@
 -- `result::put_kept` meets its contract.
 -- Assumes nothing.
-use Rattle.invocation.proofs.Rest.{wrote-as}
-use Rattle.result.proofs.Steps.{kept-is}
+use Rattle.writer.proofs.Rest.{wrote-as}
+use Rattle.result.proofs.Adds.{kept-is}
 use borrow.Author.Needs.{needs}
 use Rattle.result.proofs.put_kept.Statement.{statement}
 use Rattle.result.proofs.put_kept.Tie as tie

@@ -1,7 +1,7 @@
 -- `room::lift_book` meets its contract.
 -- Assumes nothing.
 use borrow.Author.Needs.{needs}
-use Rattle.room.proofs.Copying.{told-flat}
+use Rattle.unlifted.proofs.Copying.{told-flat}
 use Rattle.room.proofs.lift_book.Statement.{statement}
 use Rattle.room.proofs.lift_book.Tie as tie
 

@@ -4,7 +4,7 @@ use mathlib.Core.Path.{refl}
 use native.Mathlib.Omega.{arith}
 use borrow.Author.Needs.{needs}
 use Rattle.room.proofs.Tables.{lent}
-use Rattle.closing.proofs.Lifting.{expanded-short}
+use Rattle.report.proofs.Reporting.{expanded-short}
 use Rattle.room.proofs.lift_long.Statement.{statement}
 use Rattle.room.proofs.lift_long.Tie as tie
 

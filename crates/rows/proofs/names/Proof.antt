@@ -9,10 +9,6 @@ use Rattle.rows.proofs.Bind.{then-got, fails-none}
 use Rattle.rows.proofs.Rows.{Reaches, one-more, no-more, none-left, a-name}
 use Rattle.rows.proofs.names.Statement.{statement}
 use Rattle.rows.proofs.names.Tie as tie
-use Rattle.rows.proofs.names.Reads as reads
-use Rattle.rows.proofs.names.Lts as lts
-use Rattle.cursor.proofs.Cursor.name.Reads as name-reads
-use Rattle.cursor.proofs.Cursor.u16.Reads as u16-reads
 
 abbrev Inv-loop : tie.InvT-loop
 Inv-loop s dots n left₀ here₀ left here = Reaches (namesBy (tested dots)) s left₀ here₀ left here

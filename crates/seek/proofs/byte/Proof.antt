@@ -6,8 +6,6 @@ use Rattle.seek.proofs.Laws.{byte-out}
 use borrow.Author.Needs.{needs}
 use Rattle.seek.proofs.byte.Statement.{statement}
 use Rattle.seek.proofs.byte.Tie as tie
-use Rattle.seek.proofs.byte.Reads as reads
-use Rattle.seek.proofs.byte.Lts as lts
 
 shared-slice-read-result : tie.Need-shared-slice-read-result
 shared-slice-read-result c = search needs

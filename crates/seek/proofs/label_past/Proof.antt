@@ -5,10 +5,6 @@ use Rattle.seek.specs.At.{labelPast}
 use borrow.Author.Needs.{needs}
 use Rattle.seek.proofs.label_past.Statement.{statement}
 use Rattle.seek.proofs.label_past.Tie as tie
-use Rattle.seek.proofs.label_past.Reads as reads
-use Rattle.seek.proofs.label_past.Lts as lts
-use Rattle.seek.proofs.name_past.Reads as name-past-reads
-use Rattle.seek.proofs.text_past.Reads as text-past-reads
 
 name-past-requires : tie.Need-name-past-requires
 name-past-requires c κs = search needs

@@ -4,10 +4,6 @@ use Rattle.seek.specs.At.{lengthPast}
 use borrow.Author.Needs.{needs}
 use Rattle.seek.proofs.length_past.Statement.{statement}
 use Rattle.seek.proofs.length_past.Tie as tie
-use Rattle.seek.proofs.length_past.Reads as reads
-use Rattle.seek.proofs.length_past.Lts as lts
-use Rattle.seek.proofs.list_past.Reads as list-past-reads
-use Rattle.seek.proofs.text_past.Reads as text-past-reads
 
 list-past-requires : tie.Need-list-past-requires
 list-past-requires c κs = search needs

@@ -4,11 +4,6 @@ use Rattle.seek.specs.At.{listPast}
 use borrow.Author.Needs.{needs}
 use Rattle.seek.proofs.list_past.Statement.{statement}
 use Rattle.seek.proofs.list_past.Tie as tie
-use Rattle.seek.proofs.list_past.Reads as reads
-use Rattle.seek.proofs.list_past.Lts as lts
-use Rattle.seek.proofs.names_past.Reads as names-past-reads
-use Rattle.seek.proofs.number.Reads as number-reads
-use Rattle.seek.proofs.past.Reads as past-reads
 
 number-requires : tie.Need-number-requires
 number-requires c κs = search needs

@@ -7,9 +7,6 @@ use Rattle.seek.specs.At.{namesPast}
 use Rattle.seek.proofs.Laws.{more, done}
 use Rattle.seek.proofs.names_past.Statement.{statement}
 use Rattle.seek.proofs.names_past.Tie as tie
-use Rattle.seek.proofs.names_past.Reads as reads
-use Rattle.seek.proofs.names_past.Lts as lts
-use Rattle.seek.proofs.name_past.Reads as name-past-reads
 
 abbrev Inv-loop : tie.InvT-loop
 Inv-loop s at count left₀ here₀ left here = namesPast s left₀ here₀ ≡ namesPast s left here

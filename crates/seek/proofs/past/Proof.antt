@@ -5,8 +5,6 @@ use Rattle.seek.specs.At.{pastAt}
 use borrow.Author.Needs.{needs}
 use Rattle.seek.proofs.past.Statement.{statement}
 use Rattle.seek.proofs.past.Tie as tie
-use Rattle.seek.proofs.past.Reads as reads
-use Rattle.seek.proofs.past.Lts as lts
 
 returns : tie.Need-returns
 unfolding pastAt

@@ -5,11 +5,6 @@ use Rattle.seek.specs.At.{selectorPast}
 use borrow.Author.Needs.{needs}
 use Rattle.seek.proofs.selector_past.Statement.{statement}
 use Rattle.seek.proofs.selector_past.Tie as tie
-use Rattle.seek.proofs.selector_past.Reads as reads
-use Rattle.seek.proofs.selector_past.Lts as lts
-use Rattle.seek.proofs.byte.Reads as byte-reads
-use Rattle.seek.proofs.name_past.Reads as name-past-reads
-use Rattle.seek.proofs.past.Reads as past-reads
 
 byte-requires : tie.Need-byte-requires
 byte-requires c κs = search needs

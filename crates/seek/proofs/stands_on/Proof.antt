@@ -4,8 +4,6 @@ use borrow.Author.Tests.{eq-eqb, ne-eqb}
 use Rattle.seek.specs.At.{standsOn}
 use Rattle.seek.proofs.stands_on.Statement.{statement}
 use Rattle.seek.proofs.stands_on.Tie as tie
-use Rattle.seek.proofs.stands_on.Reads as reads
-use Rattle.seek.proofs.stands_on.Lts as lts
 
 returns : tie.Need-returns
 unfolding standsOn

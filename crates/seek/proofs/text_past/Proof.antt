@@ -4,10 +4,6 @@ use Rattle.seek.specs.At.{textPast}
 use borrow.Author.Needs.{needs}
 use Rattle.seek.proofs.text_past.Statement.{statement}
 use Rattle.seek.proofs.text_past.Tie as tie
-use Rattle.seek.proofs.text_past.Reads as reads
-use Rattle.seek.proofs.text_past.Lts as lts
-use Rattle.seek.proofs.number.Reads as number-reads
-use Rattle.seek.proofs.past.Reads as past-reads
 
 number-requires : tie.Need-number-requires
 number-requires c κs = search needs

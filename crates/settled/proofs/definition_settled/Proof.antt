@@ -4,9 +4,6 @@ use Rattle.settled.proofs.Settling.{definition-settles, other-settles}
 use borrow.Author.Needs.{needs}
 use Rattle.settled.proofs.definition_settled.Statement.{statement}
 use Rattle.settled.proofs.definition_settled.Tie as tie
-use Rattle.settled.proofs.definition_settled.Reads as reads
-use Rattle.settled.proofs.definition_settled.Lts as lts
-use Rattle.settled.proofs.format_settled.Reads as format-settled-reads
 
 format-settled-requires : tie.Need-format-settled-requires
 format-settled-requires c κs = search needs

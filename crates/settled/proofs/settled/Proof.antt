@@ -6,10 +6,6 @@ use Rattle.settled.proofs.Settling.{book-settles}
 use borrow.Author.Needs.{needs}
 use Rattle.settled.proofs.settled.Statement.{statement}
 use Rattle.settled.proofs.settled.Tie as tie
-use Rattle.settled.proofs.settled.Reads as reads
-use Rattle.settled.proofs.settled.Lts as lts
-use Rattle.known.proofs.table.Reads as table-reads
-use Rattle.settled.proofs.bodies_settled.Reads as bodies-settled-reads
 
 slice-aggregate-table : tie.Need-slice-aggregate-table
 slice-aggregate-table c = search needs

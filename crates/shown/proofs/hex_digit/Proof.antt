@@ -1,12 +1,10 @@
 -- `shown::hex_digit` meets its contract.
 -- Assumes nothing.
 use borrow.Author.Needs.{needs}
-use borrow.Author.Tests.{lt-ltb, le-ltb, lt-leb, le-leb}
+use borrow.Author.Tests.{lt-ltb, le-ltb}
 use Rattle.definition.specs.Listing.{hex}
 use Rattle.shown.proofs.hex_digit.Statement.{statement}
 use Rattle.shown.proofs.hex_digit.Tie as tie
-use Rattle.shown.proofs.hex_digit.Reads as reads
-use Rattle.shown.proofs.hex_digit.Lts as lts
 
 add-result : tie.Need-add-result
 add-result c = search needs

@@ -4,8 +4,6 @@ use borrow.Author.Needs.{needs}
 use Rattle.shown.proofs.Shown.{no-dash, one-dash}
 use Rattle.shown.proofs.is_dash.Statement.{statement}
 use Rattle.shown.proofs.is_dash.Tie as tie
-use Rattle.shown.proofs.is_dash.Reads as reads
-use Rattle.shown.proofs.is_dash.Lts as lts
 
 returns : tie.Need-returns
 returns c = no-dash _ (c .if1 .taken)

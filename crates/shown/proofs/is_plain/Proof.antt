@@ -1,11 +1,9 @@
 -- `shown::is_plain` meets its contract.
 -- Assumes nothing.
 use borrow.Author.Needs.{needs}
-use borrow.Author.Tests.{lt-ltb, le-ltb, lt-leb, le-leb}
+use borrow.Author.Tests.{lt-leb, le-leb}
 use Rattle.shown.proofs.is_plain.Statement.{statement}
 use Rattle.shown.proofs.is_plain.Tie as tie
-use Rattle.shown.proofs.is_plain.Reads as reads
-use Rattle.shown.proofs.is_plain.Lts as lts
 
 returns : tie.Need-returns
 returns c = rw (lt-leb _ _ (c .if1 .taken))

@@ -1,14 +1,10 @@
 -- `shown::put_count` meets its contract.
 -- Assumes nothing.
 use borrow.Author.Needs.{needs}
-use Rattle.writer.proofs.Wrote.{glue, same-length as kept-length}
+use Rattle.writer.proofs.Wrote.{glue}
 use Rattle.definition.specs.Listing.{count}
 use Rattle.shown.proofs.put_count.Statement.{statement}
 use Rattle.shown.proofs.put_count.Tie as tie
-use Rattle.shown.proofs.put_count.Reads as reads
-use Rattle.shown.proofs.put_count.Lts as lts
-use Rattle.segments.proofs.put_decimal.Reads as put-decimal-reads
-use Rattle.writer.proofs.put_byte.Reads as put-byte-reads
 
 put-byte-requires : tie.Need-put-byte-requires
 put-byte-requires c κs = search needs

@@ -1,7 +1,7 @@
 -- `shown::put_shown` meets its contract.
 -- Assumes nothing.
 use borrow.Author.Needs.{needs}
-use Rattle.writer.proofs.Wrote.{glue, same-length as kept-length}
+use Rattle.writer.proofs.Wrote.{same-length as kept-length}
 use native.Mathlib.Omega.{arith}
 use mathlib.Core.Path.{_≡_, refl, sym, _∙_}
 use Prim.Native.Nat.{_≤_, _-_}
@@ -9,11 +9,6 @@ use lib.ListN.{length}
 use Rattle.shown.proofs.Shown.{shown-none, shown-dash, Goes, goes-start, goes-on, goes-whole}
 use Rattle.shown.proofs.put_shown.Statement.{statement}
 use Rattle.shown.proofs.put_shown.Tie as tie
-use Rattle.shown.proofs.put_shown.Reads as reads
-use Rattle.shown.proofs.put_shown.Lts as lts
-use Rattle.shown.proofs.is_dash.Reads as is-dash-reads
-use Rattle.shown.proofs.put_shown_byte.Reads as put-shown-byte-reads
-use Rattle.writer.proofs.put_bytes.Reads as put-bytes-reads
 
 abbrev Inv-loop : tie.InvT-loop
 Inv-loop name out₀ at o₀ i₀ out o i = (length out ≡ length out₀) × ((1 ≤ i) × ((i ≤ length name) × Goes name out₀ o₀ i out o))

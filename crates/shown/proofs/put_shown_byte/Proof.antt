@@ -1,16 +1,11 @@
 -- `shown::put_shown_byte` meets its contract.
 -- Assumes nothing.
 use borrow.Author.Needs.{needs}
-use Rattle.writer.proofs.Wrote.{glue, same-length as kept-length}
+use Rattle.writer.proofs.Wrote.{glue}
 use mathlib.Core.Path.{sym, _∙_}
 use Rattle.definition.specs.Listing.{shownByte}
 use Rattle.shown.proofs.put_shown_byte.Statement.{statement}
 use Rattle.shown.proofs.put_shown_byte.Tie as tie
-use Rattle.shown.proofs.put_shown_byte.Reads as reads
-use Rattle.shown.proofs.put_shown_byte.Lts as lts
-use Rattle.shown.proofs.hex_digit.Reads as hex-digit-reads
-use Rattle.shown.proofs.is_plain.Reads as is-plain-reads
-use Rattle.writer.proofs.put_byte.Reads as put-byte-reads
 
 is-plain-requires : tie.Need-is-plain-requires
 is-plain-requires c κs = search needs

@@ -4,17 +4,12 @@ use mathlib.Core.Path.{_≡_, refl}
 use mathlib.Core.List.{List}
 use Prim.Native.Nat.{ℕ, _+_}
 use lib.ListN.{length}
-use Rattle.marks.specs.declared.Walk.{Walk}
-use Rattle.marks.specs.Steps.{silent, back}
+use Rattle.walk.specs.declared.Walk.{Walk}
+use Rattle.walk.specs.Steps.{silent, back}
 use Rattle.calls.specs.Walk.{innerAt, skipAt}
 use borrow.Author.Needs.{needs}
 use Rattle.skip.proofs.skip_inner.Statement.{statement}
 use Rattle.skip.proofs.skip_inner.Tie as tie
-use Rattle.skip.proofs.skip_inner.Reads as reads
-use Rattle.skip.proofs.skip_inner.Lts as lts
-use Rattle.marks.proofs.back.Reads as back-reads
-use Rattle.calls.proofs.inner.Reads as inner-reads
-use Rattle.marks.proofs.silent.Reads as silent-reads
 
 add-silent : tie.Need-add-silent
 add-silent c = search needs

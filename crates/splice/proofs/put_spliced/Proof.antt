@@ -8,7 +8,7 @@ use lib.ListN.{length, getD}
 use Rattle.writer.specs.Buf.{part}
 use Rattle.writer.proofs.Wrote.{same-length as wrote-long}
 use Rattle.splice.specs.Model.{tables, onFrom, spliced}
-use Rattle.invocation.proofs.Rest.{wrote-as, Rest, rest-all, rest-on, rest-same}
+use Rattle.writer.proofs.Rest.{wrote-as, Rest, rest-all, rest-on, rest-same}
 use Rattle.splice.proofs.Steps.{gap-next, gap-call, gap-end, spliced-is}
 use Rattle.ahead.proofs.Next.{next-is}
 use borrow.Author.Needs.{needs}

@@ -5,7 +5,8 @@ use Prim.Native.Nat.{_≤_}
 use native.Mathlib.Omega.{arith}
 use lib.ListN.{length}
 use borrow.Author.Needs.{needs}
-use Rattle.start.proofs.Rows.{Back, book-short, back-none, back-entry, back-room, back-step, back-all}
+use Rattle.report.proofs.Reporting.{expanded-short}
+use Rattle.start.proofs.Rows.{Back, back-none, back-entry, back-room, back-step, back-all}
 use Rattle.start.proofs.take_at_start.Statement.{statement}
 use Rattle.start.proofs.take_at_start.Tie as tie
 
@@ -28,7 +29,7 @@ take-entry-requires c κs =
     let i = c .before .before .before .before .before .loop .inv in
     let k = c .before .before .before .before .loop-test .taken in
     let r = back-room (i .4) k (p .0) in
-    (rw (c .before .before .before .past .ensures) (back-entry (i .4) k (p .0)), book-short (p .0), omega (arith, p .1, i .0), omega (arith, p .2, i .1), omega (arith, p .3, i .2))
+    (rw (c .before .before .before .past .ensures) (back-entry (i .4) k (p .0)), expanded-short (p .0), omega (arith, p .1, i .0), omega (arith, p .2, i .1), omega (arith, p .3, i .2))
 
 loop-again : tie.Need-loop-again Inv-loop μ-loop
 loop-again c =

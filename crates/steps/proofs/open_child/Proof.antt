@@ -9,94 +9,85 @@ use Rattle.steps.proofs.open_child.Statement.{statement}
 use Rattle.steps.proofs.open_child.Tie as tie
 
 end-of-requires : tie.Need-end-of-requires
-end-of-requires c κs = let p = c .before .before .before .before .before .before .before .before .before .before .before .before .before .before .pre in (p .6, stood (omega (arith, p .0 .source)) (p .1))
+end-of-requires c κs = let p = c .before .before .before .before .before .before .before .before .before .before .before .before .pre in (p .6, stood (omega (arith, p .0 .source)) (p .1))
 
 past-requires : tie.Need-combinator-past-requires
-past-requires c κs = let p = c .before .before .before .before .before .before .before .before .before .before .before .before .before .before .before .pre in (p .6, follows (omega (arith, p .0 .source)) (p .1) (c .end-of .ensures))
+past-requires c κs = let p = c .before .before .before .before .before .before .before .before .before .before .before .before .before .pre in (p .6, follows (omega (arith, p .0 .source)) (p .1) (c .end-of .ensures))
 
 lift-requires : tie.Need-lift-anonymous-combinator-requires
 lift-requires c κs =
-    let p = c .before .before .before .before .before .before .before .before .before .before .before .before .before .before .before .before .before .before .before .before .before .before .before .before .before .before .before .before .before .before .pre in
+    let p = c .before .before .before .before .before .before .before .before .before .before .before .before .before .before .before .before .before .before .before .before .before .before .before .before .before .before .pre in
     let w = p .1 in
-    (p .0, record { what = w .what; whole = whole-of (w .what) (p .0 .source) (w .stands) (w .deep) (end-past _ _ (c .before .before .before .before .before .before .before .before .before .before .before .before .before .before .before .end-of .ensures) (c .before .before .before .before .before .before .before .before .before .before .before .before .before .before .combinator-past .ensures)) }, p .2, p .3, p .4, p .5)
+    (p .0, record { what = w .what; whole = whole-of (w .what) (p .0 .source) (w .stands) (w .deep) (end-past _ _ (c .before .before .before .before .before .before .before .before .before .before .before .before .before .end-of .ensures) (c .before .before .before .before .before .before .before .before .before .before .before .before .combinator-past .ensures)) }, p .2, p .3, p .4, p .5)
 
 same-1 : tie.Need-same-length
-same-1 c = c .before .before .before .before .before .before .before .before .before .before .before .before .before .before .before .before .before .before .before .before .before .before .before .before .path .given
+same-1 c = c .before .before .before .before .before .before .before .before .before .before .before .before .before .before .before .before .before .before .before .before .path .given
 
 same-2 : tie.Need-same-length-2
-same-2 c = c .before .before .before .before .before .before .before .before .before .before .before .before .before .before .before .before .before .before .before .before .before .before .bound .given
+same-2 c = c .before .before .before .before .before .before .before .before .before .before .before .before .before .before .before .before .before .before .bound .given
 
 same-3 : tie.Need-same-length-3
-same-3 c = c .before .before .before .before .before .before .before .before .before .before .before .before .before .before .before .before .before .before .before .before .uses .given
+same-3 c = c .before .before .before .before .before .before .before .before .before .before .before .before .before .before .before .before .uses .given
 
 same-4 : tie.Need-same-length-4
-same-4 c = c .before .before .before .before .before .before .before .before .before .before .before .before .before .before .before .before .before .before .spare .given
+same-4 c = c .before .before .before .before .before .before .before .before .before .before .before .before .before .before .spare .given
 
 same-5 : tie.Need-same-length-5
-same-5 c = c .before .before .before .before .before .before .before .before .before .before .before .before .before .before .before .before .made .given
+same-5 c = c .before .before .before .before .before .before .before .before .before .before .before .before .made .given
 
 same-6 : tie.Need-same-length-6
-same-6 c = c .before .before .before .before .before .before .before .before .before .before .before .before .before .before .places .given
+same-6 c = c .before .before .before .before .before .before .before .before .before .before .places .given
 
 same-7 : tie.Need-same-length-7
-same-7 c = c .before .before .before .before .before .before .before .before .before .before .before .before .hashes .given
+same-7 c = c .before .before .before .before .before .before .before .before .hashes .given
 
 same-8 : tie.Need-same-length-8
-same-8 c = c .before .before .before .before .before .before .before .before .before .before .hints .given
+same-8 c = c .before .before .before .before .before .before .hints .given
 
 same-9 : tie.Need-same-length-9
-same-9 c = c .before .before .before .before .before .before .before .before .rows .given
-
-same-10 : tie.Need-same-length-10
-same-10 c = c .before .before .before .before .before .before .params .given
-
-same-11 : tie.Need-same-length-11
-same-11 c = c .before .before .before .before .number .given
+same-9 c = c .before .before .before .before .sheet .given
 
 returns : tie.Need-returns
-returns c = child-refused (c .before .before .before .before .before .before .before .before .before .before .before .before .before .before .before .before .before .before .before .before .before .before .before .before .before .before .before .before .before .before .before .before .before .before .before .before .before .before .before .before .before .before .before .before .before .before .before .before .before .before .before .before .before .before .before .before .pre .0 .source) (end-past _ _ (c .before .before .before .before .before .before .before .before .before .before .before .before .before .before .before .before .before .before .before .before .before .before .before .before .before .before .before .before .before .before .before .before .before .before .before .before .before .before .before .before .before .end-of .ensures) (c .before .before .before .before .before .before .before .before .before .before .before .before .before .before .before .before .before .before .before .before .before .before .before .before .before .before .before .before .before .before .before .before .before .before .before .before .before .before .before .before .combinator-past .ensures)) (sym (c .before .before .before .before .before .before .before .before .before .before .before .before .before .before .before .before .before .before .before .before .before .before .before .before .before .before .before .before .before .before .before .before .before .before .before .before .before .before .before .contains-anonymous-format .ensures) ∙ c .before .before .before .before .before .before .before .before .before .before .before .before .before .before .before .before .before .before .before .before .before .before .before .before .before .before .before .before .before .before .before .before .before .before .before .before .before .before .if1 .taken) (c .before .before .before .before .before .before .before .before .before .before .before .before .before .before .before .before .before .before .before .before .before .before .before .before .before .lift-anonymous-combinator .ensures) _ (c .before .named .given .1)
+returns c = (child-refused (c .before .before .before .before .before .before .before .before .before .before .before .before .before .before .before .before .before .before .before .before .before .before .before .before .before .before .before .before .before .before .before .before .before .before .before .before .before .before .before .before .before .before .before .before .before .before .before .before .pre .0 .source) (end-past _ _ (c .before .before .before .before .before .before .before .before .before .before .before .before .before .before .before .before .before .before .before .before .before .before .before .before .before .before .before .before .before .before .before .before .before .before .before .end-of .ensures) (c .before .before .before .before .before .before .before .before .before .before .before .before .before .before .before .before .before .before .before .before .before .before .before .before .before .before .before .before .before .before .before .before .before .before .combinator-past .ensures)) (sym (c .before .before .before .before .before .before .before .before .before .before .before .before .before .before .before .before .before .before .before .before .before .before .before .before .before .before .before .before .before .before .before .before .before .contains-anonymous-format .ensures) ∙ c .before .before .before .before .before .before .before .before .before .before .before .before .before .before .before .before .before .before .before .before .before .before .before .before .before .before .before .before .before .before .before .before .if1 .taken) (c .before .before .before .before .before .before .before .before .before .before .before .before .before .before .before .before .before .before .before .before .before .lift-anonymous-combinator .ensures .0) _ (c .before .named .given .1), c .before .before .before .before .before .before .before .before .before .before .before .before .before .before .before .before .before .before .before .before .before .lift-anonymous-combinator .ensures .1)
 
 open-node-requires : tie.Need-open-node-requires
-open-node-requires c κs = c .before .before .before .before .before .before .before .before .before .before .before .before .before .before .before .before .before .before .before .before .before .before .before .before .before .before .before .before .before .before .before .before .before .before .before .before .before .before .before .before .before .end-of .ensures
+open-node-requires c κs = c .before .before .before .before .before .before .before .before .before .before .before .before .before .before .before .before .before .before .before .before .before .before .before .before .before .before .before .before .before .before .before .before .before .before .before .end-of .ensures
+
+same-10 : tie.Need-same-length-10
+same-10 c = c .before .before .before .before .before .before .before .before .before .before .before .before .before .before .before .before .before .before .before .before .before .path .given
+
+same-11 : tie.Need-same-length-11
+same-11 c = c .before .before .before .before .before .before .before .before .before .before .before .before .before .before .before .before .before .before .before .bound .given
 
 same-12 : tie.Need-same-length-12
-same-12 c = c .before .before .before .before .before .before .before .before .before .before .before .before .before .before .before .before .before .before .before .before .before .before .before .before .before .path .given
+same-12 c = c .before .before .before .before .before .before .before .before .before .before .before .before .before .before .before .before .before .uses .given
 
 same-13 : tie.Need-same-length-13
-same-13 c = c .before .before .before .before .before .before .before .before .before .before .before .before .before .before .before .before .before .before .before .before .before .before .before .bound .given
+same-13 c = c .before .before .before .before .before .before .before .before .before .before .before .before .before .before .before .spare .given
 
 same-14 : tie.Need-same-length-14
-same-14 c = c .before .before .before .before .before .before .before .before .before .before .before .before .before .before .before .before .before .before .before .before .before .uses .given
+same-14 c = c .before .before .before .before .before .before .before .before .before .before .before .before .before .made .given
 
 same-15 : tie.Need-same-length-15
-same-15 c = c .before .before .before .before .before .before .before .before .before .before .before .before .before .before .before .before .before .before .before .spare .given
+same-15 c = c .before .before .before .before .before .before .before .before .before .before .before .places .given
 
 same-16 : tie.Need-same-length-16
-same-16 c = c .before .before .before .before .before .before .before .before .before .before .before .before .before .before .before .before .before .made .given
+same-16 c = c .before .before .before .before .before .before .before .before .before .hashes .given
 
 same-17 : tie.Need-same-length-17
-same-17 c = c .before .before .before .before .before .before .before .before .before .before .before .before .before .before .before .places .given
+same-17 c = c .before .before .before .before .before .before .before .hints .given
 
 same-18 : tie.Need-same-length-18
-same-18 c = c .before .before .before .before .before .before .before .before .before .before .before .before .before .hashes .given
-
-same-19 : tie.Need-same-length-19
-same-19 c = c .before .before .before .before .before .before .before .before .before .before .before .hints .given
-
-same-20 : tie.Need-same-length-20
-same-20 c = c .before .before .before .before .before .before .before .before .before .rows .given
-
-same-21 : tie.Need-same-length-21
-same-21 c = c .before .before .before .before .before .before .before .params .given
-
-same-22 : tie.Need-same-length-22
-same-22 c = c .before .before .before .before .before .number .given
+same-18 c = c .before .before .before .before .before .sheet .given
 
 returns-2 : tie.Need-returns-2
-returns-2 c = child-lifted (c .before .before .before .before .before .before .before .before .before .before .before .before .before .before .before .before .before .before .before .before .before .before .before .before .before .before .before .before .before .before .before .before .before .before .before .before .before .before .before .before .before .before .before .before .before .before .before .before .before .before .before .before .before .before .before .before .before .pre .0 .source) (end-past _ _ (c .before .before .before .before .before .before .before .before .before .before .before .before .before .before .before .before .before .before .before .before .before .before .before .before .before .before .before .before .before .before .before .before .before .before .before .before .before .before .before .before .before .before .end-of .ensures) (c .before .before .before .before .before .before .before .before .before .before .before .before .before .before .before .before .before .before .before .before .before .before .before .before .before .before .before .before .before .before .before .before .before .before .before .before .before .before .before .before .before .combinator-past .ensures)) (sym (c .before .before .before .before .before .before .before .before .before .before .before .before .before .before .before .before .before .before .before .before .before .before .before .before .before .before .before .before .before .before .before .before .before .before .before .before .before .before .before .before .contains-anonymous-format .ensures) ∙ c .before .before .before .before .before .before .before .before .before .before .before .before .before .before .before .before .before .before .before .before .before .before .before .before .before .before .before .before .before .before .before .before .before .before .before .before .before .before .before .if1 .taken) (c .before .before .before .before .before .before .before .before .before .before .before .before .before .before .before .before .before .before .before .before .before .before .before .before .before .before .lift-anonymous-combinator .ensures) (c .before .before .named2 .given .1) refl (c .open-node .ensures) (c .before .before .before .before .before .before .before .before .before .before .before .before .before .before .before .before .before .before .before .before .before .before .before .before .before .path .given)
+returns-2 c = (child-lifted (c .before .before .before .before .before .before .before .before .before .before .before .before .before .before .before .before .before .before .before .before .before .before .before .before .before .before .before .before .before .before .before .before .before .before .before .before .before .before .before .before .before .before .before .before .before .before .before .before .before .pre .0 .source) (end-past _ _ (c .before .before .before .before .before .before .before .before .before .before .before .before .before .before .before .before .before .before .before .before .before .before .before .before .before .before .before .before .before .before .before .before .before .before .before .before .end-of .ensures) (c .before .before .before .before .before .before .before .before .before .before .before .before .before .before .before .before .before .before .before .before .before .before .before .before .before .before .before .before .before .before .before .before .before .before .before .combinator-past .ensures)) (sym (c .before .before .before .before .before .before .before .before .before .before .before .before .before .before .before .before .before .before .before .before .before .before .before .before .before .before .before .before .before .before .before .before .before .before .contains-anonymous-format .ensures) ∙ c .before .before .before .before .before .before .before .before .before .before .before .before .before .before .before .before .before .before .before .before .before .before .before .before .before .before .before .before .before .before .before .before .before .if1 .taken) (c .before .before .before .before .before .before .before .before .before .before .before .before .before .before .before .before .before .before .before .before .before .before .lift-anonymous-combinator .ensures .0) (c .before .before .named2 .given .1) refl (c .open-node .ensures) (c .before .before .before .before .before .before .before .before .before .before .before .before .before .before .before .before .before .before .before .before .before .path .given), c .before .before .before .before .before .before .before .before .before .before .before .before .before .before .before .before .before .before .before .before .before .before .lift-anonymous-combinator .ensures .1)
+
+open-node-requires-2 : tie.Need-open-node-requires-2
+open-node-requires-2 c κs = c .before .before .before .end-of .ensures
 
 returns-3 : tie.Need-returns-3
-returns-3 c = child-walked (c .before .before .before .before .before .before .before .before .before .before .before .before .before .before .before .before .before .before .before .pre .0 .source) (end-past _ _ (c .before .before .before .before .end-of .ensures) (c .before .before .before .combinator-past .ensures)) (sym (c .before .before .contains-anonymous-format .ensures) ∙ c .before .if1 .left) (c .open-node2 .ensures)
+returns-3 c = (child-walked (c .before .before .before .before .before .before .before .before .before .before .before .before .before .before .before .before .before .pre .0 .source) (end-past _ _ (c .before .before .before .before .end-of .ensures) (c .before .before .before .combinator-past .ensures)) (sym (c .before .before .contains-anonymous-format .ensures) ∙ c .before .if1 .left) (c .open-node2 .ensures), refl)
 
 pub open-child-spec : {M : Type 1} → statement M
 open-child-spec =
@@ -117,11 +108,11 @@ open-child-spec =
     same-7
     same-8
     same-9
-    same-10
-    same-11
     returns
     (λ c. search needs)
     open-node-requires
+    same-10
+    same-11
     same-12
     same-13
     same-14
@@ -129,10 +120,6 @@ open-child-spec =
     same-16
     same-17
     same-18
-    same-19
-    same-20
-    same-21
-    same-22
     returns-2
-    (λ c κs. c .before .before .before .end-of .ensures)
+    open-node-requires-2
     returns-3)

@@ -5,9 +5,6 @@ use Rattle.writer.proofs.Put.{part-short, part-clip}
 use borrow.Author.Needs.{needs}
 use Rattle.substitution.proofs.between.Statement.{statement}
 use Rattle.substitution.proofs.between.Tie as tie
-use Rattle.substitution.proofs.between.Reads as reads
-use Rattle.substitution.proofs.between.Lts as lts
-use Rattle.numbers.proofs.least.Reads as least-reads
 
 least-requires : tie.Need-least-requires
 least-requires c κs = search needs

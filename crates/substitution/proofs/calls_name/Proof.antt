@@ -5,12 +5,6 @@ use Rattle.substitution.specs.Substituted.{callsName}
 use borrow.Author.Needs.{needs}
 use Rattle.substitution.proofs.calls_name.Statement.{statement}
 use Rattle.substitution.proofs.calls_name.Tie as tie
-use Rattle.substitution.proofs.calls_name.Reads as reads
-use Rattle.substitution.proofs.calls_name.Lts as lts
-use Rattle.lookup.proofs.name_at.Reads as name-at-reads
-use Rattle.lookup.proofs.same_name.Reads as same-name-reads
-use Rattle.seek.proofs.byte.Reads as byte-reads
-use Rattle.seek.proofs.past.Reads as past-reads
 
 byte-requires : tie.Need-byte-requires
 byte-requires c κs = search needs

@@ -7,13 +7,6 @@ use Rattle.substitution.proofs.Turns.{turned-cut, turned-whole}
 use borrow.Author.Needs.{needs}
 use Rattle.substitution.proofs.substitute_next.Statement.{statement}
 use Rattle.substitution.proofs.substitute_next.Tie as tie
-use Rattle.substitution.proofs.substitute_next.Reads as reads
-use Rattle.substitution.proofs.substitute_next.Lts as lts
-use Rattle.lookup.proofs.name_at.Reads as name-at-reads
-use Rattle.substitution.proofs.between.Reads as between-reads
-use Rattle.marks.proofs.first_marks.Reads as first-marks-reads
-use Rattle.substitution.proofs.substitute_in_combinator.Reads as substitute-in-combinator-reads
-use Rattle.seek.proofs.name_past.Reads as name-past-reads
 
 skip-over-requires : tie.Need-skip-over-requires
 skip-over-requires c κs = search needs

@@ -5,10 +5,6 @@ use Rattle.zeroing.proofs.Zero.{all-zero}
 use mathlib.Core.Path.{refl}
 use Rattle.tested.proofs.premise.Statement.{statement}
 use Rattle.tested.proofs.premise.Tie as tie
-use Rattle.tested.proofs.premise.Reads as reads
-use Rattle.tested.proofs.premise.Lts as lts
-use Rattle.tested.proofs.test.Reads as test-reads
-use Rattle.zeroing.proofs.zero_range.Reads as zero-range-reads
 
 test-requires : tie.Need-test-requires
 test-requires c κs = search needs

@@ -7,10 +7,6 @@ use Rattle.tested.proofs.Telling.{tells-code, tells-yes, tells-no}
 use native.Mathlib.Omega.{arith}
 use Rattle.tested.proofs.test.Statement.{statement}
 use Rattle.tested.proofs.test.Tie as tie
-use Rattle.tested.proofs.test.Reads as reads
-use Rattle.tested.proofs.test.Lts as lts
-use Rattle.opening.proofs.open_book.Reads as open-book-reads
-use Rattle.premise.proofs.holds.Reads as holds-reads
 
 slice-aggregate-open-book : tie.Need-slice-aggregate-open-book
 slice-aggregate-open-book c = search needs

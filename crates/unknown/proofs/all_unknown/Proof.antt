@@ -8,9 +8,6 @@ use native.Mathlib.Omega.{arith}
 use borrow.Author.Needs.{needs}
 use Rattle.unknown.proofs.all_unknown.Statement.{statement}
 use Rattle.unknown.proofs.all_unknown.Tie as tie
-use Rattle.unknown.proofs.all_unknown.Reads as reads
-use Rattle.unknown.proofs.all_unknown.Lts as lts
-use Rattle.unknown.proofs.is_unknown.Reads as is-unknown-reads
 
 abbrev Inv-loop : tie.InvT-loop
 Inv-loop macros places hashes rows book marks i₀ i = (i ≤ length marks) × Marked macros places hashes rows book marks i
@@ -21,29 +18,11 @@ abbrev μ-loop : tie.MeasureT-loop
 loop-holds : tie.Need-loop-holds Inv-loop μ-loop
 loop-holds c = (omega arith, marked-all)
 
-add-loop : tie.Need-add-loop Inv-loop μ-loop
-add-loop c = search needs
-
-mul-call : tie.Need-mul-call Inv-loop μ-loop
-mul-call c = search needs
-
-shared-slice-read-call : tie.Need-shared-slice-read-call Inv-loop μ-loop
-shared-slice-read-call c = search needs
-
 cast-call : tie.Need-cast-call Inv-loop μ-loop
 cast-call c = omega (arith, c .shared-slice-known6 .given (c .before .before .loop .i))
 
-add-i : tie.Need-add-i Inv-loop μ-loop
-add-i c = search needs
-
-is-unknown-requires : tie.Need-is-unknown-requires Inv-loop μ-loop
-is-unknown-requires c κs = search needs
-
 returns : tie.Need-returns Inv-loop μ-loop
 returns c = marked-stop (c .before .before .before .before .loop .inv .1) (c .before .before .before .loop-test .taken) (c .before .is-unknown .ensures) (not-true _ (c .if1 .taken))
-
-loop-less : tie.Need-loop-less Inv-loop μ-loop
-loop-less c = search needs
 
 loop-again : tie.Need-loop-again Inv-loop μ-loop
 loop-again c = (omega arith, marked-next (c .before .before .before .before .loop .inv .1) (c .before .before .before .loop-test .taken) (c .before .is-unknown .ensures) (not-false _ (c .if1 .left)))
@@ -52,19 +31,4 @@ returns-2 : tie.Need-returns-2 Inv-loop μ-loop
 returns-2 c = marked-end (c .before .loop .inv .1) (omega arith)
 
 pub all-unknown-spec : {M : Type 1} → statement M
-all-unknown-spec =
-    tie.close
-    (tie.spec
-    Inv-loop
-    μ-loop
-    loop-holds
-    add-loop
-    mul-call
-    shared-slice-read-call
-    cast-call
-    add-i
-    is-unknown-requires
-    returns
-    loop-less
-    loop-again
-    returns-2)
+all-unknown-spec = tie.close (tie.spec Inv-loop μ-loop loop-holds (λ c. search needs) (λ c. search needs) (λ c. search needs) cast-call (λ c. search needs) (λ c κs. search needs) returns (λ c. search needs) loop-again returns-2)

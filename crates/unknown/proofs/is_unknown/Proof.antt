@@ -4,12 +4,6 @@ use Rattle.unknown.proofs.Calls.{other-unknown, macro-known, macro-unkn
 use borrow.Author.Needs.{needs}
 use Rattle.unknown.proofs.is_unknown.Statement.{statement}
 use Rattle.unknown.proofs.is_unknown.Tie as tie
-use Rattle.unknown.proofs.is_unknown.Reads as reads
-use Rattle.unknown.proofs.is_unknown.Lts as lts
-use Rattle.lookup.proofs.name_at.Reads as name-at-reads
-use Rattle.known.proofs.find_macro.Reads as find-macro-reads
-use Rattle.seek.proofs.byte.Reads as byte-reads
-use Rattle.seek.proofs.past.Reads as past-reads
 
 byte-requires : tie.Need-byte-requires
 byte-requires c κs = search needs

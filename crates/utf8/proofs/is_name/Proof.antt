@@ -1,13 +1,9 @@
 use mathlib.Core.Path.{sym, _∙_}
 use Rattle.definition.specs.Read.{dotted, undotted}
-use Rattle.utf8.proofs.Characters.{not-name}
+use Rattle.utf8.proofs.Dots.{not-name}
 use borrow.Author.Needs.{needs}
 use Rattle.utf8.proofs.is_name.Statement.{statement}
 use Rattle.utf8.proofs.is_name.Tie as tie
-use Rattle.utf8.proofs.is_name.Reads as reads
-use Rattle.utf8.proofs.is_name.Lts as lts
-use Rattle.utf8.proofs.no_dot.Reads as no-dot-reads
-use Rattle.utf8.proofs.utf8.Reads as utf8-reads
 
 utf8-requires : tie.Need-utf8-requires
 utf8-requires c κs = search needs

@@ -3,11 +3,9 @@ use Prim.Native.Nat.{_-_, _≤_}
 use mathlib.Core.Path.{_≡_, refl, sym, _∙_}
 use lib.ListN.{length, drop}
 use Rattle.definition.specs.Read.{noDot}
-use Rattle.utf8.proofs.Characters.{d-end, d-dot, d-next}
+use Rattle.utf8.proofs.Dots.{d-end, d-dot, d-next}
 use Rattle.utf8.proofs.no_dot.Statement.{statement}
 use Rattle.utf8.proofs.no_dot.Tie as tie
-use Rattle.utf8.proofs.no_dot.Reads as reads
-use Rattle.utf8.proofs.no_dot.Lts as lts
 
 abbrev Inv-loop : tie.InvT-loop
 Inv-loop t i₀ i = (i ≤ length t) × (noDot t ≡ noDot (drop i t))

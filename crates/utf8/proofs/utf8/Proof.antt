@@ -4,13 +4,11 @@ use mathlib.Core.Path.{_≡_, refl, sym, _∙_}
 use mathlib.Core.List.{[]}
 use lib.ListN.{length, drop, drop-of-length-le}
 use Rattle.definition.specs.Utf8.{characters, wellFormed}
-use Rattle.utf8.specs.Ranges.{ranges, rangesBy}
-use Rattle.utf8.proofs.Characters.{c-end, at-next}
+use Rattle.characters.specs.Ranges.{ranges, rangesBy}
+use Rattle.characters.proofs.Characters.{c-end}
+use Rattle.utf8.proofs.Dots.{at-next}
 use Rattle.utf8.proofs.utf8.Statement.{statement}
 use Rattle.utf8.proofs.utf8.Tie as tie
-use Rattle.utf8.proofs.utf8.Reads as reads
-use Rattle.utf8.proofs.utf8.Lts as lts
-use Rattle.utf8.proofs.next.Reads as next-reads
 
 abbrev Inv-loop : tie.InvT-loop
 Inv-loop t state₀ i₀ state i = (i ≤ length t) × (characters [] t ≡ characters (ranges state) (drop i t))

@@ -5,9 +5,6 @@ use borrow.Author.Tests.{lt-ltb, le-ltb}
 use borrow.Author.Needs.{needs}
 use Rattle.words.proofs.mode_of.Statement.{statement}
 use Rattle.words.proofs.mode_of.Tie as tie
-use Rattle.words.proofs.mode_of.Reads as reads
-use Rattle.words.proofs.mode_of.Lts as lts
-use Rattle.lookup.proofs.same_name.Reads as same-name-reads
 
 returns : tie.Need-returns
 returns c = rw (lt-ltb _ 2 (c .if1 .taken))

@@ -4,9 +4,6 @@ use Rattle.cursor.proofs.Laws.{a-none, a-low, a-high, a-in}
 use borrow.Author.Needs.{needs}
 use Rattle.cursor.proofs.Cursor.among.Statement.{statement}
 use Rattle.cursor.proofs.Cursor.among.Tie as tie
-use Rattle.cursor.proofs.Cursor.among.Reads as reads
-use Rattle.cursor.proofs.Cursor.among.Lts as lts
-use Rattle.cursor.proofs.Cursor.byte.Reads as byte-reads
 
 byte-requires : tie.Need-byte-requires
 byte-requires c κs = search needs

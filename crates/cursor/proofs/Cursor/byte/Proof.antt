@@ -2,8 +2,6 @@ use Rattle.cursor.proofs.Laws.{number-laws}
 use borrow.Author.Needs.{needs}
 use Rattle.cursor.proofs.Cursor.byte.Statement.{statement}
 use Rattle.cursor.proofs.Cursor.byte.Tie as tie
-use Rattle.cursor.proofs.Cursor.byte.Reads as reads
-use Rattle.cursor.proofs.Cursor.byte.Lts as lts
 
 returns : tie.Need-returns
 returns c = search number-laws

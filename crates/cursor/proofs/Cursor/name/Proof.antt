@@ -4,10 +4,6 @@ use Rattle.cursor.proofs.Laws.{name-laws, m-yes, m-no}
 use borrow.Author.Needs.{needs}
 use Rattle.cursor.proofs.Cursor.name.Statement.{statement}
 use Rattle.cursor.proofs.Cursor.name.Tie as tie
-use Rattle.cursor.proofs.Cursor.name.Reads as reads
-use Rattle.cursor.proofs.Cursor.name.Lts as lts
-use Rattle.utf8.proofs.is_name.Reads as is-name-reads
-use Rattle.cursor.proofs.wide.Reads as wide-reads
 
 returns : tie.Need-returns
 returns c = search name-laws

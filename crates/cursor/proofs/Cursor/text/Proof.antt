@@ -6,9 +6,6 @@ use Rattle.cursor.proofs.Lists.{u16-two}
 use borrow.Author.Needs.{needs}
 use Rattle.cursor.proofs.Cursor.text.Statement.{statement}
 use Rattle.cursor.proofs.Cursor.text.Tie as tie
-use Rattle.cursor.proofs.Cursor.text.Reads as reads
-use Rattle.cursor.proofs.Cursor.text.Lts as lts
-use Rattle.cursor.proofs.Cursor.u16.Reads as u16-reads
 
 u16-requires : tie.Need-u16-requires
 u16-requires c κs = search needs

@@ -2,9 +2,6 @@ use Rattle.cursor.proofs.Laws.{number-laws}
 use borrow.Author.Needs.{needs}
 use Rattle.cursor.proofs.Cursor.u16.Statement.{statement}
 use Rattle.cursor.proofs.Cursor.u16.Tie as tie
-use Rattle.cursor.proofs.Cursor.u16.Reads as reads
-use Rattle.cursor.proofs.Cursor.u16.Lts as lts
-use Rattle.cursor.proofs.wide.Reads as wide-reads
 
 returns : tie.Need-returns
 returns c = search number-laws

@@ -6,12 +6,6 @@ use native.Mathlib.Omega.{arith}
 use Rattle.macros.proofs.Leftover.{Going, listing-none, listing-macro, listing-stop, listing-step, booked}
 use Rattle.macros.proofs.book.expand_all.Statement.{statement}
 use Rattle.macros.proofs.book.expand_all.Tie as tie
-use Rattle.macros.proofs.book.expand_all.Reads as reads
-use Rattle.macros.proofs.book.expand_all.Lts as lts
-use Rattle.macros.proofs.book.expand_definition.Reads as expand-definition-reads
-use Rattle.seek.proofs.byte.Reads as byte-reads
-use Rattle.seek.proofs.number.Reads as number-reads
-use Rattle.seek.proofs.past.Reads as past-reads
 
 abbrev Inv-loop : tie.InvT-loop
 Inv-loop macros places hashes rows book areas₀ marks₀ row₀ out₀ bodies left₀ entry₀ at₀ e₀ o₀ areas marks row out left entry at e o =
@@ -21,47 +15,8 @@ abbrev μ-loop : tie.MeasureT-loop
 μ-loop macros places hashes rows book areas₀ marks₀ row₀ out₀ bodies left₀ entry₀ at₀ e₀ o₀ areas marks row out left entry at e o =
     left
 
-number-requires : tie.Need-number-requires Inv-loop μ-loop
-number-requires c κs = search needs
-
-cast-left : tie.Need-cast-left Inv-loop μ-loop
-cast-left c = search needs
-
-past-requires : tie.Need-past-requires Inv-loop μ-loop
-past-requires c κs = search needs
-
-mul-past : tie.Need-mul-past Inv-loop μ-loop
-mul-past c = search needs
-
-past-requires-2 : tie.Need-past-requires-2 Inv-loop μ-loop
-past-requires-2 c κs = search needs
-
 loop-holds : tie.Need-loop-holds Inv-loop μ-loop
 loop-holds c = record { areas-long = refl; marks-long = refl; row-long = refl; out-long = refl; goes = λ d r l. l }
-
-byte-requires : tie.Need-byte-requires Inv-loop μ-loop
-byte-requires c κs = search needs
-
-past-requires-3 : tie.Need-past-requires-3 Inv-loop μ-loop
-past-requires-3 c κs = search needs
-
-number-requires-2 : tie.Need-number-requires-2 Inv-loop μ-loop
-number-requires-2 c κs = search needs
-
-cast-size : tie.Need-cast-size Inv-loop μ-loop
-cast-size c = search needs
-
-past-requires-4 : tie.Need-past-requires-4 Inv-loop μ-loop
-past-requires-4 c κs = search needs
-
-past-requires-5 : tie.Need-past-requires-5 Inv-loop μ-loop
-past-requires-5 c κs = search needs
-
-sub-left : tie.Need-sub-left Inv-loop μ-loop
-sub-left c = search needs
-
-loop-less : tie.Need-loop-less Inv-loop μ-loop
-loop-less c = search needs
 
 loop-again : tie.Need-loop-again Inv-loop μ-loop
 loop-again c =
@@ -73,9 +28,6 @@ loop-again c =
       out-long = l .out-long;
       goes = λ d r x. l .goes d r (listing-macro (c .before .before .before .before .before .before .loop-test .taken) (c .before .before .before .before .before .byte .ensures) (c .before .before .before .number2 .ensures ∙ rw (c .before .before .before .before .past3 .ensures)) (c .before .before .past4 .ensures) (c .before .past5 .ensures) (c .if1 .taken) x);
     }
-
-expand-definition-requires : tie.Need-expand-definition-requires Inv-loop μ-loop
-expand-definition-requires c κs = search needs
 
 same-length : tie.Need-same-length Inv-loop μ-loop
 same-length c = c .before .before .before .before .before .before .before .before .areas .given ∙ c .before .before .before .before .before .before .before .before .before .before .before .before .before .before .before .before .before .before .before .before .before .loop .inv .areas-long
@@ -94,9 +46,6 @@ returns c =
     booked (c .before .before .before .before .before .before .before .before .before .before .before .before .before .before .before .before .before .before .before .before .before .before .before .before .number .ensures) (c .before .before .before .before .before .before .before .before .before .before .before .before .before .before .before .before .before .before .before .before .before .before .before .past .ensures) (c .before .before .before .before .before .before .before .before .before .before .before .before .before .before .before .before .before .before .before .before .before .before .past2 .ensures)
     (c .before .before .before .before .before .before .before .before .before .before .before .before .before .before .before .before .before .before .before .before .before .loop .inv .goes _ _
     (listing-stop (c .before .before .before .before .before .before .before .before .before .before .before .before .before .before .before .before .before .before .before .before .loop-test .taken) (c .before .before .before .before .before .before .before .before .before .before .before .before .before .before .before .before .before .before .before .byte .ensures) (c .before .before .before .before .before .before .before .before .before .before .before .before .before .before .before .before .before .number2 .ensures ∙ rw (c .before .before .before .before .before .before .before .before .before .before .before .before .before .before .before .before .before .before .past3 .ensures)) (c .before .before .before .before .before .before .before .before .before .before .before .before .before .before .before .before .past4 .ensures) (c .before .before .before .before .before .before .before .before .before .before .before .before .before .before .before .past5 .ensures) (c .before .before .before .before .before .before .before .before .before .before .before .before .before .before .if1 .left) (c .before .before .before .before .before .before .before .before .before .expand-definition .ensures) (c .before .before .out .given) (c .if2 .taken)))
-
-put-entry-requires : tie.Need-put-entry-requires Inv-loop μ-loop
-put-entry-requires c κs = search needs
 
 loop-less-2 : tie.Need-loop-less-2 Inv-loop μ-loop
 loop-less-2 c = omega (arith, c .before .before .before .before .before .before .before .before .before .before .before .before .before .before .before .before .before .before .before .before .before .before .before .before .loop-test .taken)
@@ -130,37 +79,4 @@ returns-2 : tie.Need-returns-2 Inv-loop μ-loop
 returns-2 c = booked (c .before .before .before .before .number .ensures) (c .before .before .before .past .ensures) (c .before .before .past2 .ensures) (c .before .loop .inv .goes _ _ (listing-none (omega arith)))
 
 pub expand-all-spec : {M : Type 1} → statement M
-expand-all-spec =
-    tie.close
-    (tie.spec
-    Inv-loop
-    μ-loop
-    number-requires
-    cast-left
-    past-requires
-    mul-past
-    past-requires-2
-    loop-holds
-    byte-requires
-    past-requires-3
-    number-requires-2
-    cast-size
-    past-requires-4
-    past-requires-5
-    sub-left
-    loop-less
-    loop-again
-    expand-definition-requires
-    same-length
-    same-length-2
-    same-length-3
-    same-length-4
-    returns
-    put-entry-requires
-    loop-less-2
-    loop-again-2
-    same-length-5
-    same-length-6
-    same-length-7
-    same-length-8
-    returns-2)
+expand-all-spec = tie.close (tie.spec Inv-loop μ-loop (λ c κs. search needs) (λ c. search needs) (λ c κs. search needs) (λ c. search needs) (λ c κs. search needs) loop-holds (λ c κs. search needs) (λ c κs. search needs) (λ c κs. search needs) (λ c. search needs) (λ c κs. search needs) (λ c κs. search needs) (λ c. search needs) (λ c. search needs) loop-again (λ c κs. search needs) same-length same-length-2 same-length-3 same-length-4 returns (λ c κs. search needs) loop-less-2 loop-again-2 same-length-5 same-length-6 same-length-7 same-length-8 returns-2)

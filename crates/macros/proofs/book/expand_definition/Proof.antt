@@ -4,11 +4,6 @@ use Rattle.macros.proofs.Leftover.{kept-format, kept-copied}
 use borrow.Author.Needs.{needs}
 use Rattle.macros.proofs.book.expand_definition.Statement.{statement}
 use Rattle.macros.proofs.book.expand_definition.Tie as tie
-use Rattle.macros.proofs.book.expand_definition.Reads as reads
-use Rattle.macros.proofs.book.expand_definition.Lts as lts
-use Rattle.macros.proofs.book.expand_format.Reads as expand-format-reads
-use Rattle.seek.proofs.past.Reads as past-reads
-use Rattle.writer.proofs.put_part.Reads as put-part-reads
 
 expand-format-requires : tie.Need-expand-format-requires
 expand-format-requires c κs = search needs

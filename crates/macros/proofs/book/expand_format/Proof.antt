@@ -6,13 +6,6 @@ use Rattle.macros.proofs.Format.{formatted-cut, formatted-deep, formatt
 use borrow.Author.Needs.{needs}
 use Rattle.macros.proofs.book.expand_format.Statement.{statement}
 use Rattle.macros.proofs.book.expand_format.Tie as tie
-use Rattle.macros.proofs.book.expand_format.Reads as reads
-use Rattle.macros.proofs.book.expand_format.Lts as lts
-use Rattle.contents.proofs.params_past.Reads as params-past-reads
-use Rattle.expansion.proofs.expand_macros_in_combinator.Reads as expand-macros-in-combinator-reads
-use Rattle.marks.proofs.first_marks.Reads as first-marks-reads
-use Rattle.seek.proofs.name_past.Reads as name-past-reads
-use Rattle.writer.proofs.put_part.Reads as put-part-reads
 
 name-past-requires : tie.Need-name-past-requires
 name-past-requires c κs = search needs

@@ -1,0 +1,88 @@
+-- `lifted::put_lifted` meets its contract.
+-- Assumes nothing.
+use Rattle.writer.proofs.Wrote.{glue}
+use Rattle.writer.proofs.Rest.{wrote-as}
+use Rattle.lifted.proofs.Steps.{lifted-is}
+use borrow.Author.Needs.{needs}
+use Rattle.lifted.proofs.put_lifted.Statement.{statement}
+use Rattle.lifted.proofs.put_lifted.Tie as tie
+
+mul-base : tie.Need-mul-base
+mul-base c = search needs
+
+entry-requires : tie.Need-entry-requires
+entry-requires c κs = search needs
+
+add-entry : tie.Need-add-entry
+add-entry c = search needs
+
+entry-requires-2 : tie.Need-entry-requires-2
+entry-requires-2 c κs = search needs
+
+add-entry-2 : tie.Need-add-entry-2
+add-entry-2 c = search needs
+
+entry-requires-3 : tie.Need-entry-requires-3
+entry-requires-3 c κs = search needs
+
+add-entry-3 : tie.Need-add-entry-3
+add-entry-3 c = search needs
+
+entry-requires-4 : tie.Need-entry-requires-4
+entry-requires-4 c κs = search needs
+
+add-entry-4 : tie.Need-add-entry-4
+add-entry-4 c = search needs
+
+entry-requires-5 : tie.Need-entry-requires-5
+entry-requires-5 c κs = search needs
+
+cast-name-at : tie.Need-cast-name-at
+cast-name-at c = search needs
+
+name-at-requires : tie.Need-name-at-requires
+name-at-requires c κs = search needs
+
+put-name-requires : tie.Need-put-name-requires
+put-name-requires c κs = search needs
+
+put-params-requires : tie.Need-put-params-requires
+put-params-requires c κs = search needs
+
+cast-put-spliced : tie.Need-cast-put-spliced
+cast-put-spliced c = search needs
+
+put-spliced-requires : tie.Need-put-spliced-requires
+put-spliced-requires c κs = search needs
+
+same-length : tie.Need-same-length
+same-length c = search needs
+
+returns : tie.Need-returns
+returns c =
+    wrote-as
+    (lifted-is _ _ _ _ _ _ _ _ (c .before .before .before .before .before .before .before .before .before .before .before .before .before .before .before .before .before .entry .ensures) (c .before .before .before .before .before .before .before .before .before .before .before .before .before .before .before .before .entry2 .ensures) (c .before .before .before .before .before .before .before .before .before .before .before .before .before .before .before .entry3 .ensures) (c .before .before .before .before .before .before .before .before .before .before .before .before .before .before .entry4 .ensures) (c .before .before .before .before .before .before .before .before .before .before .before .before .before .entry5 .ensures) (c .before .before .before .before .before .before .before .before .before .before .before .before .name-at .ensures))
+    (glue (c .before .before .before .before .before .before .before .before .before .before .put-name .ensures) (glue (c .before .before .before .before .before .before .put-params .ensures) (c .before .before .put-spliced .ensures)))
+
+pub put-lifted-spec : {M : Type 1} → statement M
+put-lifted-spec =
+    tie.close
+    (tie.spec
+    mul-base
+    entry-requires
+    add-entry
+    entry-requires-2
+    add-entry-2
+    entry-requires-3
+    add-entry-3
+    entry-requires-4
+    add-entry-4
+    entry-requires-5
+    cast-name-at
+    name-at-requires
+    put-name-requires
+    put-params-requires
+    cast-put-spliced
+    put-spliced-requires
+    same-length
+    returns)
