@@ -16,7 +16,6 @@ use Rattle.laws.specs.Book.{IsBook}
 use Rattle.laws.proofs.Sizes.{size-book}
 use Rattle.laws.proofs.Steps.{of-result}
 use Rattle.writer.specs.Buf.{Wrote}
-use Rattle.writer.proofs.Put.{take-written}
 use Rattle.writer.proofs.Wrote.{place-fits}
 use Rattle.report.specs.declared.Elaborated.{Elaborated}
 use Rattle.report.specs.declared.Elaborated.the-variants.{Done, Refused}
@@ -28,7 +27,7 @@ use Rattle.answers.specs.Prints.{Filled, Prints}
 
 -- a text of 65,536 bytes holds the lines of every outcome
 fill : {m : Out Result} {text text′ : List ℕ} {n : ℕ} → ((q : Result) → m ≡ done q → IsBook (all q)) → Wrote text 0 (listed m) text′ n → Filled (listed m) text text′ n
-fill {m} {text} {text′} {n} h w = record { fits = λ l. omega (arith, place l, room); holds = λ l. rw (place l, w .holds) (take-written text 0 (listed m) (omega (arith, room))) }
+fill {m} {text} {text′} {n} h w = record { wrote = w; fits = λ l. omega (arith, place l, room) }
   where
     room : length (listed m) ≤ 65536
     room = listed-room (of-result m h)

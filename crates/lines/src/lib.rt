@@ -4,7 +4,7 @@ use elaboration::elaborate;
 use nesting::elaborate_nested;
 ghost use Rattle.lines.specs.Lines.{Tells, TellsNested, TellsIn};
 
-// The listing of a book. A text of 65,536 bytes holds every listing.
+// The listing of a book, cut where the text ends. A text of 65,536 bytes holds every listing.
 fn put_listing(book: &[u8], text: &mut [u8]) -> usize
     ensures { λ r. ⌜ Tells (now (book .entry)) (now (text .entry)) (now (text .exit)) r ⌝ }
 {
