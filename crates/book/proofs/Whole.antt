@@ -1,13 +1,13 @@
 -- The book's verdict, by what its contents say.
-use mathlib.Core.Path.{_≡_, refl, sym, subst}
+use mathlib.Core.Path.{_≡_, sym, subst}
 use mathlib.Core.List.{List}
 use Prim.Native.Nat.{ℕ, _+_, _-_}
 use native.Mathlib.Omega.{arith}
 use lib.ListN.{length, drop}
 use Rattle.definition.specs.Code.{number}
-use Rattle.definition.specs.Res.{Res, bad, ok, _>>=_}
-use Rattle.definition.specs.Tree.{Entry}
-use Rattle.definition.specs.Contents.{contents, whole, cut, book, bodies}
+use Rattle.definition.specs.Res.{_>>=_}
+use Rattle.definition.specs.Contents.{contents, book, bodies}
+use Rattle.laws.proofs.Steps.{grouped}
 use Rattle.cursor.specs.Ends.{Along}
 use Rattle.cursor.specs.declared.Cursor.{Cursor}
 use Rattle.cursor.specs.declared.Fault.{Fault}
@@ -21,14 +21,10 @@ use Rattle.reader.proofs.Judge.{unsound}
 place-of : (s : List ℕ) (p : ℕ) → Along s 0 p → p ≡ length s - length (drop p s)
 place-of s p a = omega arith
 
-regroup : (m : Res (List ℕ) (List Entry)) → (m >>= λ y. whole (cut (y .0) (y .1)) >>= λ z. bodies (z .0)) ≡ ((m >>= λ y. whole (cut (y .0) (y .1))) >>= λ z. bodies (z .0))
-regroup (bad k r) = refl
-regroup (ok es r) = refl
-
 module _ (s : List ℕ) (more : ℕ) where
   book-as : book (6 + more) s ≡ (table (6 + more) s >>= λ y. bodies (y .0))
   unfolding book table
-  book-as = regroup (contents (6 + more) s)
+  book-as = sym (grouped (contents (6 + more) s) _ _)
 
   -- a refusal of the contents is the book's
   pub book-bad : {x : NumberStep} {f : Fault} → Tabled s (6 + more) x → x ≡ NoNumber f → Unsound f ≡ verdict (length s) (book (6 + more) s)

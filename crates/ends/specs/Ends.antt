@@ -6,15 +6,14 @@ use Prim.Native.Nat.{ℕ, _+_, _≤_, _<_}
 use lib.ListN.{length, getD}
 use Rattle.definition.specs.Tree.{Inner}
 use Rattle.definition.specs.Write.{wInner}
-use Rattle.definition.specs.Size.{levelsI}
 use Rattle.laws.proofs.Sizes.{sizeI}
 use Rattle.seek.specs.Here.{Here}
 use Rattle.walk.specs.Steps.{walk}
 use Rattle.calls.specs.Walk.{skipAt}
 
--- where the inner at a place ends, by the walker over calls
+-- where the inner at a place ends, by the walker over calls. It has fewer levels than bytes
 unfoldable pub innerEnd : List ℕ → ℕ → ℕ
-innerEnd s at = skipAt 64 s (walk at 0 64 true) (0 ∷ []) .0 .at
+innerEnd s at = skipAt (length s) s (walk at 0 0 true) (0 ∷ []) .0 .at
 
 -- every entry of the table is right, and 0 is none; which places have one is nobody's business
 pub record Right (s ends : List ℕ) : Type 0 where
@@ -25,5 +24,4 @@ pub record Stood (s : List ℕ) (at : ℕ) : Type 0 where
   pub what : Inner
   pub after : List ℕ
   pub here : Here s at (wInner what after)
-  pub deep : levelsI what ≤ 64
   pub short : length s ≤ 65535

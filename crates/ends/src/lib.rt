@@ -1,14 +1,21 @@
 // Where the inner at a place ends: by walking over it, or by a table that remembers.
-use skip::skip_over;
+use skip::skip_inner;
+use walk::Walk;
 ghost use mathlib.Core.Path.{_≡_};
 ghost use Rattle.ends.specs.Ends.{innerEnd, Right, Stood};
 
-// Where the inner at a place ends.
+// Where the inner at a place ends. It has fewer levels than bytes.
 pub fn inner_end(s: &[u8], at: usize) -> usize
     ensures { λ r. ⌜ r ≡ innerEnd (now (s .entry)) at ⌝ }
 {
     let mut none = [0u16; 1];
-    let u = skip_over(s, at, &mut none);
+    let w = Walk {
+        at,
+        n: 0,
+        left: 0,
+        plain: true,
+    };
+    let u = skip_inner(s, w, s.len(), &mut none);
     u.at
 }
 

@@ -142,7 +142,7 @@ module _ (s : List ℕ) where
       calm-pastI (bytes l) k d m p z h = let g = len-here l (next-here h) in rw (byte-here h) (inner-far (bytes l) z h g, g)
       calm-pastI (invocation n a) k d m p z h = let g = list-here a (name-here n (next-here h)) in rw (byte-here h) (inner-far (invocation n a) z h g, g)
       calm-pastI (macro-invocation n a) k d m p z h =
-          let g = inner-rest small (macro-invocation n a) z (omega arith) h in
+          let g = inner-rest small (macro-invocation n a) z h in
           rw (byte-here h) (inner-far (macro-invocation n a) z h g, g)
 
     -- the root

@@ -46,10 +46,10 @@ module _ {s : List ℕ} (small : length s ≤ 65535) where
   pub combinator-rest : {p : ℕ} (c : Combinator) (k : ℕ) (z : List ℕ) → levels c ≤ k → k ≤ 64 → Here s p (wCombinator c z) → Here s (combinatorEnd k s p) z
   unfolding wCombinator levels
   combinator-rest {p} (plain i) k z d m h =
-      let e = inner-rest small i (0 ∷ z) (omega arith) h in
+      let e = inner-rest small i (0 ∷ z) h in
       rw (end-last s p k (omega arith) (rw (byte-here e))) (next-here e)
   combinator-rest {p} (chained i c) k z d m h =
-      let e = inner-rest small i (1 ∷ wCombinator c z) (omega arith) h in
+      let e = inner-rest small i (1 ∷ wCombinator c z) h in
       rw (end-more s p k (omega arith) (rw (byte-here e))) (combinator-rest c (k - 1) z (omega arith) (omega arith) (next-here e))
 
   pub combinator-end : {p : ℕ} (c : Combinator) (k : ℕ) (z : List ℕ) → levels c ≤ k → k ≤ 64 → Here s p (wCombinator c z) → combinatorEnd k s p ≡ p + size c
@@ -58,18 +58,18 @@ module _ {s : List ℕ} (small : length s ≤ 65535) where
 
 -- a combinator's inner stands at its place, and its chain behind that
 module _ {s : List ℕ} (small : length s ≤ 65535) {at : ℕ} where
-  stood-by : (c : Combinator) (z : List ℕ) → levels c ≤ 64 → Here s at (wCombinator c z) → Stood s at
-  unfolding wCombinator levels
-  stood-by (plain i) z d h = record { what = i; after = 0 ∷ z; here = h; deep = omega arith; short = small }
-  stood-by (chained i c) z d h = record { what = i; after = 1 ∷ wCombinator c z; here = h; deep = omega arith; short = small }
+  stood-by : (c : Combinator) (z : List ℕ) → Here s at (wCombinator c z) → Stood s at
+  unfolding wCombinator
+  stood-by (plain i) z h = record { what = i; after = 0 ∷ z; here = h; short = small }
+  stood-by (chained i c) z h = record { what = i; after = 1 ∷ wCombinator c z; here = h; short = small }
 
   pub stood : Standing s at → Stood s at
-  stood x = stood-by (x .what) (x .stands .after) (x .deep) (x .stands .is)
+  stood x = stood-by (x .what) (x .stands .after) (x .stands .is)
 
   chain-by : (c : Combinator) (z : List ℕ) → levels c ≤ 64 → Here s at (wCombinator c z) → byteAt s (innerEnd s at) ≡ 1 → Standing s (pastAt s (innerEnd s at) 1)
   unfolding wCombinator levels
-  chain-by (plain i) z d h e = absurd (omega (arith, e, byte-here (inner-rest small i (0 ∷ z) (omega arith) h)))
-  chain-by (chained i c) z d h e = record { what = c; stands = record { after = z; is = next-here (inner-rest small i (1 ∷ wCombinator c z) (omega arith) h) }; deep = omega arith }
+  chain-by (plain i) z d h e = absurd (omega (arith, e, byte-here (inner-rest small i (0 ∷ z) h)))
+  chain-by (chained i c) z d h e = record { what = c; stands = record { after = z; is = next-here (inner-rest small i (1 ∷ wCombinator c z) h) }; deep = omega arith }
 
   pub follows : {end : ℕ} → Standing s at → end ≡ innerEnd s at → Follows s end
   follows x e = rw e (record { short = small; chain = chain-by (x .what) (x .stands .after) (x .deep) (x .stands .is) })

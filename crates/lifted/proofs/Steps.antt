@@ -14,7 +14,8 @@ use Rattle.tables.specs.Rows.{rowAt, namesFrom, typesFrom}
 use Rattle.invocation.specs.Invocation.{calledBytes, paramName}
 use Rattle.invocation.proofs.Names.{length-names}
 use Rattle.splice.specs.Model.{Tables, row, spliced}
-use Rattle.lifted.specs.Model.{innerEnd, passedBytes, typeBytes, paramType, paramsBytes, liftedBytes}
+use Rattle.ends.specs.Ends.{innerEnd}
+use Rattle.lifted.specs.Model.{passedBytes, typeBytes, paramType, paramsBytes, liftedBytes}
 
 module _ (t : Tables) where
   pub lifted-is : (i from to place first count : ℕ) (name : List ℕ) → from ≡ getD (t .rows) (5 * i) 0 → to ≡ getD (t .rows) (5 * i + 1) 0

@@ -1,5 +1,4 @@
 -- What is written of a lift, from the expanded book and the tables of the naming pass: total on any bytes and any numbers.
-use mathlib.Core.Bool.{true}
 use mathlib.Core.List.{List, [], _∷_, _++_}
 use Prim.Native.Nat.{ℕ, _+_, _*_, _-_}
 use lib.Dec.{eqb}
@@ -8,15 +7,10 @@ use Rattle.definition.specs.Tree.{Name}
 use Rattle.definition.specs.Write.{wU16}
 use Rattle.writer.specs.Buf.{part, nameBytes}
 use Rattle.seek.specs.At.{pick}
-use Rattle.walk.specs.Steps.{walk}
-use Rattle.calls.specs.Walk.{skipAt}
+use Rattle.ends.specs.Ends.{innerEnd}
 use Rattle.tables.specs.Rows.{TypeAt, Row}
 use Rattle.invocation.specs.Invocation.{calledBytes}
 use Rattle.splice.specs.Model.{Tables, row, spliced}
-
--- where an inner ends. It has fewer levels than bytes
-unfoldable pub innerEnd : List ℕ → ℕ → ℕ
-innerEnd s at = skipAt (length s) s (walk at 0 0 true) (0 ∷ []) .0 .at
 
 -- "types as they stand after lifting, without chain": of a Dependent field whose combinator is lifted itself, the call
 unfoldable pub passedBytes : Tables → ℕ → ℕ → List ℕ

@@ -1,12 +1,11 @@
 // The definition of a lift, from the tables that the naming pass leaves: its name, its parameters with their types, and the combinator moved.
 // Every function is total on any bytes and any numbers.
+use ends::inner_end;
 use invocation::param_name;
 use invocation::put_called;
 use lookup::name_at;
-use skip::skip_inner;
 use splice::put_spliced;
 use tables::entry;
-use walk::Walk;
 use writer::put_name;
 use writer::put_part;
 use writer::put_u16;
@@ -18,22 +17,7 @@ ghost use Rattle.writer.specs.Buf.{Wrote, nameBytes};
 ghost use Rattle.tables.specs.Rows.{rowAt, namesFrom, typesFrom};
 ghost use Rattle.invocation.specs.Invocation.{paramName};
 ghost use Rattle.splice.specs.Model.{tables};
-ghost use Rattle.lifted.specs.Model.{innerEnd, paramType, typeBytes, paramsBytes, liftedBytes};
-
-// Where the inner at a place ends. It has fewer levels than bytes.
-fn inner_end(s: &[u8], at: usize) -> usize
-    ensures { λ r. ⌜ r ≡ innerEnd (now (s .entry)) at ⌝ }
-{
-    let mut marks = [0u16; 1];
-    let w = Walk {
-        at,
-        n: 0,
-        left: 0,
-        plain: true,
-    };
-    let u = skip_inner(s, w, s.len(), &mut marks);
-    u.at
-}
+ghost use Rattle.lifted.specs.Model.{paramType, typeBytes, paramsBytes, liftedBytes};
 
 // The type of parameter j: a parameter's own, copied; of a Dependent field its inner, or the Invocation where its combinator is lifted itself.
 fn put_type(

@@ -17,7 +17,7 @@ use Rattle.definition.specs.Collect.{anonymous, free, leftover}
 use Rattle.definition.specs.Lift.{full, State, Walk, binder, bound, typed, take, grow, measured, append, lift, childBy, bind, walk, walkI, walkF, walkC}
 use Rattle.laws.proofs.Sizes.{head, size-format}
 use Rattle.lifting.specs.Records.{Ref, passed, Record, find, call}
-use Rattle.lifting.specs.After.{chainAt, fieldsAt, casesAt, shellAt, fieldAt, constEnd, caseAt, replaced, out, outI, outF, outC, Lift, itself, lifts, liftsI, liftsF, liftsC, liftsK, typeOf, paramsOf, madeBy, definitionOf, Stands, AllFound}
+use Rattle.lifting.specs.After.{chainAt, fieldsAt, casesAt, shellAt, fieldAt, constEnd, caseAt, replaced, out, outI, outF, outC, Lift, liftAt, itself, lifts, liftsI, liftsF, liftsC, liftsK, typeOf, paramsOf, madeBy, definitionOf, Stands, AllFound}
 use Rattle.lifting.specs.Trace.{Trace, treeHead, Binder, first, refOf, refs, enter, finish, fits, bindRef, Tracing, lifting, traceBy, trace, traceI, traceF, traceC}
 use Rattle.lifting.proofs.Both.{Both, refusals, values, then, first-then, ask, ask-alike, Still, still}
 use Rattle.lifting.proofs.Found.{Later, later-self, later-one, later-on, find-here, find-other, stands-left, stands-right, all-found}
@@ -140,50 +140,49 @@ typed-both binders env (n ∷ ns) s t m =
 pub sum-closed : (n : Name) (ps : List Param) (c there : Combinator) (b : ℕ) → (b + 6 + sizeOf (format n ps c) + size there) - size c ≡ b + 6 + head n ps + size there
 sum-closed n ps c there b = omega (arith, size-format n ps c)
 
+-- a record at a new place
+module _ (c : Combinator) (p : ℕ) (r : Record) (at : r .at ≡ p) (rs : List Record) (new : New (lifts c p ++ (liftAt c p ∷ [])) rs) where
+  pub none-yet : find rs p ≡ absent
+  none-yet = new .new p (stands-right p (lifts c p) (liftAt c p ∷ []) (inl refl))
+
+  pub later-made : Later rs (rs ++ (r ∷ []))
+  later-made = later-one rs r p at none-yet
+
+  pub new-inside : New (lifts c p) (rs ++ (r ∷ []))
+  new-inside = record { new = λ x h. find-other rs r x (λ e. let k = in-range c p .range x h in omega arith) ∙ new .new x (stands-left x (lifts c p) (liftAt c p ∷ []) h) }
+
 module _ (c : Combinator) (p : ℕ) (inside : Walk) (trail : Tracing)
     (ih : (n : Name) (b : List Param) (env : List Binder) (s : State) (t : Trace) → Matches s t → Means b env (t .records) → New (lifts c p) (t .records)
     → Both (Makes (out c p) (lifts c p) s t) (inside n b s) (trail n env t)) where
-  abbrev this : Lift
-  this = record { at = p; what = c }
-
-  -- the record is new, and is what is found at its place from now on
-  module _ (r : Record) (at : r .at ≡ p) (s : State) (t : Trace) (n : New (lifts c p ++ (this ∷ [])) (t .records)) where
-    new-inside : New (lifts c p) (t .records ++ (r ∷ []))
-    new-inside = record { new = λ x h. find-other (t .records) r x (λ e. let k = in-range c p .range x h in omega arith) ∙ n .new x (stands-left x (lifts c p) (this ∷ []) h) }
-
-    none-yet : find (t .records) p ≡ absent
-    none-yet = n .new p (stands-right p (lifts c p) (this ∷ []) (inl refl))
-
-    later-made : Later (t .records) (t .records ++ (r ∷ []))
-    later-made = later-one (t .records) r p at none-yet
-
+  -- the record is what is found at its place from now on
+  module _ (r : Record) (at : r .at ≡ p) (s : State) (t : Trace) (n : New (lifts c p ++ (liftAt c p ∷ [])) (t .records)) where
     found-here : (rs : List Record) → Later (t .records ++ (r ∷ [])) rs → find rs p ≡ just r
     found-here rs l = l .keeps p r (find-here (t .records) r p at)
 
     -- what was lifted out of it, and then itself
     finishes : (ps : List Param) (s₁ : State) (d : Combinator) (u : State) (v : Trace) → s₁ .made ≡ s .made → Did (out c p) (lifts c p) s₁ (enter treeHead r t) d u v
         → ((rs : List Record) → Later (t .records) rs → ps ≡ paramsOf rs (r .params) (r .types)) → r .end ≡ p + size c → length (r .name) ≤ 255 → r .params ≡ sorted (free c)
-        → Did (λ rs. replaced true (out c p rs) (find rs p)) (lifts c p ++ (this ∷ [])) s t (call r) (append (format (r .name) ps d) u) (finish p v)
+        → Did (λ rs. replaced true (out c p rs) (find rs p)) (lifts c p ++ (liftAt c p ∷ [])) s t (call r) (append (format (r .name) ps d) u) (finish p v)
     unfolding enter finish append replaced definitionOf madeBy
     finishes ps s₁ d u v e g types ends short needed = record {
       same = record { taken = g .same .taken; bytes = g .same .bytes; defns = g .same .defns };
-      later = later-on later-made (g .later);
-      only = λ x h. g .only x (λ k. h (stands-left x (lifts c p) (this ∷ []) k)) ∙ find-other (t .records) r x (λ k. h (stands-right x (lifts c p) (this ∷ []) (inl (sym at ∙ k))));
-      finished = rw (g .finished, map-append (λ l. l .at) (lifts c p) (this ∷ [])) (append-assoc (t .finished) _ _);
+      later = later-on (later-made c p r at (t .records) n) (g .later);
+      only = λ x h. g .only x (λ k. h (stands-left x (lifts c p) (liftAt c p ∷ []) k)) ∙ find-other (t .records) r x (λ k. h (stands-right x (lifts c p) (liftAt c p ∷ []) (inl (sym at ∙ k))));
+      finished = rw (g .finished, map-append (λ l. l .at) (lifts c p) (liftAt c p ∷ [])) (append-assoc (t .finished) _ _);
       body = λ rs l. rw (found-here rs (later-on (g .later) l));
       made = λ rs l. rw (
         g .made rs l,
         e,
-        map-append (definitionOf rs) (lifts c p) (this ∷ []),
+        map-append (definitionOf rs) (lifts c p) (liftAt c p ∷ []),
         found-here rs (later-on (g .later) l),
-        types rs (later-on later-made (later-on (g .later) l)),
+        types rs (later-on (later-made c p r at (t .records) n) (later-on (g .later) l)),
         g .body rs l,
       ) (append-assoc (s .made) _ _);
-      found = λ rs l. all-found rs (lifts c p) (this ∷ []) (g .found rs l) (record { of = r; found = found-here rs (later-on (g .later) l); begins = at; ends = ends; named = short; needed = needed }, tt);
+      found = λ rs l. all-found rs (lifts c p) (liftAt c p ∷ []) (g .found rs l) (record { of = r; found = found-here rs (later-on (g .later) l); begins = at; ends = ends; named = short; needed = needed }, tt);
     }
 
   -- from the measure on
-  module _ (n : Name) (b : List Param) (env : List Binder) (s : State) (t : Trace) (m : Matches s t) (w : Means b env (t .records)) (new : New (lifts c p ++ (this ∷ [])) (t .records))
+  module _ (n : Name) (b : List Param) (env : List Binder) (s : State) (t : Trace) (m : Matches s t) (w : Means b env (t .records)) (new : New (lifts c p ++ (liftAt c p ∷ [])) (t .records))
       (short : length n ≤ 255) (ps : List Param) (ts : List Ref) (types : (rs : List Record) → Later (t .records) rs → ps ≡ paramsOf rs (sorted (free c)) ts) where
     abbrev made : Record
     made = record { at = p; end = p + size c; name = n; params = sorted (free c); types = ts }
@@ -206,7 +205,7 @@ module _ (c : Combinator) (p : ℕ) (inside : Walk) (trail : Tracing)
     unfolding take grow enter
     entered = record { taken = ap (n ∷_) (m .taken); bytes = sum; defns = count }
 
-    measured-both : Both (Makes (λ rs. replaced true (out c p rs) (find rs p)) (lifts c p ++ (this ∷ [])) s t)
+    measured-both : Both (Makes (λ rs. replaced true (out c p rs) (find rs p)) (lifts c p ++ (liftAt c p ∷ [])) s t)
         (do
           (u, s) ← measured full grown
           (d, s) ← inside n b (take n s)
@@ -217,11 +216,11 @@ module _ (c : Combinator) (p : ℕ) (inside : Walk) (trail : Tracing)
           ok tt (finish p t))
     unfolding measured fits enter take grow
     measured-both = ask-alike _ _ tests _ grown (enter treeHead made t) _ _ (
-        then (ih n b env (take n grown) (enter treeHead made t) entered (means-on w (later-made made refl s t new)) (new-inside made refl s t new)) _ _ λ d u x v g.
+        then (ih n b env (take n grown) (enter treeHead made t) entered (means-on w (later-made c p made refl (t .records) new)) (new-inside c p made refl (t .records) new)) _ _ λ d u x v g.
         values (finishes made refl s t new ps (take n grown) d u v refl g types refl short refl))
 
-  lift-both : (base : Name) (b : List Param) (env : List Binder) (s : State) (t : Trace) → Matches s t → Means b env (t .records) → New (lifts c p ++ (this ∷ [])) (t .records)
-      → Both (Makes (λ rs. replaced true (out c p rs) (find rs p)) (lifts c p ++ (this ∷ [])) s t) (lift full c inside base b s) (lifting treeHead c p trail base env t)
+  lift-both : (base : Name) (b : List Param) (env : List Binder) (s : State) (t : Trace) → Matches s t → Means b env (t .records) → New (lifts c p ++ (liftAt c p ∷ [])) (t .records)
+      → Both (Makes (λ rs. replaced true (out c p rs) (find rs p)) (lifts c p ++ (liftAt c p ∷ [])) s t) (lift full c inside base b s) (lifting treeHead c p trail base env t)
   unfolding lift lifting call
   lift-both base b env s t m w new = rw (ap (fresh base) (m .taken)) (
       let n = fresh base (t .taken) in

@@ -14,7 +14,7 @@ use Rattle.definition.specs.Collect.{anonymous}
 use Rattle.laws.proofs.Splits.{Splits, s-name, s-selector, s-label, s-open, s-shut, s-inner}
 use Rattle.laws.proofs.Sizes.{adds, sizeI, sizeF, sizeC, size-plain, size-chained, size-struct, size-choice, size-shell, size-field, size-constant, size-case, open-some, sizeI-some, size-some}
 use Rattle.lifting.specs.Records.{Record, find}
-use Rattle.lifting.specs.After.{chainAt, fieldsAt, casesAt, shellAt, fieldAt, constEnd, caseAt, replaced, out, outI, outF, outC, itself, lifts, Stands, Found}
+use Rattle.lifting.specs.After.{chainAt, fieldsAt, casesAt, shellAt, fieldAt, constEnd, caseAt, replaced, out, outI, outF, outC, itself, liftAt, lifts, Stands, Found}
 use Rattle.lifting.proofs.Found.{stands-either, found-left, found-right}
 use Rattle.lifting.proofs.Ranges.{in-range}
 use Rattle.lifting.proofs.Calls.{Goes, Opens, calls, goes-on, raw-goes, raw-opens}
@@ -68,7 +68,7 @@ module _ (s : List ℕ) (rs : List Record) where
       → (Whole s rs c p → Opens s rs to p (wCombinator (out c p rs) r)) → Goes s rs to (p + size c) r → Goes s rs to p (wCombinator (replaced a (out c p rs) (find rs p)) r)
   unfolding itself replaced
   kid-goes true c p t ih g =
-      let f : Found rs (record { at = p; what = c }) = found-right rs (lifts c p) _ (t .found) .0 in
+      let f : Found rs (liftAt c p) = found-right rs (lifts c p) _ (t .found) .0 in
       rw (f .found) (calls s rs (f .of) (f .found) (omega (arith, f .ends, size-some c)) (goes-at (sym (f .ends)) g))
   kid-goes false c p t ih g =
       let e : find rs p ≡ absent = t .clear p (omega arith) (omega (arith, size-some c)) (λ k. let q = in-range c p .range p (rw (append-nil (lifts c p)) at k) in omega arith) in

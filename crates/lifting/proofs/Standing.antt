@@ -14,7 +14,7 @@ use Rattle.definition.specs.Collect.{anonymous}
 use Rattle.laws.proofs.Splits.{s-inner}
 use Rattle.laws.proofs.Sizes.{sizeI, sizeI-some, size-some}
 use Rattle.lifting.specs.Records.{Ref, own, passed, Record, find, call}
-use Rattle.lifting.specs.After.{chainAt, fieldsAt, casesAt, shellAt, fieldAt, constEnd, caseAt, replaced, out, outI, Lift, itself, lifts, liftsI, liftsF, liftsC, liftsK, typeOf, paramsOf, madeBy, definitionOf, Found}
+use Rattle.lifting.specs.After.{chainAt, fieldsAt, casesAt, shellAt, fieldAt, constEnd, caseAt, replaced, out, outI, Lift, itself, liftAt, lifts, liftsI, liftsF, liftsC, liftsK, typeOf, paramsOf, madeBy, definitionOf, Found}
 use Rattle.lifting.specs.Calls.{withCalls, refAt, refEnd, typeBytes, refBytes, paramBytes, liftedBytes}
 use Rattle.lifting.proofs.Found.{found-right}
 use Rattle.lifting.proofs.Ranges.{in-range}
@@ -108,7 +108,7 @@ module _ (s : List ℕ) (rs : List Record) where
   kid-type : (a : Bool) (c : Combinator) (p : ℕ) → Part s rs (wCombinator c) p p (p + size c) (lifts c p ++ itself a c p)
       → wInner (innerOf (replaced a (out c p rs) (find rs p))) [] ≡ typeBytes (find rs p) (withCalls s rs p (p + sizeI (innerOf c)))
   unfolding itself replaced typeBytes innerOf call
-  kid-type true c p t = let f : Found rs (record { at = p; what = c }) = found-right rs (lifts c p) _ (t .found) .0 in rw (f .found)
+  kid-type true c p t = let f : Found rs (liftAt c p) = found-right rs (lifts c p) _ (t .found) .0 in rw (f .found)
   kid-type false c p t =
       let e : find rs p ≡ absent = t .clear p (omega arith) (omega (arith, size-some c)) (λ k. let q = in-range c p .range p (rw (append-nil (lifts c p)) at k) in omega arith) in
       let g = goes-on s rs e (bytes-ofI s rs (innerOf c) p (inner-whole c p (kid-whole s rs false c p t)) (ends s rs (p + sizeI (innerOf c)))) in

@@ -71,8 +71,11 @@ pub record Lift : Type 0 where
   pub at : ℕ
   pub what : Combinator
 
+abbrev pub liftAt : Combinator → ℕ → Lift
+liftAt c p = record { at = p; what = c }
+
 unfoldable pub itself : Bool → Combinator → ℕ → List Lift
-itself true c p = record { at = p; what = c } ∷ []
+itself true c p = liftAt c p ∷ []
 itself false c p = []
 
 -- "and its definition is appended after theirs": the lifts out of what stands at a place, in the order of their definitions

@@ -35,9 +35,9 @@ behind-here {s} {p} w h z k =
     let e : pastAt s p (length (w [])) ≡ p + length (w []) = omega (arith, here-length k, adds w h z) in
     rw e at (past-here (w []) l)
 
-past-first : {s : List ℕ} {p x : ℕ} {z : List ℕ} → Here s p (x ∷ z) → pastAt s p 1 ≡ p + 1
+pub past-one : {s : List ℕ} {p x : ℕ} {z : List ℕ} → Here s p (x ∷ z) → pastAt s p 1 ≡ p + 1
 unfolding pastAt
-past-first h = omega (arith, here-length h)
+past-one h = omega (arith, here-length h)
 
 some-inner : (i : Inner) → 1 ≤ sizeI i
 unfolding sizeI wCombinator
@@ -148,7 +148,7 @@ module _ (at done : ℕ) (name : Name) (env : List Bound) (own : Own) where
           let r = g .rest .0 in
           let u = behind-here (wName a) (s-name a) (wCombinator c (wFields h y)) (next-here r) in
           let v = behind-here (wCombinator c) (s-comb c) (wFields h y) u in
-          let p = past-first r in
+          let p = past-one r in
           let e : fieldAt at a - f .here ≡ 1 + length (wName a []) = omega (arith, g .here) in
           let q = size-field ordinary a c h in
           let m : pastAt s (f .here) 1 + length (wName a []) + length (wCombinator c []) ≡ fieldAt at a + length (wCombinator c []) = omega (arith, g .here) in
@@ -171,7 +171,7 @@ module _ (at done : ℕ) (name : Name) (env : List Bound) (own : Own) where
           let r = g .rest .0 in
           let u = behind-here (wName a) (s-name a) (wCombinator c (wFields h y)) (next-here r) in
           let v = behind-here (wCombinator c) (s-comb c) (wFields h y) u in
-          let p = past-first r in
+          let p = past-one r in
           let e : fieldAt at a - f .here ≡ 1 + length (wName a []) = omega (arith, g .here) in
           let q = size-field dependent a c h in
           let m : pastAt s (f .here) 1 + length (wName a []) + length (wCombinator c []) ≡ fieldAt at a + length (wCombinator c []) = omega (arith, g .here) in

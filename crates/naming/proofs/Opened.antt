@@ -33,12 +33,8 @@ use Rattle.ends.specs.Ends.{innerEnd}
 use Rattle.ends.proofs.Ends.{inner-rest, inner-end}
 use Rattle.naming.specs.Frames.{RestIs, sizeRest, levelsRest, levelsLink, LinkIs, OwnIs, FrameIs, NextIs}
 use Rattle.naming.proofs.Begins.{begins}
-use Rattle.naming.proofs.Back.{back-chain, back-field, back-case, back-one}
+use Rattle.naming.proofs.Back.{past-one, back-chain, back-field, back-case, back-one}
 use Rattle.naming.proofs.Machine.{opens-chain, opens-field, opens-case, opens-one, passes-const, ends-fields, ends-cases, ends-tail}
-
-pub past-one : {s : List ℕ} {p x : ℕ} {z : List ℕ} → Here s p (x ∷ z) → pastAt s p 1 ≡ p + 1
-unfolding pastAt
-past-one h = omega (arith, here-length h)
 
 size-rest : (i : Inner) → skip i + sizeRest (restOf i) ≡ sizeI i
 unfolding skip sizeRest restOf
@@ -67,8 +63,8 @@ module _ {s path binders : List ℕ} (small : length s ≤ 65535) where
   unfolding frameAt nodeOf wCombinator levels LinkIs levelsLink
   frame-opens (plain i) z k at last len bound own call name env o h d m held e ow fw =
       let b = begins i (0 ∷ z) h in
-      let q = inner-rest small i (0 ∷ z) (omega arith) h in
-      let p = inner-end small i (0 ∷ z) (omega arith) h in
+      let q = inner-rest small i (0 ∷ z) h in
+      let p = inner-end small i (0 ∷ z) h in
       record {
         after = 0 ∷ z;
         rest = b .rest;
@@ -85,8 +81,8 @@ module _ {s path binders : List ℕ} (small : length s ≤ 65535) where
       }
   frame-opens (chained i c) z k at last len bound own call name env o h d m held e ow fw =
       let b = begins i (1 ∷ wCombinator c z) h in
-      let q = inner-rest small i (1 ∷ wCombinator c z) (omega arith) h in
-      let p = inner-end small i (1 ∷ wCombinator c z) (omega arith) h in
+      let q = inner-rest small i (1 ∷ wCombinator c z) h in
+      let p = inner-end small i (1 ∷ wCombinator c z) h in
       let g : pastAt s (innerEnd s at) 1 ≡ chainAt at i = past-one q ∙ omega arith in
       record {
         after = 1 ∷ wCombinator c z;

@@ -36,10 +36,10 @@ module _ {s : List ℕ} (short : length s ≤ 16384) {here : ℕ} (x : Param) (z
   there = name-here (x .name) h
 
   pub param-rest : Here s (innerEnd s (namePast s here)) z
-  param-rest = inner-rest (omega arith) (x .type) z d there
+  param-rest = inner-rest (omega arith) (x .type) z there
 
   pub type-size : innerEnd s (namePast s here) ≡ namePast s here + sizeI (x .type)
-  type-size = inner-end (omega arith) (x .type) z d there
+  type-size = inner-end (omega arith) (x .type) z there
 
   type-place : namePast s here ≡ here + length (wName (x .name) [])
   unfolding wParam

@@ -1,6 +1,5 @@
 -- Where the tables hold the records, the model is the one by places and records.
 use mathlib.Core.Path.{_≡_, refl, sym, ap, _∙_}
-use mathlib.Core.Bool.{true}
 use mathlib.Core.List.{List, [], _∷_, _++_, append-assoc, append-nil, map}
 use Prim.Native.Nat.{ℕ, zero, suc, _+_, _-_, _%_, _≤_, _<_, min}
 use native.Mathlib.Numerals.{add-one, sub-one}
@@ -15,13 +14,10 @@ use Rattle.laws.proofs.Splits.{s-inner}
 use Rattle.laws.proofs.Sizes.{adds, sizeI, sizeI-some}
 use Rattle.writer.specs.Buf.{part, nameBytes}
 use Rattle.writer.proofs.Put.{part-none, part-more}
-use Rattle.walk.specs.Steps.{walk}
-use Rattle.calls.proofs.Link.{skipped}
 use Rattle.tables.specs.Rows.{typeAt, rowOf}
 use Rattle.lifting.specs.Records.{Ref, own, passed, Record, find, call}
 use Rattle.lifting.specs.Calls as by-records
 use Rattle.lifting.specs.Calls.{going, withCalls, refAt, refEnd, refBytes, paramBytes}
-use Rattle.laws.proofs.Levels.{fewI}
 use Rattle.lifting.proofs.Calls.{calls-end, calls-copy, calls-stretch}
 use Rattle.lifting.proofs.Refs.{AllRefs}
 use Rattle.lifting.proofs.Standing.{Stood}
@@ -29,7 +25,9 @@ use Rattle.lifted.specs.Model as model
 use Rattle.invocation.specs.Invocation.{namesBytes, calledBytes, callBytes}
 use Rattle.splice.specs.Model as by-numbers
 use Rattle.splice.specs.Model.{Tables, goes, onFrom, spliced}
-use Rattle.lifted.specs.Model.{innerEnd, passedBytes, paramsBytes}
+use Rattle.ends.specs.Ends.{innerEnd}
+use Rattle.ends.proofs.Ends.{inner-end}
+use Rattle.lifted.specs.Model.{passedBytes, paramsBytes}
 use Rattle.result.specs.Held.{Numbers}
 
 -- "a name 255"
@@ -106,11 +104,11 @@ module _ (t : Tables) (rs : List Record) (agree : (p : ℕ) → p < length (t .b
   -- types
   module _ (short : length (t .book) ≤ 65535) where
     end-is : (i : Inner) (p : ℕ) (z : List ℕ) → drop p (t .book) ≡ wInner i z → (innerEnd (t .book) p ≡ p + sizeI i) × (p + sizeI i ≤ length (t .book))
-    unfolding innerEnd sizeI
+    unfolding sizeI
     end-is i p z e =
         let n : length (wInner i z) ≡ length (wInner i []) + length z = adds (wInner i) (s-inner i) z in
         let m = room (t .book) p (wInner i z) e (omega (arith, sizeI-some i)) in
-        (skipped (t .book) short i (length (t .book)) (omega (arith, fewI i)) (walk p 0 0 true) (0 ∷ []) z (record { is = e; reach = omega arith }) .place, omega arith)
+        (inner-end short i z (record { is = e; reach = omega arith }), omega arith)
 
     inner-at : (c : Combinator) (p : ℕ) (z : List ℕ) → drop p (t .book) ≡ wCombinator c z → (innerEnd (t .book) p ≡ p + sizeI (innerOf c)) × (p + sizeI (innerOf c) ≤ length (t .book))
     unfolding wCombinator innerOf

@@ -1,11 +1,12 @@
 -- Readings one after the other, where the answer of the first is known.
-use mathlib.Core.Path.{_≡_, refl, _∙_, subst}
+use mathlib.Core.Path.{_≡_, _∙_, subst}
 use mathlib.Core.List.{List}
 use Prim.Native.Nat.{ℕ, _-_}
 use lib.ListN.{drop}
 use Rattle.definition.specs.Code.{Code}
 use Rattle.definition.specs.Res.{Res, bad, ok, _>>=_}
 use Rattle.definition.specs.Read.{Reader, u16}
+use Rattle.laws.proofs.Steps.{grouped}
 use Rattle.cursor.specs.Ends.{Along, Gives, Fails, Step, got, none, Took, Ends, EndsBy}
 use Rattle.cursor.specs.declared.Cursor.{Cursor}
 use Rattle.cursor.specs.declared.Fault.{Fault}
@@ -60,13 +61,9 @@ module _ {B : Type 0} {s : List ℕ} {p : ℕ} {m : Res (List ℕ) ℕ} {x : Ste
 
 -- a row, and what stands behind it
 module _ {A B : Type 0} (row : ℕ → Reader A) (g : A × List ℕ → Res (List ℕ) B) where
-  regroup : (m : Res (List ℕ) ℕ) → ((m >>= λ x. row (x .0) (x .1)) >>= g) ≡ (m >>= λ x. row (x .0) (x .1) >>= g)
-  regroup (bad k r) = refl
-  regroup (ok n r) = refl
-
   pub counts : {s : List ℕ} {p : ℕ} {r : Walked} (l : List ℕ) → Ends s p r (counted row l >>= g) → Ends s p r (u16 l >>= λ x. row (x .0) (x .1) >>= g)
   unfolding counted
-  counts l e = rw (← (regroup (u16 l))) e
+  counts l e = rw (← (grouped (u16 l) (λ x. row (x .0) (x .1)) g)) e
 
 -- a refusal says nothing of what would have been read
 pub refuses : {A B : Type 0} {s : List ℕ} {p : ℕ} (r : Walked) {k : Code} {l : List ℕ} → Ends {A = A} s p r (bad k l) → Ends {A = B} s p r (bad k l)

@@ -69,7 +69,7 @@ module _ {s : List ℕ} {at : ℕ} (small : length s ≤ 16384) where
   inner-frame : (i : Inner) (z : List ℕ) (last len bound own call : ℕ) → levels (plain i) ≤ 64 → Here s at (wInner i z) → own ≤ 512 → (0 < own → (5 ≤ call) × (call ≤ 16384)) → Sound s (frameAt s at last len bound own call)
   unfolding frameAt levels sizeI
   inner-frame i z last len bound own call d h small-own calls =
-      let e = inner-end (omega arith) i z (omega arith) h in
+      let e = inner-end (omega arith) i z h in
       let l = inner-least i in
       record { least = omega arith; call = calls; own = small-own; child = omega arith; ends = omega (arith, here-length h, adds (wInner i) (s-inner i) z) }
 
@@ -82,13 +82,13 @@ module _ {s : List ℕ} {at : ℕ} (small : length s ≤ 16384) where
   unfolding wCombinator levels weight frameAt
   frame-light (plain i) z last len bound own call d h =
       let b = begins i (0 ∷ z) h in
-      let q = inner-rest (omega arith) i (0 ∷ z) (omega arith) h in
-      let e = inner-end (omega arith) i (0 ∷ z) (omega arith) h in
+      let q = inner-rest (omega arith) i (0 ∷ z) h in
+      let e = inner-end (omega arith) i (0 ∷ z) h in
       rw (byte-here q) (omega (arith, b .here, size-plain i))
   frame-light (chained i c) z last len bound own call d h =
       let b = begins i (1 ∷ wCombinator c z) h in
-      let q = inner-rest (omega arith) i (1 ∷ wCombinator c z) (omega arith) h in
-      let e = inner-end (omega arith) i (1 ∷ wCombinator c z) (omega arith) h in
+      let q = inner-rest (omega arith) i (1 ∷ wCombinator c z) h in
+      let e = inner-end (omega arith) i (1 ∷ wCombinator c z) h in
       let a = combinator-end (omega arith) c 64 z (omega arith) (omega arith) (next-here q) in
       rw (byte-here q) (omega (arith, b .here, size-chained i c, a))
 

@@ -86,16 +86,7 @@ module _ (d : List ℕ) (i p l a o : ℕ) where
     param-own = getD-set-same (set (set (set d (4 * i) p) (4 * i + 1) l) (4 * i + 2) a) (4 * i + 3) o 0 (simp length-set (omega arith))
 
 -- four stores one after the other
-pub param-put : (d : List ℕ) (i p l a o a′ o′ : ℕ) {d₁ d₂ d₃ d₄ : List ℕ} → d₁ ≡ set d (4 * i) (min p 65535) → d₂ ≡ set d₁ (4 * i + 1) (min l 65535) → d₃ ≡ set d₂ (4 * i + 2) (min a 65535) → d₄ ≡ set d₃ (4 * i + 3) (min o 65535)
-    → l ≤ 65535 → a ≤ 65535 → o ≤ 65535 → a ≡ a′ → o ≡ o′ → d₄ ≡ withParam d i (min p 65535) l a′ o′
+pub param-put : (d : List ℕ) (i p l a o : ℕ) {p′ l′ a′ o′ : ℕ} {d₁ d₂ d₃ d₄ : List ℕ} → d₁ ≡ set d (4 * i) (min p 65535) → d₂ ≡ set d₁ (4 * i + 1) (min l 65535) → d₃ ≡ set d₂ (4 * i + 2) (min a 65535) → d₄ ≡ set d₃ (4 * i + 3) (min o 65535)
+    → min p 65535 ≡ p′ → min l 65535 ≡ l′ → min a 65535 ≡ a′ → min o 65535 ≡ o′ → d₄ ≡ withParam d i p′ l′ a′ o′
 unfolding withParam
-param-put d i p l a o a′ o′ w x y z hl ha ho ea eo =
-    let l′ : min l 65535 ≡ l = omega arith in
-    let a″ : min a 65535 ≡ a′ = omega arith in
-    let o″ : min o 65535 ≡ o′ = omega arith in
-    rw (z, y, x, w, l′, a″, o″)
-
-pub binder-put : (d : List ℕ) (j n a o z : ℕ) {d₁ d₂ d₃ d₄ : List ℕ} → d₁ ≡ set d (4 * j) (min n 65535) → d₂ ≡ set d₁ (4 * j + 1) (min a 65535) → d₃ ≡ set d₂ (4 * j + 2) (min o 65535) → d₄ ≡ set d₃ (4 * j + 3) (min z 65535) → o ≤ 1
-    → d₄ ≡ withParam d j (min n 65535) (min a 65535) o (min z 65535)
-unfolding withParam
-binder-put d j n a o z w x y v h = let o′ : min o 65535 ≡ o = omega arith in rw (v, y, x, w, o′)
+param-put d i p l a o w x y z ep el ea eo = rw (z, y, x, w, ep, el, ea, eo)

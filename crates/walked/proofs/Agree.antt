@@ -9,7 +9,7 @@ use lib.Dec.{leb}
 use lib.ListN.{length, getD, length-append, length-map}
 use borrow.Author.Tests.{leb-true}
 use Rattle.definition.specs.Code.{Code, result-long}
-use Rattle.definition.specs.Res.{Maybe, absent, Res, ok, _>>=_, require}
+use Rattle.definition.specs.Res.{Maybe, Res, ok, _>>=_, require}
 use Rattle.definition.specs.Tree.{Name, CaseKind, Combinator, plain, chained, Inner, leaf, struct, choice, shell, bytes, invocation, macro-invocation, Fields, no-field, field, const, Cases, no-case, case, Definition, format, constant, byte-order, macro}
 use Rattle.definition.specs.Names.{sorted, segment, child, caseSegment, shellSegment, fresh}
 use Rattle.definition.specs.Write.{wName, wText, wSelector, wLabel, sizeOf}
@@ -18,12 +18,12 @@ use Rattle.definition.specs.Collect.{anonymous, free, leftover}
 use Rattle.laws.proofs.Tests.{both-true}
 use Rattle.laws.proofs.Sizes.{sizeI, sizeF, sizeC, head, size-format}
 use Rattle.lifting.specs.Records.{Ref, Record, find, call}
-use Rattle.lifting.specs.After.{chainAt, fieldsAt, casesAt, shellAt, fieldAt, constEnd, caseAt, replaced, out, outI, outF, outC, Lift, itself, lifts, liftsI, liftsF, liftsC, liftsD, liftsAll, firstAt}
+use Rattle.lifting.specs.After.{chainAt, fieldsAt, casesAt, shellAt, fieldAt, constEnd, caseAt, replaced, out, outI, outF, outC, liftAt, itself, lifts, liftsI, liftsF, liftsC, liftsD, liftsAll, firstAt}
 use Rattle.lifting.specs.Trace.{Trace, Binder, Tracing, enter, finish as finishTrace, fits as fitsTrace, bindRef, treeHead, lifting, traceBy, trace, traceI, traceF, traceC, ownBinders, paramsAt, traceAll, begin, traceBook}
 use Rattle.lifting.proofs.Both.{Both, refusals, values, then, first-then}
-use Rattle.lifting.proofs.Found.{Later, later-one, later-on, find-here, find-other, stands-left, stands-right}
+use Rattle.lifting.proofs.Found.{later-on, find-here, find-other, stands-left, stands-right}
 use Rattle.lifting.proofs.Ranges.{apart, in-range, in-rangeI, in-rangeF, in-rangeC, in-rangeK}
-use Rattle.lifting.proofs.Agree.{New, new-left}
+use Rattle.lifting.proofs.Agree.{New, new-left, none-yet, later-made, new-inside}
 use Rattle.lifting.proofs.Book.{in-rangeAll}
 use Rattle.tables.specs.Rows.{rowOf, lastFrom}
 use Rattle.lift.specs.Bound.{Bound}
@@ -49,20 +49,8 @@ started n k = record { name = n; call = k }
 module _ (c : Combinator) (p : ℕ) (inside : Step) (trail : Tracing)
     (ih : (n : Name) (env : List Bound) (bs : List Binder) (s : Sheet) (t : Trace) → Alike s t → Means env bs (t .records) → New (lifts c p) (t .records)
     → Both (Makes (λ rs. extent (out c p rs)) (lifts c p) t) (inside n env s) (trail n bs t)) where
-  abbrev this : Lift
-  this = record { at = p; what = c }
-
   -- a record at a new place
-  module _ (r : Record) (at : r .at ≡ p) (s : Sheet) (t : Trace) (m : Alike s t) (new : New (lifts c p ++ (this ∷ [])) (t .records)) where
-    none-yet : find (t .records) p ≡ absent
-    none-yet = new .new p (stands-right p (lifts c p) (this ∷ []) (inl refl))
-
-    later-made : Later (t .records) (t .records ++ (r ∷ []))
-    later-made = later-one (t .records) r p at none-yet
-
-    new-inside : New (lifts c p) (t .records ++ (r ∷ []))
-    new-inside = record { new = λ x h. find-other (t .records) r x (λ e. let k = in-range c p .range x h in omega arith) ∙ new .new x (stands-left x (lifts c p) (this ∷ []) h) }
-
+  module _ (r : Record) (at : r .at ≡ p) (s : Sheet) (t : Trace) (m : Alike s t) (new : New (lifts c p ++ (liftAt c p ∷ [])) (t .records)) where
     numbered : lastAt (t .records ++ (r ∷ [])) p ≡ suc (length (s .rows))
     numbered = last-here (t .records) r p at ∙ ap suc (sym (ap length (m .hands .rows) ∙ length-map (t .records) rowOf))
 
@@ -78,13 +66,13 @@ module _ (c : Combinator) (p : ℕ) (inside : Step) (trail : Tracing)
             bytes = sum;
             defns = ap (_+ 1) (m .hands .defns);
             count = m .hands .count;
-            ordered = λ i h. rw rows (last-kept (t .records) r (getD (t .finished) i 0) (getD (s .finished) i 0) (rw at none-yet) (rw (m .hands .rows) at (m .hands .ordered i h)));
+            ordered = λ i h. rw rows (last-kept (t .records) r (getD (t .finished) i 0) (getD (s .finished) i 0) (rw at (none-yet c p r at (t .records) new)) (rw (m .hands .rows) at (m .hands .ordered i h)));
           };
         }
 
     -- what was lifted out of it, and then itself
     finishes : (z : Extent) (u : Sheet) (v : Trace) (k : ℕ) → Did (λ rs. extent (out c p rs)) (lifts c p) (enter treeHead r t) z u v → k ≡ size (call r) → k ≤ 16384
-        → Did (λ rs. extent (replaced true (out c p rs) (find rs p))) (lifts c p ++ (this ∷ [])) t (called k) (finish (length (s .rows)) u) (finishTrace p v)
+        → Did (λ rs. extent (replaced true (out c p rs) (find rs p))) (lifts c p ++ (liftAt c p ∷ [])) t (called k) (finish (length (s .rows)) u) (finishTrace p v)
     unfolding enter finish finishTrace replaced call
     finishes z u v k g e small = record {
       same = record {
@@ -97,8 +85,8 @@ module _ (c : Combinator) (p : ℕ) (inside : Step) (trail : Tracing)
           ordered = one-more (u .finished) (v .finished) (length (s .rows)) p (g .same .hands .count) (u .rows) last (g .same .hands .ordered);
         };
       };
-      later = later-on later-made (g .later);
-      only = λ x h. kept x (g .only x (λ k. h (stands-left x (lifts c p) (this ∷ []) k))) (λ k. h (stands-right x (lifts c p) (this ∷ []) (inl (sym at ∙ k))));
+      later = later-on (later-made c p r at (t .records) new) (g .later);
+      only = λ x h. kept x (g .only x (λ k. h (stands-left x (lifts c p) (liftAt c p ∷ []) k))) (λ k. h (stands-right x (lifts c p) (liftAt c p ∷ []) (inl (sym at ∙ k))));
       says = λ rs l. rw (l .keeps p r (g .later .keeps p r (find-here (t .records) r p at))) (cut-called k (invocation (r .name) (r .params)) e small);
     }
       where
@@ -109,7 +97,7 @@ module _ (c : Combinator) (p : ℕ) (inside : Step) (trail : Tracing)
         kept x k n = record { found = k .found ∙ find-other (t .records) r x n; last = k .last ∙ last-other (t .records) r x n }
 
   -- from the measure on; a call is smaller than the sum that was tested
-  module _ (n : Name) (env : List Bound) (binders : List Binder) (s : Sheet) (t : Trace) (m : Alike s t) (w : Means env binders (t .records)) (new : New (lifts c p ++ (this ∷ [])) (t .records))
+  module _ (n : Name) (env : List Bound) (binders : List Binder) (s : Sheet) (t : Trace) (m : Alike s t) (w : Means env binders (t .records)) (new : New (lifts c p ++ (liftAt c p ∷ [])) (t .records))
       (bs : List Bound) (ts : List Ref) (q : Typed (sorted (free c)) (t .records) bs ts) where
     abbrev made : Record
     made = record { at = p; end = p + size c; name = n; params = sorted (free c); types = ts }
@@ -139,7 +127,7 @@ module _ (c : Combinator) (p : ℕ) (inside : Step) (trail : Tracing)
     sum h = let e = near-exact rest (head-near (t .records) made bs q) (omega (arith, left)) in omega (arith, left, right)
 
     passed-both : leb (grown .bytes) 16384 && leb (grown .defns) 512 ≡ true
-        → Both (Makes (λ rs. extent (replaced true (out c p rs) (find rs p))) (lifts c p ++ (this ∷ [])) t)
+        → Both (Makes (λ rs. extent (replaced true (out c p rs) (find rs p))) (lifts c p ++ (liftAt c p ∷ [])) t)
         (do
           (z, u) ← inside n env grown
           ok (called (callSize n (sorted (free c)))) (finish (length (s .rows)) u))
@@ -149,11 +137,11 @@ module _ (c : Combinator) (p : ℕ) (inside : Step) (trail : Tracing)
     unfolding enter
     passed-both e =
         let h = leb-true (grown .bytes) 16384 (both-true (leb (grown .bytes) 16384) (leb (grown .defns) 512) e .0) in
-        then (ih n env binders grown (enter treeHead made t) (entered-alike made refl s t m new bs (p + size c) refl q (sum h)) (means-on w (later-made made refl s t m new)) (new-inside made refl s t m new)) _ _ λ z u x v g.
+        then (ih n env binders grown (enter treeHead made t) (entered-alike made refl s t m new bs (p + size c) refl q (sum h)) (means-on w (later-made c p made refl (t .records) new)) (new-inside c p made refl (t .records) new)) _ _ λ z u x v g.
         values (finishes made refl s t m new z u v (callSize n (sorted (free c))) g (call-size made) (omega (arith, left, call-size made)))
 
     measured-both : (b b′ : Bool) → b ≡ b′ → leb (grown .bytes) 16384 && leb (grown .defns) 512 ≡ b
-        → Both (Makes (λ rs. extent (replaced true (out c p rs) (find rs p))) (lifts c p ++ (this ∷ [])) t)
+        → Both (Makes (λ rs. extent (replaced true (out c p rs) (find rs p))) (lifts c p ++ (liftAt c p ∷ [])) t)
         (do
           (b, u) ← do
             (k, t) ← do
@@ -172,9 +160,9 @@ module _ (c : Combinator) (p : ℕ) (inside : Step) (trail : Tracing)
     measured-both false true e h = let z : _≡_ {A = ℕ} 0 1 = cc in absurd (omega arith)
 
   -- code 8, and then 10
-  each-lift : (n : Name) (env : List Bound) (binders : List Binder) (s : Sheet) (t : Trace) → Alike s t → Means env binders (t .records) → New (lifts c p ++ (this ∷ [])) (t .records)
+  each-lift : (n : Name) (env : List Bound) (binders : List Binder) (s : Sheet) (t : Trace) → Alike s t → Means env binders (t .records) → New (lifts c p ++ (liftAt c p ∷ [])) (t .records)
       → {k : Maybe (List Bound)} {l : Res Trace (List Ref)} → Each (sorted (free c)) t k l
-      → Both (Makes (λ rs. extent (replaced true (out c p rs) (find rs p))) (lifts c p ++ (this ∷ [])) t)
+      → Both (Makes (λ rs. extent (replaced true (out c p rs) (find rs p))) (lifts c p ++ (liftAt c p ∷ [])) t)
       (do
         (b, u) ← do
           (k, t) ← enterWith p (p + size c) n (sorted (free c)) k s
@@ -190,8 +178,8 @@ module _ (c : Combinator) (p : ℕ) (inside : Step) (trail : Tracing)
   each-lift n env binders s t m w new missing = refusals
   each-lift n env binders s t m w new (there {bs} {ts} q) = measured-both n env binders s t m w new bs ts q _ _ (tests n env binders s t m w new bs ts q) refl
 
-  lift-both : (base : Name) (env : List Bound) (binders : List Binder) (s : Sheet) (t : Trace) → Alike s t → Means env binders (t .records) → New (lifts c p ++ (this ∷ [])) (t .records)
-      → Both (Makes (λ rs. extent (replaced true (out c p rs) (find rs p))) (lifts c p ++ (this ∷ [])) t) (visit true c p inside base env s) (lifting treeHead c p trail base binders t)
+  lift-both : (base : Name) (env : List Bound) (binders : List Binder) (s : Sheet) (t : Trace) → Alike s t → Means env binders (t .records) → New (lifts c p ++ (liftAt c p ∷ [])) (t .records)
+      → Both (Makes (λ rs. extent (replaced true (out c p rs) (find rs p))) (lifts c p ++ (liftAt c p ∷ [])) t) (visit true c p inside base env s) (lifting treeHead c p trail base binders t)
   unfolding visit starts lifting
   lift-both base env binders s t m w new = rw (ap (fresh base) (m .taken)) (
       let n = fresh base (t .taken) in

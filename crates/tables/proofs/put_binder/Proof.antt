@@ -1,6 +1,8 @@
 -- `tables::put_binder` meets its contract.
 -- Assumes nothing.
-use Rattle.tables.proofs.Params.{binder-put}
+use mathlib.Core.Path.{refl}
+use native.Mathlib.Omega.{arith}
+use Rattle.tables.proofs.Params.{param-put}
 use borrow.Author.Needs.{needs}
 use Rattle.tables.proofs.put_binder.Statement.{statement}
 use Rattle.tables.proofs.put_binder.Tie as tie
@@ -8,7 +10,7 @@ use Rattle.tables.proofs.put_binder.Tie as tie
 returns : tie.Need-returns
 returns c =
     let s = c .before .before .before .before .before .before .before .before .before .before .before .before .before .before .before .before .before in
-    binder-put (s .args .binders .now) (s .args .j) _ _ _ _ (c .before .before .before .before .before .before .before .before .before .before .before .before .before .before .store .ensures) (c .before .before .before .before .before .before .before .before .before .before .store2 .ensures) (c .before .before .before .before .before .before .store3 .ensures) (c .before .before .store4 .ensures) (s .pre .1)
+    param-put (s .args .binders .now) (s .args .j) _ _ _ _ (c .before .before .before .before .before .before .before .before .before .before .before .before .before .before .store .ensures) (c .before .before .before .before .before .before .before .before .before .before .store2 .ensures) (c .before .before .before .before .before .before .store3 .ensures) (c .before .before .store4 .ensures) refl refl (omega (arith, s .pre .1)) refl
 
 pub put-binder-spec : {M : Type 1} → statement M
 put-binder-spec =
