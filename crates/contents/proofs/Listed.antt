@@ -2,7 +2,7 @@
 -- Assumes nothing.
 use mathlib.Core.Path.{_≡_, refl, _∙_}
 use mathlib.Core.List.{List, [], _∷_, _++_, map}
-use Prim.Native.Nat.{ℕ, _+_, _*_, _/_, _%_, _≤_}
+use Prim.Native.Nat.{ℕ, _+_, _*_, _/_, _%_, _≤_, _<_}
 use native.Mathlib.Omega.{arith}
 use lib.ListN.{length, length-append, length-map}
 use Rattle.definition.specs.Tree.{Definition, format, constant, byte-order, macro}
@@ -13,7 +13,8 @@ use Rattle.laws.proofs.Splits.{s-definition}
 use Rattle.seek.specs.At.{byteAt, pastAt, numberAt}
 use Rattle.seek.specs.Here.{Here}
 use Rattle.seek.proofs.Here.{here-length, past-here, byte-here, number-here, number-past}
-use Rattle.contents.specs.Listed.{Listed}
+use Rattle.contents.specs.declared.Definitions.{Definitions}
+use Rattle.contents.specs.Listed.{Listed, allOf, nextOf, Left}
 
 deep-head : (d : Definition) (ds : List Definition) → levelsBook (d ∷ ds) ≤ 64 → levelsBook (d ∷ []) ≤ 64
 unfolding levelsBook
@@ -103,3 +104,19 @@ book-listed s ds e b =
         deep = b .deep;
       },
     )
+
+-- a book's definitions, all and one after the other
+pub all-left : {s : List ℕ} {d : Definitions} → d ≡ allOf s → (ds : List Definition) → s ≡ wBook ds → IsBook ds → Left s d ds
+unfolding allOf
+all-left {s} e ds h b = let w = book-listed s ds h b in rw e (record { listed = rw (w .0) (w .1); count = w .0 })
+
+module _ {s : List ℕ} {d : Definitions} where
+  pub next-left : {e : Definitions} → e ≡ nextOf s d → {x : Definition} {ds : List Definition} → Left s d (x ∷ ds) → Left s e ds
+  unfolding nextOf
+  next-left h l = rw h (record { listed = rw (listed-size (l .listed)) (listed-next (l .listed)); count = omega (arith, l .count) })
+
+  pub no-more : d .left ≤ 0 → {x : Definition} {ds : List Definition} → Left s d (x ∷ ds) → ⊥
+  no-more h l = omega (arith, l .count)
+
+  pub some-more : 0 < d .left → Left s d [] → ⊥
+  some-more h l = omega (arith, l .count)
