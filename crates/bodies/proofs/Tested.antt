@@ -3,14 +3,14 @@
 use mathlib.Core.Path.{_≡_, refl, sym, ap, _∙_}
 use mathlib.Core.List.{List, [], _∷_}
 use mathlib.Core.Bool.{Bool, true, false, _&&_, and-true}
-use Prim.Native.Nat.{ℕ, _+_, _-_, _*_, _≤_, _<_}
+use Prim.Native.Nat.{ℕ, _+_, _≤_, _<_}
 use native.Mathlib.Omega.{arith}
 use lib.ListN.{length, take}
 use Rattle.definition.specs.Tree.{Name, Combinator, Param, Definition, format, constant, byte-order, macro}
 use Rattle.definition.specs.Write.{wCombinator, wDefinition, kindOf, kindByte}
 use Rattle.definition.specs.Size.{size, sizeBook, levels, levelsP, levelsBook}
 use Rattle.definition.specs.Bodies.{chainsOk, everyBody}
-use Rattle.seek.specs.At.{byteAt, pastAt, numberAt, namePast}
+use Rattle.seek.specs.At.{byteAt, namePast}
 use Rattle.seek.specs.Here.{Here}
 use Rattle.seek.proofs.Here.{name-here}
 use Rattle.writer.proofs.Put.{take-written}
@@ -21,9 +21,10 @@ use Rattle.calls.specs.Walked.{Walked}
 use Rattle.pieces.specs.Pieces.{pieces, places}
 use Rattle.calls.proofs.Link.{walked}
 use Rattle.pieces.proofs.Room.{size-here, room-enough}
-use Rattle.contents.specs.Listed.{Listed}
+use Rattle.contents.specs.declared.Definitions.{Definitions}
+use Rattle.contents.specs.Listed.{allOf, nextOf, Left}
 use Rattle.contents.specs.Params.{ParamsPast}
-use Rattle.contents.proofs.Listed.{listed-kind, listed-size, listed-body, listed-deep, listed-next, book-listed}
+use Rattle.contents.proofs.Listed.{listed-kind, listed-body, listed-deep, all-left, next-left, no-more, some-more}
 use Rattle.bodies.specs.Tested.{FormatTested, DefinitionTested, BodiesLeft, BodiesTested}
 
 -- a format: the walk over its body leaves the marks of its calls
@@ -77,38 +78,33 @@ every-step f (constant n x) ds = refl
 every-step f (byte-order x) ds = refl
 every-step f (macro n ps c) ds = refl
 
-module _ {s : List ℕ} {test : Combinator → Bool} {row entry at left : ℕ} where
-  pub left-none : left ≤ 0 → BodiesLeft s test row entry at left true
+module _ {s : List ℕ} {test : Combinator → Bool} {row : ℕ} {d : Definitions} where
+  pub left-none : d .left ≤ 0 → BodiesLeft s test row d true
   unfolding everyBody
-  left-none h = record { says = λ l k ds w e. none ds e }
+  left-none h = record { says = λ l k ds w. none ds w }
     where
-      none : (ds : List Definition) → left ≡ length ds → true ≡ everyBody test ds
-      none [] e = refl
-      none (d ∷ ds) e = absurd (omega arith)
+      none : (ds : List Definition) → Left s d ds → true ≡ everyBody test ds
+      none [] w = refl
+      none (x ∷ ds) w = absurd (no-more h w)
 
-  module _ (k : 0 < left) {kind size : ℕ} (hk : kind ≡ byteAt s entry) (hz : size ≡ numberAt s (pastAt s entry 4)) {long : ℕ} (hl : long ≡ row) where
-    pub left-out : {b : Bool} → DefinitionTested s kind at test long b → b ≡ false → BodiesLeft s test row entry at left false
-    left-out {b} v t = record { says = λ l q ds w e. out l q ds w e }
+  module _ (k : 0 < d .left) {kind : ℕ} (hk : kind ≡ byteAt s (d .entry)) {long : ℕ} (hl : long ≡ row) {b : Bool} (v : DefinitionTested s kind (d .at) test long b) where
+    first : length s ≤ 16384 → row ≡ 8192 → (x : Definition) (ds : List Definition) → Left s d (x ∷ ds) → b ≡ everyBody test (x ∷ [])
+    first l q x ds w = let y = w .listed in v .says l (hl ∙ q) x _ (listed-body y) (hk ∙ listed-kind y) (listed-deep y)
+
+    pub left-out : b ≡ false → BodiesLeft s test row d false
+    left-out t = record { says = λ l q ds w. out l q ds w }
       where
-        out : length s ≤ 16384 → row ≡ 8192 → (ds : List Definition) → Listed s entry at ds → left ≡ length ds → false ≡ everyBody test ds
-        out l q [] w e = absurd (omega arith)
-        out l q (d ∷ ds) w e = rw (every-step test d ds, sym (v .says l (hl ∙ q) d _ (listed-body w) (hk ∙ listed-kind w) (listed-deep w)), t)
+        out : length s ≤ 16384 → row ≡ 8192 → (ds : List Definition) → Left s d ds → false ≡ everyBody test ds
+        out l q [] w = absurd (some-more k w)
+        out l q (x ∷ ds) w = rw (every-step test x ds, sym (first l q x ds w), t)
 
-    pub left-step : {b : Bool} → DefinitionTested s kind at test long b → b ≡ true → {at₁ entry₁ : ℕ} → at₁ ≡ pastAt s at size → entry₁ ≡ pastAt s entry 6 → {r : Bool} → BodiesLeft s test row entry₁ at₁ (left - 1) r
-        → BodiesLeft s test row entry at left r
-    left-step {b} v t {at₁} {entry₁} ha he {r} next = record { says = λ l q ds w e. step l q ds w e }
+    pub left-step : b ≡ true → {e : Definitions} → e ≡ nextOf s d → {r : Bool} → BodiesLeft s test row e r → BodiesLeft s test row d r
+    left-step t he {r} next = record { says = λ l q ds w. step l q ds w }
       where
-        step : length s ≤ 16384 → row ≡ 8192 → (ds : List Definition) → Listed s entry at ds → left ≡ length ds → r ≡ everyBody test ds
-        step l q [] w e = absurd (omega arith)
-        step l q (d ∷ ds) w e =
-            next .says l q ds (rw (ha, hz, he, listed-size w) (listed-next w)) (omega arith)
-            ∙ rw (every-step test d ds, sym (v .says l (hl ∙ q) d _ (listed-body w) (hk ∙ listed-kind w) (listed-deep w)), t)
+        step : length s ≤ 16384 → row ≡ 8192 → (ds : List Definition) → Left s d ds → r ≡ everyBody test ds
+        step l q [] w = absurd (some-more k w)
+        step l q (x ∷ ds) w = next .says l q ds (next-left he w) ∙ rw (every-step test x ds, sym (first l q x ds w), t)
 
-pub bodies-tested : {s : List ℕ} {test : Combinator → Bool} {row left entry at : ℕ} {r : Bool} → left ≡ numberAt s 0 → entry ≡ pastAt s 0 2 → at ≡ pastAt s 2 (6 * left)
-    → BodiesLeft s test row entry at left r → BodiesTested s test row r
+pub bodies-tested : {s : List ℕ} {test : Combinator → Bool} {row : ℕ} {d : Definitions} {r : Bool} → d ≡ allOf s → BodiesLeft s test row d r → BodiesTested s test row r
 unfolding sizeBook
-bodies-tested {s} el ee ea v = record {
-  says = λ ds e b k.
-      let w = book-listed s ds e b in
-      v .says (omega (arith, ap length e, b .short)) k ds (rw (ee, ea, el, w .0) (w .1)) (el ∙ w .0);
-}
+bodies-tested h v = record { says = λ ds e b k. v .says (omega (arith, ap length e, b .short)) k ds (all-left h ds e b) }

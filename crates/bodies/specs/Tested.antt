@@ -10,7 +10,8 @@ use Rattle.definition.specs.Size.{levels, levelsP, levelsBook}
 use Rattle.definition.specs.Bodies.{everyBody}
 use Rattle.laws.specs.Book.{IsBook}
 use Rattle.seek.specs.Here.{Here}
-use Rattle.contents.specs.Listed.{Listed}
+use Rattle.contents.specs.declared.Definitions.{Definitions}
+use Rattle.contents.specs.Listed.{Left}
 
 pub record FormatTested (s : List ℕ) (at : ℕ) (test : Combinator → Bool) (row : ℕ) (r : Bool) : Type 0 where
   pub says : length s ≤ 16384 → row ≡ 8192 → (m : Name) (ps : List Param) (c : Combinator) (z : List ℕ) → Here s at (wDefinition (format m ps c) z) → levelsP ps ≤ 64 → levels c ≤ 64
@@ -20,8 +21,8 @@ pub record DefinitionTested (s : List ℕ) (kind at : ℕ) (test : Combinator �
   pub says : length s ≤ 16384 → row ≡ 8192 → (d : Definition) (z : List ℕ) → Here s at (wDefinition d z) → kind ≡ kindByte (kindOf d) → levelsBook (d ∷ []) ≤ 64 → r ≡ everyBody test (d ∷ [])
 
 -- the definitions that are left
-pub record BodiesLeft (s : List ℕ) (test : Combinator → Bool) (row entry at left : ℕ) (r : Bool) : Type 0 where
-  pub says : length s ≤ 16384 → row ≡ 8192 → (ds : List Definition) → Listed s entry at ds → left ≡ length ds → r ≡ everyBody test ds
+pub record BodiesLeft (s : List ℕ) (test : Combinator → Bool) (row : ℕ) (d : Definitions) (r : Bool) : Type 0 where
+  pub says : length s ≤ 16384 → row ≡ 8192 → (ds : List Definition) → Left s d ds → r ≡ everyBody test ds
 
 pub record BodiesTested (s : List ℕ) (test : Combinator → Bool) (row : ℕ) (r : Bool) : Type 0 where
   pub says : (ds : List Definition) → s ≡ wBook ds → IsBook ds → row ≡ 8192 → r ≡ everyBody test ds

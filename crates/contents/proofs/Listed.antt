@@ -2,7 +2,7 @@
 -- Assumes nothing.
 use mathlib.Core.Path.{_≡_, refl, _∙_}
 use mathlib.Core.List.{List, [], _∷_, _++_, map}
-use Prim.Native.Nat.{ℕ, _+_, _*_, _/_, _%_, _≤_, _<_}
+use Prim.Native.Nat.{ℕ, _+_, _-_, _*_, _/_, _%_, _≤_, _<_}
 use native.Mathlib.Omega.{arith}
 use lib.ListN.{length, length-append, length-map}
 use Rattle.definition.specs.Tree.{Definition, format, constant, byte-order, macro}
@@ -106,6 +106,15 @@ book-listed s ds e b =
     )
 
 -- a book's definitions, all and one after the other
+pub all-is : (s : List ℕ) {left entry at : ℕ} → left ≡ numberAt s 0 → entry ≡ pastAt s 0 2 → at ≡ pastAt s 2 (6 * left) → record { left = left; entry = entry; at = at } ≡ allOf s
+unfolding allOf
+all-is s l e a = rw (a, e, l)
+
+pub next-is : (s : List ℕ) (d : Definitions) {sized size left entry at : ℕ} → sized ≡ pastAt s (d .entry) 4 → size ≡ numberAt s sized → left ≡ d .left - 1 → entry ≡ pastAt s (d .entry) 6 → at ≡ pastAt s (d .at) size
+    → record { left = left; entry = entry; at = at } ≡ nextOf s d
+unfolding nextOf
+next-is s d p z l e a = rw (a, e, l, z, p)
+
 pub all-left : {s : List ℕ} {d : Definitions} → d ≡ allOf s → (ds : List Definition) → s ≡ wBook ds → IsBook ds → Left s d ds
 unfolding allOf
 all-left {s} e ds h b = let w = book-listed s ds h b in rw e (record { listed = rw (w .0) (w .1); count = w .0 })
@@ -120,3 +129,7 @@ module _ {s : List ℕ} {d : Definitions} where
 
   pub some-more : 0 < d .left → Left s d [] → ⊥
   some-more h l = omega (arith, l .count)
+
+pub next-less : (s : List ℕ) (d : Definitions) {e : Definitions} → e ≡ nextOf s d → 0 < d .left → e .left < d .left
+unfolding nextOf
+next-less s d h k = rw h (omega arith)

@@ -1,4 +1,6 @@
 // A flat book, out of which nothing is lifted: it is told by one walk, by position over validated bytes, and copied.
+use contents::all_definitions;
+use contents::next_definition;
 use contents::params_past;
 use ends::inner_end;
 use seek::byte;
@@ -178,17 +180,11 @@ fn definition_flat(s: &[u8], kind: u8, at: usize) -> bool
 pub fn is_flat(s: &[u8]) -> bool
     ensures { λ r. ⌜ Told (now (s .entry)) r ⌝ }
 {
-    let mut left = number(s, 0) as usize;
-    let mut entry = past(s, 0, 2);
-    let mut at = past(s, 2, 6 * left);
-    while 0 < left {
-        let kind = byte(s, entry);
-        let sized = past(s, entry, 4);
-        let size = number(s, sized) as usize;
-        let here = at;
-        at = past(s, at, size);
-        entry = past(s, entry, 6);
-        left -= 1;
+    let mut d = all_definitions(s);
+    while 0 < d.left {
+        let kind = byte(s, d.entry);
+        let here = d.at;
+        d = next_definition(s, d);
         if !definition_flat(s, kind, here) {
             return false;
         }

@@ -1,12 +1,12 @@
 // The premise test over an expanded book, on validated bytes: document 01's "Premise test and listing".
 use callable::take_names;
 use called::all_known;
+use contents::all_definitions;
+use contents::next_definition;
 use contents::params_past;
 use marks::first_marks;
 use seek::byte;
 use seek::name_past;
-use seek::number;
-use seek::past;
 use skip::walk_over;
 ghost use lib.ListN.{length};
 ghost use Rattle.bodies.specs.Tested.{FormatTested, DefinitionTested, BodiesTested};
@@ -60,17 +60,11 @@ fn bodies_hold(s: &[u8], places: &[u16], hashes: &[u16], n: usize, marks: &mut [
     requires { ⌜ Rows (now s) (now places) (now hashes) n ⌝ }
     ensures { λ r. ⌜ BodiesTested (now (s .entry)) (passes (rowNames (now (s .entry)) (now (places .entry)) n)) (length (now (marks .entry))) r ⌝ }
 {
-    let mut left = number(s, 0) as usize;
-    let mut entry = past(s, 0, 2);
-    let mut at = past(s, 2, 6 * left);
-    while 0 < left {
-        let kind = byte(s, entry);
-        let sized = past(s, entry, 4);
-        let size = number(s, sized) as usize;
-        let here = at;
-        at = past(s, at, size);
-        entry = past(s, entry, 6);
-        left -= 1;
+    let mut d = all_definitions(s);
+    while 0 < d.left {
+        let kind = byte(s, d.entry);
+        let here = d.at;
+        d = next_definition(s, d);
         if !definition_holds(s, kind, here, places, hashes, n, marks) {
             return false;
         }

@@ -1,11 +1,11 @@
 // Whether a book needs another pass, on validated bytes: document 02 b, "until no known macro call stands where the pass reaches".
+use contents::all_definitions;
+use contents::next_definition;
 use contents::params_past;
 use known::table;
 use marks::first_marks;
 use seek::byte;
 use seek::name_past;
-use seek::number;
-use seek::past;
 use skip::walk_over;
 use unknown::all_unknown;
 ghost use Rattle.settled.specs.Settles.{FormatSettles, DefinitionSettles, BodiesSettle, Settles};
@@ -66,17 +66,11 @@ fn bodies_settled(
 ) -> bool
     ensures { λ r. ⌜ BodiesSettle (now (macros .entry)) (now (places .entry)) (now (hashes .entry)) rows (now (book .entry)) (now (marks .entry)) r ⌝ }
 {
-    let mut left = number(book, 0) as usize;
-    let mut entry = past(book, 0, 2);
-    let mut at = past(book, 2, 6 * left);
-    while 0 < left {
-        let kind = byte(book, entry);
-        let sized = past(book, entry, 4);
-        let size = number(book, sized) as usize;
-        let here = at;
-        at = past(book, at, size);
-        entry = past(book, entry, 6);
-        left -= 1;
+    let mut d = all_definitions(book);
+    while 0 < d.left {
+        let kind = byte(book, d.entry);
+        let here = d.at;
+        d = next_definition(book, d);
         if !definition_settled(macros, places, hashes, rows, book, kind, here, marks) {
             return false;
         }

@@ -1,13 +1,12 @@
 -- `contents::all_definitions` meets its contract.
 -- Assumes nothing.
-use Rattle.contents.specs.Listed.{allOf}
 use borrow.Author.Needs.{needs}
+use Rattle.contents.proofs.Listed.{all-is}
 use Rattle.contents.proofs.all_definitions.Statement.{statement}
 use Rattle.contents.proofs.all_definitions.Tie as tie
 
 returns : tie.Need-returns
-unfolding allOf
-returns c = rw (← (c .before .before .number .ensures), ← (c .before .past .ensures), ← (c .past2 .ensures))
+returns c = all-is _ (c .before .before .number .ensures) (c .before .past .ensures) (c .past2 .ensures)
 
 pub all-definitions-spec : {M : Type 1} → statement M
 all-definitions-spec = tie.close (tie.spec (λ c κs. search needs) (λ c. search needs) (λ c κs. search needs) (λ c. search needs) (λ c κs. search needs) returns)

@@ -3,8 +3,9 @@
 use borrow.Author.Needs.{needs}
 use native.Mathlib.Omega.{arith}
 use mathlib.Core.Bool.{Bool}
-use mathlib.Core.Path.{refl, _∙_}
+use mathlib.Core.Path.{refl}
 use borrow.Author.Tests.{not-true, not-false}
+use Rattle.contents.proofs.Listed.{next-less}
 use Rattle.bodies.specs.Tested.{BodiesLeft}
 use Rattle.bodies.proofs.Tested.{left-none, left-out, left-step, bodies-tested}
 use Rattle.flat.specs.Flat.{flat}
@@ -13,44 +14,25 @@ use Rattle.flat.proofs.is_flat.Statement.{statement}
 use Rattle.flat.proofs.is_flat.Tie as tie
 
 abbrev Inv-loop : tie.InvT-loop
-Inv-loop s left₀ entry₀ at₀ left entry at = (r : Bool) → BodiesLeft s flat 8192 entry at left r → BodiesLeft s flat 8192 entry₀ at₀ left₀ r
+Inv-loop s d₀ d = (r : Bool) → BodiesLeft s flat 8192 d r → BodiesLeft s flat 8192 d₀ r
 
 abbrev μ-loop : tie.MeasureT-loop
-μ-loop s left₀ entry₀ at₀ left entry at = left
+μ-loop s d₀ d = d .left
 
 loop-holds : tie.Need-loop-holds Inv-loop μ-loop
 loop-holds c = λ r t. t
 
 returns : tie.Need-returns Inv-loop μ-loop
-returns c = book-told (bodies-tested (c .before .before .before .before .before .before .before .before .before .before .before .number .ensures) (c .before .before .before .before .before .before .before .before .before .before .past .ensures) (c .before .before .before .before .before .before .before .before .before .past2 .ensures) (c .before .before .before .before .before .before .before .before .loop .inv _ (left-out (c .before .before .before .before .before .before .before .loop-test .taken) (c .before .before .before .before .before .before .byte .ensures) (c .before .before .before .before .number2 .ensures ∙ rw (c .before .before .before .before .before .past3 .ensures)) refl (c .before .definition-flat .ensures) (not-true _ (c .if1 .taken)))))
+returns c = book-told (bodies-tested (c .before .before .before .before .before .before .before .all-definitions .ensures) (c .before .before .before .before .before .before .loop .inv _ (left-out (c .before .before .before .before .if1 .taken) (c .before .before .before .byte .ensures) refl (c .before .definition-flat .ensures) (not-true _ (c .if2 .taken)))))
+
+loop-less : tie.Need-loop-less Inv-loop μ-loop
+loop-less c = next-less _ _ (c .before .before .next-definition .ensures) (c .before .before .before .before .if1 .taken)
 
 loop-again : tie.Need-loop-again Inv-loop μ-loop
-loop-again c = λ r t. c .before .before .before .before .before .before .before .before .loop .inv r (left-step (c .before .before .before .before .before .before .before .loop-test .taken) (c .before .before .before .before .before .before .byte .ensures) (c .before .before .before .before .number2 .ensures ∙ rw (c .before .before .before .before .before .past3 .ensures)) refl (c .before .definition-flat .ensures) (not-false _ (c .if1 .left)) (c .before .before .before .past4 .ensures) (c .before .before .past5 .ensures) t)
+loop-again c = λ r t. c .before .before .before .before .before .before .loop .inv r (left-step (c .before .before .before .before .if1 .taken) (c .before .before .before .byte .ensures) refl (c .before .definition-flat .ensures) (not-false _ (c .if2 .left)) (c .before .before .next-definition .ensures) t)
 
 returns-2 : tie.Need-returns-2 Inv-loop μ-loop
-returns-2 c = book-told (bodies-tested (c .before .before .before .before .number .ensures) (c .before .before .before .past .ensures) (c .before .before .past2 .ensures) (c .before .loop .inv _ (left-none (omega arith))))
+returns-2 c = book-told (bodies-tested (c .before .before .before .all-definitions .ensures) (c .before .before .loop .inv _ (left-none (omega arith))))
 
 pub is-flat-spec : {M : Type 1} → statement M
-is-flat-spec =
-    tie.close
-    (tie.spec
-    Inv-loop
-    μ-loop
-    (λ c κs. search needs)
-    (λ c. search needs)
-    (λ c κs. search needs)
-    (λ c. search needs)
-    (λ c κs. search needs)
-    loop-holds
-    (λ c κs. search needs)
-    (λ c κs. search needs)
-    (λ c κs. search needs)
-    (λ c. search needs)
-    (λ c κs. search needs)
-    (λ c κs. search needs)
-    (λ c. search needs)
-    (λ c κs. search needs)
-    returns
-    (λ c. search needs)
-    loop-again
-    returns-2)
+is-flat-spec = tie.close (tie.spec Inv-loop μ-loop (λ c κs. search needs) loop-holds (λ c κs. search needs) (λ c κs. search needs) (λ c κs. search needs) returns loop-less loop-again returns-2)
