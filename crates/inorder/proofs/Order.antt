@@ -2,7 +2,7 @@
 -- Assumes nothing.
 use mathlib.Core.Path.{_≡_, refl, sym, ap, _∙_}
 use mathlib.Core.List.{List, [], _∷_}
-use Prim.Native.Nat.{ℕ, _+_, _-_, _*_, _≤_, _<_}
+use Prim.Native.Nat.{ℕ, _+_, _≤_, _<_}
 use native.Mathlib.Omega.{arith}
 use lib.ListN.{length, take}
 use Rattle.definition.specs.Res.{Res, bad, ok, _>>=_}
@@ -12,10 +12,11 @@ use Rattle.definition.specs.Size.{sizeBook, levelsBook}
 use Rattle.laws.specs.Book.{IsBook}
 use Rattle.laws.proofs.Sizes.{head, size-book, room-least}
 use Rattle.laws.proofs.Steps.{grouped}
-use Rattle.seek.specs.At.{byteAt, pastAt, numberAt}
+use Rattle.seek.specs.At.{byteAt, pastAt}
 use Rattle.seek.specs.Here.{Here}
-use Rattle.contents.specs.Listed.{Listed}
-use Rattle.contents.proofs.Listed.{listed-kind, listed-size, listed-body, listed-deep, listed-past, listed-next, book-listed}
+use Rattle.contents.specs.declared.Definitions.{Definitions}
+use Rattle.contents.specs.Listed.{allOf, nextOf, Left}
+use Rattle.contents.proofs.Listed.{listed-kind, listed-size, listed-body, listed-deep, listed-past, all-left, next-left, no-more, some-more}
 use Rattle.lifting.specs.After.{firstAt}
 use Rattle.lifting.specs.Trace.{paramsAt}
 use Rattle.lift.specs.declared.Counts.{Counts}
@@ -50,28 +51,33 @@ module _ (sheet : Counts → ℕ → Sheet) (good : Counts → ℕ → Type 0) w
   ends-refused (ok z t) c f h = absurd h
 
 -- ---- what is left
-pub record Rest (s : List ℕ) (entry at left : ℕ) (m : Res Sheet Unit) (t : Sheet) : Type 0 where
+pub record Rest (s : List ℕ) (d : Definitions) (m : Res Sheet Unit) (t : Sheet) : Type 0 where
   pub rest : List Definition
-  pub listed : Listed s entry at rest
-  pub count : left ≡ length rest
-  pub same : m ≡ walkAll rest at t
+  pub are : Left s d rest
+  pub same : m ≡ walkAll rest (d .at) t
 
 -- the loop: whoever goes on from here has gone from the start
-pub record Going (s made₀ places₀ rows₀ params₀ order₀ : List ℕ) (w₀ : Counts) (made places hashes hints rows params number order : List ℕ) (w : Counts) (n entry at left : ℕ) : Type 0 where
+pub record Going (s made₀ places₀ rows₀ params₀ order₀ : List ℕ) (w₀ : Counts) (made places hashes hints rows params number order : List ℕ) (w : Counts) (n : ℕ) (d : Definitions) : Type 0 where
   pub good : Good s made places hashes hints rows params number order w n
   pub goes : (ds : List Definition) → s ≡ wBook ds → IsBook ds
-      → Rest s entry at left (walkAll ds (firstAt ds) (sheetOf s made₀ places₀ rows₀ params₀ (take 0 order₀) w₀)) (sheetOf s made places rows params (take n order) w)
+      → Rest s d (walkAll ds (firstAt ds) (sheetOf s made₀ places₀ rows₀ params₀ (take 0 order₀) w₀)) (sheetOf s made places rows params (take n order) w)
 
-pub going : {s made places hashes hints rows params number order : List ℕ} {w : Counts} → Good s made places hashes hints rows params number order w 0 → {left entry at : ℕ} → left ≡ numberAt s 0 → entry ≡ pastAt s 0 2 → at ≡ pastAt s 2 (6 * left)
-    → Going s made places rows params order w made places hashes hints rows params number order w 0 entry at left
-unfolding pastAt sizeBook
-going {s} g {left} {entry} {at} el ee ea = record {
+-- the first body, and the next
+at-first : {s : List ℕ} {d : Definitions} → d ≡ allOf s → (ds : List Definition) → s ≡ wBook ds → Left s d ds → d .at ≡ firstAt ds
+unfolding allOf pastAt sizeBook
+at-first h ds e l = omega (arith, ap (λ (x : Definitions). x .left) h, ap (λ (x : Definitions). x .at) h, l .count, ap length e, size-book ds, room-least ds)
+
+at-next : {s : List ℕ} {d d₁ : Definitions} → d₁ ≡ nextOf s d → {x : Definition} {ds : List Definition} → Left s d (x ∷ ds) → d₁ .at ≡ d .at + sizeOf x
+unfolding nextOf
+at-next h l = ap (λ (x : Definitions). x .at) h ∙ rw (listed-size (l .listed)) (listed-past (l .listed))
+
+pub going : {s made places hashes hints rows params number order : List ℕ} {w : Counts} → Good s made places hashes hints rows params number order w 0 → {d : Definitions} → d ≡ allOf s
+    → Going s made places rows params order w made places hashes hints rows params number order w 0 d
+going g h = record {
   good = g;
   goes = λ ds e b.
-      let l = book-listed s ds e b in
-      let c : left ≡ length ds = el ∙ l .0 in
-      let f : at ≡ firstAt ds = omega (arith, ea, c, ap length e, size-book ds, room-least ds) in
-      record { rest = ds; listed = rw (ee, ea, c) (l .1); count = c; same = rw f };
+      let l = all-left h ds e b in
+      record { rest = ds; are = l; same = rw (at-first h ds e l) };
 }
 
 is-format : {s : List ℕ} {at : ℕ} (d : Definition) (z : List ℕ) → Here s at (wDefinition d z) → levelsBook (d ∷ []) ≤ 64 → kindByte (kindOf d) ≡ 1 → Format s at
@@ -81,61 +87,56 @@ is-format (constant m x) z h l k = absurd (omega arith)
 is-format (byte-order x) z h l k = absurd (omega arith)
 is-format (macro m ps c) z h l k = absurd (omega arith)
 
-module _ {s made₀ places₀ rows₀ params₀ order₀ : List ℕ} {w₀ : Counts} {made places hashes hints rows params number order : List ℕ} {w : Counts} {n entry at left : ℕ}
-    (g : Going s made₀ places₀ rows₀ params₀ order₀ w₀ made places hashes hints rows params number order w n entry at left) where
-  pub going-all : left ≤ 0 → InOrder s made₀ places₀ rows₀ params₀ order₀ w₀ made places hashes hints rows params number order (Named w n)
+module _ {s made₀ places₀ rows₀ params₀ order₀ : List ℕ} {w₀ : Counts} {made places hashes hints rows params number order : List ℕ} {w : Counts} {n : ℕ} {d : Definitions}
+    (g : Going s made₀ places₀ rows₀ params₀ order₀ w₀ made places hashes hints rows params number order w n d) where
+  pub going-all : d .left ≤ 0 → InOrder s made₀ places₀ rows₀ params₀ order₀ w₀ made places hashes hints rows params number order (Named w n)
   unfolding walkAll Ends
-  going-all h = record { says = λ ds e b. let r = g .goes ds e b in rw (r .same) (of (r .rest) (r .count)) }
+  going-all h = record { says = λ ds e b. let r = g .goes ds e b in rw (r .same) (of (r .rest) (r .are)) }
     where
-      of : (rest : List Definition) → left ≡ length rest → EndsIn (walkAll rest at (sheetOf s made places rows params (take n order) w)) s made places hashes hints rows params number order (Named w n)
-      of [] e = (refl, g .good)
-      of (d ∷ ds) e = absurd (omega arith)
+      of : (rest : List Definition) → Left s d rest → EndsIn (walkAll rest (d .at) (sheetOf s made places rows params (take n order) w)) s made places hashes hints rows params number order (Named w n)
+      of [] l = (refl, g .good)
+      of (x ∷ ds) l = absurd (no-more h l)
 
-  module _ (more : 0 < left) {kind : ℕ} (ek : kind ≡ byteAt s entry) where
-    pub going-format : Expanded s → kind ≡ 1 → Format s at
-    going-format b k = let r = g .goes (b .of) (b .book) (b .isBook) in of (r .rest) (r .listed) (r .count)
+  module _ (more : 0 < d .left) {kind : ℕ} (ek : kind ≡ byteAt s (d .entry)) where
+    pub going-format : Expanded s → kind ≡ 1 → Format s (d .at)
+    going-format b k = let r = g .goes (b .of) (b .book) (b .isBook) in of (r .rest) (r .are)
       where
-        of : (rest : List Definition) → Listed s entry at rest → left ≡ length rest → Format s at
-        of [] l e = absurd (omega arith)
-        of (d ∷ ds) l e = is-format d (wAll wDefinition ds []) (listed-body l) (listed-deep l) (sym (ek ∙ listed-kind l) ∙ k)
+        of : (rest : List Definition) → Left s d rest → Format s (d .at)
+        of [] l = absurd (some-more more l)
+        of (x ∷ ds) l = let i = l .listed in is-format x (wAll wDefinition ds []) (listed-body i) (listed-deep i) (sym (ek ∙ listed-kind i) ∙ k)
 
     module _ {made′ places′ hashes′ hints′ rows′ params′ number′ order′ : List ℕ} where
-      pub going-refused : {c : ℕ} → Defined s kind at made places rows params order w n made′ places′ hashes′ hints′ rows′ params′ number′ order′ (Refused c)
+      pub going-refused : {c : ℕ} → Defined s kind (d .at) made places rows params order w n made′ places′ hashes′ hints′ rows′ params′ number′ order′ (Refused c)
           → InOrder s made₀ places₀ rows₀ params₀ order₀ w₀ made′ places′ hashes′ hints′ rows′ params′ number′ order′ (Refused c)
-      going-refused {c} x = record { says = λ ds e b. let r = g .goes ds e b in rw (r .same) (of (r .rest) (r .listed) (r .count)) }
+      going-refused {c} y = record { says = λ ds e b. let r = g .goes ds e b in rw (r .same) (of (r .rest) (r .are)) }
         where
-          of : (rest : List Definition) → Listed s entry at rest → left ≡ length rest
-              → EndsIn (walkAll rest at (sheetOf s made places rows params (take n order) w)) s made′ places′ hashes′ hints′ rows′ params′ number′ order′ (Refused c)
-          of [] l e = absurd (omega arith)
-          of (d ∷ ds) l e = rw (walk-first d ds at (sheetOf s made places rows params (take n order) w)) (ends-refused _ _ _ c (λ t. walkAll ds (at + sizeOf d) t) (x .says d (wAll wDefinition ds []) (listed-body l) (ek ∙ listed-kind l) (listed-deep l)))
+          of : (rest : List Definition) → Left s d rest
+              → EndsIn (walkAll rest (d .at) (sheetOf s made places rows params (take n order) w)) s made′ places′ hashes′ hints′ rows′ params′ number′ order′ (Refused c)
+          of [] l = absurd (some-more more l)
+          of (x ∷ ds) l =
+              let i = l .listed in
+              rw (walk-first x ds (d .at) (sheetOf s made places rows params (take n order) w))
+              (ends-refused _ _ _ c (λ t. walkAll ds (d .at + sizeOf x) t) (y .says x (wAll wDefinition ds []) (listed-body i) (ek ∙ listed-kind i) (listed-deep i)))
 
-      module _ {v : Counts} {k : ℕ} (x : Defined s kind at made places rows params order w n made′ places′ hashes′ hints′ rows′ params′ number′ order′ (Named v k)) where
-        first : {d : Definition} {ds : List Definition} → Listed s entry at (d ∷ ds)
-            → (walkAll (d ∷ []) at (sheetOf s made places rows params (take n order) w) ≡ ok tt (sheetOf s made′ places′ rows′ params′ (take k order′) v)) × Good s made′ places′ hashes′ hints′ rows′ params′ number′ order′ v k
-        first {d} {ds} l = ends-named _ _ _ v k (x .says d (wAll wDefinition ds []) (listed-body l) (ek ∙ listed-kind l) (listed-deep l))
+      module _ {v : Counts} {k : ℕ} (y : Defined s kind (d .at) made places rows params order w n made′ places′ hashes′ hints′ rows′ params′ number′ order′ (Named v k)) where
+        first : {x : Definition} {ds : List Definition} → Left s d (x ∷ ds)
+            → (walkAll (x ∷ []) (d .at) (sheetOf s made places rows params (take n order) w) ≡ ok tt (sheetOf s made′ places′ rows′ params′ (take k order′) v)) × Good s made′ places′ hashes′ hints′ rows′ params′ number′ order′ v k
+        first {x} {ds} l = let i = l .listed in ends-named _ _ _ v k (y .says x (wAll wDefinition ds []) (listed-body i) (ek ∙ listed-kind i) (listed-deep i))
 
-        pub going-step : Expanded s → {size at₁ entry₁ : ℕ} → size ≡ numberAt s (pastAt s entry 4) → at₁ ≡ pastAt s at size → entry₁ ≡ pastAt s entry 6
-            → Going s made₀ places₀ rows₀ params₀ order₀ w₀ made′ places′ hashes′ hints′ rows′ params′ number′ order′ v k entry₁ at₁ (left - 1)
-        going-step b {size} {at₁} {entry₁} ez ea ee = record {
-          good = let r = g .goes (b .of) (b .book) (b .isBook) in well (r .rest) (r .listed) (r .count);
-          goes = λ ds e i. let r = g .goes ds e i in of _ (r .rest) (r .listed) (r .count) (r .same);
+        pub going-step : Expanded s → {d₁ : Definitions} → d₁ ≡ nextOf s d → Going s made₀ places₀ rows₀ params₀ order₀ w₀ made′ places′ hashes′ hints′ rows′ params′ number′ order′ v k d₁
+        going-step b {d₁} h = record {
+          good = let r = g .goes (b .of) (b .book) (b .isBook) in well (r .rest) (r .are);
+          goes = λ ds e i. let r = g .goes ds e i in of _ (r .rest) (r .are) (r .same);
         }
           where
-            well : (rest : List Definition) → Listed s entry at rest → left ≡ length rest → Good s made′ places′ hashes′ hints′ rows′ params′ number′ order′ v k
-            well [] l e = absurd (omega arith)
-            well (d ∷ ds) l e = first l .1
+            well : (rest : List Definition) → Left s d rest → Good s made′ places′ hashes′ hints′ rows′ params′ number′ order′ v k
+            well [] l = absurd (some-more more l)
+            well (x ∷ ds) l = first l .1
 
-            of : (m : Res Sheet Unit) (rest : List Definition) → Listed s entry at rest → left ≡ length rest → m ≡ walkAll rest at (sheetOf s made places rows params (take n order) w)
-                → Rest s entry₁ at₁ (left - 1) m (sheetOf s made′ places′ rows′ params′ (take k order′) v)
-            of m [] l e q = absurd (omega arith)
-            of m (d ∷ ds) l e q =
-                let z : at₁ ≡ at + sizeOf d = ea ∙ (rw (ez, listed-size l) (listed-past l)) in
-                record {
-                  rest = ds;
-                  listed = rw (ea, ez, ee, listed-size l) (listed-next l);
-                  count = omega arith;
-                  same = q ∙ walk-first d ds at (sheetOf s made places rows params (take n order) w) ∙ rw (first l .0, z);
-                }
+            of : (m : Res Sheet Unit) (rest : List Definition) → Left s d rest → m ≡ walkAll rest (d .at) (sheetOf s made places rows params (take n order) w)
+                → Rest s d₁ m (sheetOf s made′ places′ rows′ params′ (take k order′) v)
+            of m [] l q = absurd (some-more more l)
+            of m (x ∷ ds) l q = record { rest = ds; are = next-left h l; same = q ∙ walk-first x ds (d .at) (sheetOf s made places rows params (take n order) w) ∙ rw (first l .0, at-next h l) }
 
 -- ---- the rows keep their lengths
 pub kept : {s path₀ binders₀ bound₀ uses₀ spare₀ made₀ places₀ hashes₀ hints₀ sheet₀ path binders bound uses spare made places hashes hints sheet : List ℕ} → Space s path₀ binders₀ bound₀ uses₀ spare₀

@@ -1,10 +1,10 @@
 // The naming pass over all definitions in order.
 use body::Body;
+use contents::all_definitions;
+use contents::next_definition;
 use format::expand_definition;
 use lift::Counts;
 use seek::byte;
-use seek::number;
-use seek::past;
 ghost use Rattle.ends.specs.Ends.{Right};
 ghost use Rattle.tables.specs.Parts.{orderIn, rowsIn, paramsIn, numberIn};
 ghost use Rattle.report.specs.Elaborates.{Expanded};
@@ -31,19 +31,13 @@ pub fn expand_in_order(
     requires { ⌜ Good (now s) (now made) (now places) (now hashes) (now hints) (rowsIn (now sheet)) (paramsIn (now sheet)) (numberIn (now sheet)) (orderIn (now sheet)) start 0 × Space (now s) (now path) (now binders) (now bound) (now uses) (now spare) × Expanded (now s) × Right (now s) (now ends) ⌝ }
     ensures { λ r. ⌜ InOrder (now (s .entry)) (now (made .entry)) (now (places .entry)) (rowsIn (now (sheet .entry))) (paramsIn (now (sheet .entry))) (orderIn (now (sheet .entry))) start (now (made .exit)) (now (places .exit)) (now (hashes .exit)) (now (hints .exit)) (rowsIn (now (sheet .exit))) (paramsIn (now (sheet .exit))) (numberIn (now (sheet .exit))) (orderIn (now (sheet .exit))) r ⌝ }
 {
-    let mut left = number(s, 0) as usize;
-    let mut entry = past(s, 0, 2);
-    let mut at = past(s, 2, 6 * left);
+    let mut d = all_definitions(s);
     let mut w = start;
     let mut n = 0;
-    while 0 < left {
-        let kind = byte(s, entry);
-        let sized = past(s, entry, 4);
-        let size = number(s, sized) as usize;
-        let here = at;
-        at = past(s, at, size);
-        entry = past(s, entry, 6);
-        left -= 1;
+    while 0 < d.left {
+        let kind = byte(s, d.entry);
+        let here = d.at;
+        d = next_definition(s, d);
         match expand_definition(
             s,
             ends,

@@ -23,12 +23,13 @@ use Rattle.entries.specs.Entry.{entryBytes}
 use Rattle.writer.specs.Buf.{put, part, Wrote}
 use Rattle.writer.proofs.Put.{put-nil, put-put, put-past, put-fits, length-put, within}
 use Rattle.writer.proofs.Wrote.{fitted, place-fits, place-is, same-length}
-use Rattle.contents.specs.Listed.{Listed}
+use Rattle.contents.specs.declared.Definitions.{Definitions}
+use Rattle.contents.specs.Listed.{allOf, nextOf, Left}
 use Rattle.replaced.specs.Call.{Puts}
 use Rattle.kept.specs.Kept.{keptOf}
 use Rattle.macros.specs.Left.{shallow, expandOne, andOne, shallowAll, Whole, Formatted, Kept, WritesBy, Writes, Listing, Booked}
 use Rattle.pieces.proofs.Marked.{part-here}
-use Rattle.contents.proofs.Listed.{past-is, listed-kind, listed-size, listed-body, listed-deep, listed-next, entries-size, book-listed}
+use Rattle.contents.proofs.Listed.{past-is, listed-kind, listed-size, listed-body, listed-deep, entries-size, all-left, next-left, no-more, some-more}
 
 -- one definition
 module _ {kind size : ℕ} {macros pl hs : List ℕ} {rows : ℕ} {book : List ℕ} {at : ℕ} {areas marks row out : List ℕ} {o : ℕ} {out′ : List ℕ} {r : ℕ} where
@@ -199,43 +200,43 @@ kept-count (constant n x ∷ ds) ms = and-one (expandOne (constant n x) ms) (sha
 kept-count (byte-order x ∷ ds) ms = and-one (expandOne (byte-order x) ms) (shallowAll ds ms) (keptOf ds) (kept-count ds ms)
 kept-count (macro n ps c ∷ ds) ms = kept-count ds ms
 
-on : {book : List ℕ} {entry at size at₁ entry₁ : ℕ} {d : Definition} {ds : List Definition} → size ≡ numberAt book (pastAt book entry 4) → at₁ ≡ pastAt book at size → entry₁ ≡ pastAt book entry 6
-    → Listed book entry at (d ∷ ds) → Listed book entry₁ at₁ ds
-on hz ha he l = rw (ha, hz, he, listed-size l) (listed-next l)
+-- the first of those that are left
+first : {kind size : ℕ} {macros pl hs : List ℕ} {rows : ℕ} {book areas marks row out : List ℕ} {o : ℕ} {out₁ : List ℕ} {r₁ : ℕ} {d : Definitions}
+    → Kept kind size macros pl hs rows book (d .at) areas marks row out o out₁ r₁ → kind ≡ byteAt book (d .entry) → size ≡ numberAt book (pastAt book (d .entry) 4) → (kind ≡ 4 → ⊥)
+    → (ms : List Macro) → Whole macros pl hs rows book areas marks row out ms → {x : Definition} {ds : List Definition} → Left book d (x ∷ ds) → Puts out o (expandOne x ms >>= λ y. done (wDefinition y [])) out₁ r₁
+first kp hk hz f ms wh {x} l = let i = l .listed in kp .says ms wh x _ (listed-body i) (hk ∙ listed-kind i) f (hz ∙ listed-size i) (listed-deep i)
 
-module _ {macros pl hs : List ℕ} {rows : ℕ} {book areas marks row out : List ℕ} {entry at left e o : ℕ} where
-  pub listing-none : left ≤ 0 → Listing macros pl hs rows book areas marks row out entry at left e o out o
+module _ {macros pl hs : List ℕ} {rows : ℕ} {book areas marks row out : List ℕ} {d : Definitions} {e o : ℕ} where
+  pub listing-none : d .left ≤ 0 → Listing macros pl hs rows book areas marks row out d e o out o
   unfolding shallowAll wAll wEntries
-  listing-none k = record { says = λ ms wh ds l el h ho. none ms ds el ho }
+  listing-none k = record { says = λ ms wh ds l h ho. none ms ds l ho }
     where
-      none : (ms : List Macro) (ds : List Definition) → left ≡ length ds → o ≤ length out → Writes out e o (shallowAll ds ms) out o
-      none ms [] el ho = rw (le-leb (o + 0) (length out) (omega arith)) (omega arith, sym (put-nil (put out e []) o ∙ put-nil out e))
-      none ms (d ∷ ds) el ho = absurd (omega arith)
+      none : (ms : List Macro) (ds : List Definition) → Left book d ds → o ≤ length out → Writes out e o (shallowAll ds ms) out o
+      none ms [] l ho = rw (le-leb (o + 0) (length out) (omega arith)) (omega arith, sym (put-nil (put out e []) o ∙ put-nil out e))
+      none ms (x ∷ ds) l ho = absurd (no-more k l)
 
-  module _ (k : 0 < left) {kind size : ℕ} (hk : kind ≡ byteAt book entry) (hz : size ≡ numberAt book (pastAt book entry 4)) {at₁ entry₁ : ℕ} (ha : at₁ ≡ pastAt book at size) (he : entry₁ ≡ pastAt book entry 6) where
-    pub listing-macro : kind ≡ 4 → {out′ : List ℕ} {r : ℕ} → Listing macros pl hs rows book areas marks row out entry₁ at₁ (left - 1) e o out′ r → Listing macros pl hs rows book areas marks row out entry at left e o out′ r
-    listing-macro f {out′} {r} next = record { says = λ ms wh ds l el h ho. step ms wh ds l el h ho }
+  module _ (k : 0 < d .left) {kind : ℕ} (hk : kind ≡ byteAt book (d .entry)) {d₁ : Definitions} (hd : d₁ ≡ nextOf book d) where
+    pub listing-macro : kind ≡ 4 → {out′ : List ℕ} {r : ℕ} → Listing macros pl hs rows book areas marks row out d₁ e o out′ r → Listing macros pl hs rows book areas marks row out d e o out′ r
+    listing-macro f {out′} {r} next = record { says = λ ms wh ds l h ho. step ms wh ds l h ho }
       where
-        step : (ms : List Macro) → Whole macros pl hs rows book areas marks row out ms → (ds : List Definition) → Listed book entry at ds → left ≡ length ds → e + 6 * keptOf ds ≤ o → o ≤ length out → Writes out e o (shallowAll ds ms) out′ r
-        step ms wh [] l el h ho = absurd (omega arith)
-        step ms wh (d ∷ ds) l el h ho =
-            let s = shallow-macro d ds ms (sym (hk ∙ listed-kind l) ∙ f) in
-            rw (s .0) (next .says ms wh ds (on hz ha he l) (omega arith) (omega (arith, s .1)) ho)
+        step : (ms : List Macro) → Whole macros pl hs rows book areas marks row out ms → (ds : List Definition) → Left book d ds → e + 6 * keptOf ds ≤ o → o ≤ length out → Writes out e o (shallowAll ds ms) out′ r
+        step ms wh [] l h ho = absurd (some-more k l)
+        step ms wh (x ∷ ds) l h ho =
+            let s = shallow-macro x ds ms (sym (hk ∙ listed-kind (l .listed)) ∙ f) in
+            rw (s .0) (next .says ms wh ds (next-left hd l) (omega (arith, s .1)) ho)
 
-    module _ (f : kind ≡ 4 → ⊥) {out₁ : List ℕ} {r₁ : ℕ} (kp : Kept kind size macros pl hs rows book at areas marks row out o out₁ r₁) (lo : length out₁ ≡ length out) where
-      pub listing-stop : length out₁ < r₁ → Listing macros pl hs rows book areas marks row out entry at left e o out₁ r₁
-      listing-stop g = record { says = λ ms wh ds l el h ho. step ms wh ds l el }
+    module _ (f : kind ≡ 4 → ⊥) {size : ℕ} (hz : size ≡ numberAt book (pastAt book (d .entry) 4)) {out₁ : List ℕ} {r₁ : ℕ} (kp : Kept kind size macros pl hs rows book (d .at) areas marks row out o out₁ r₁) (lo : length out₁ ≡ length out) where
+      pub listing-stop : length out₁ < r₁ → Listing macros pl hs rows book areas marks row out d e o out₁ r₁
+      listing-stop g = record { says = λ ms wh ds l h ho. step ms wh ds l }
         where
-          step : (ms : List Macro) → Whole macros pl hs rows book areas marks row out ms → (ds : List Definition) → Listed book entry at ds → left ≡ length ds → Writes out e o (shallowAll ds ms) out₁ r₁
-          step ms wh [] l el = absurd (omega arith)
-          step ms wh (d ∷ ds) l el =
-              rw (shallow-kept d ds ms (λ q. f (hk ∙ listed-kind l ∙ q)) .0)
-              (too-long out out₁ o r₁ e (expandOne d ms) (shallowAll ds ms) (kp .says ms wh d _ (listed-body l) (hk ∙ listed-kind l) f (hz ∙ listed-size l) (listed-deep l)) (omega arith))
+          step : (ms : List Macro) → Whole macros pl hs rows book areas marks row out ms → (ds : List Definition) → Left book d ds → Writes out e o (shallowAll ds ms) out₁ r₁
+          step ms wh [] l = absurd (some-more k l)
+          step ms wh (x ∷ ds) l = rw (shallow-kept x ds ms (λ q. f (hk ∙ listed-kind (l .listed) ∙ q)) .0) (too-long out out₁ o r₁ e (expandOne x ms) (shallowAll ds ms) (first kp hk hz f ms wh l) (omega arith))
 
       pub listing-step : r₁ ≤ length out₁ → {out₂ : List ℕ} {e₂ : ℕ} → Wrote out₁ e (entryBytes kind o (r₁ - o)) out₂ e₂
           → {areas₁ marks₁ row₁ : List ℕ} → length areas₁ ≡ length areas → length marks₁ ≡ length marks → length row₁ ≡ length row
-          → {out′ : List ℕ} {r : ℕ} → Listing macros pl hs rows book areas₁ marks₁ row₁ out₂ entry₁ at₁ (left - 1) e₂ r₁ out′ r → Listing macros pl hs rows book areas marks row out entry at left e o out′ r
-      listing-step g {out₂} {e₂} w₂ {areas₁} {marks₁} {row₁} la lm lr {out′} {r} next = record { says = λ ms wh ds l el h ho. step ms wh ds l el h ho }
+          → {out′ : List ℕ} {r : ℕ} → Listing macros pl hs rows book areas₁ marks₁ row₁ out₂ d₁ e₂ r₁ out′ r → Listing macros pl hs rows book areas marks row out d e o out′ r
+      listing-step g {out₂} {e₂} w₂ {areas₁} {marks₁} {row₁} la lm lr {out′} {r} next = record { says = λ ms wh ds l h ho. step ms wh ds l h }
         where
           still : (ms : List Macro) → Whole macros pl hs rows book areas marks row out ms → Whole macros pl hs rows book areas₁ marks₁ row₁ out₂ ms
           still ms wh = record {
@@ -245,34 +246,30 @@ module _ {macros pl hs : List ℕ} {rows : ℕ} {book areas marks row out : List
             table = wh .table;
           }
 
-          by-one : (ms : List Macro) → Whole macros pl hs rows book areas marks row out ms → (d : Definition) (ds : List Definition) → Listed book entry at (d ∷ ds) → left - 1 ≡ length ds → e + 6 * suc (keptOf ds) ≤ o
-              → (v : Out Definition) → Yields (λ x. kindOf x ≡ kindOf d) v → Puts out o (v >>= λ x. done (wDefinition x [])) out₁ r₁ → Writes out e o (andOne v (shallowAll ds ms)) out′ r
-          by-one ms wh d ds l el h (refused c) y p = absurd (omega arith)
-          by-one ms wh d ds l el h (done x) y p =
-              let q : kind ≡ kindByte (kindOf x) = hk ∙ listed-kind l ∙ ap kindByte (sym (yielded y refl)) in
-              let w : Wrote out₁ e (entryBytes (kindByte (kindOf x)) o (r₁ - o)) out₂ e₂ = rw q at w₂ in
-              let z = next .says ms (still ms wh) ds (on hz ha he l) el
-              (omega (arith, place-2 x (wh .out-long) p (omega arith) w (omega arith), r₁-is x (wh .out-long) p (omega arith) w)) (omega (arith, same-length w₂)) in
-              one-more x (wh .out-long) p (omega arith) w (keptOf ds) (shallowAll ds ms) (kept-count ds ms) h out′ r z
+          by-one : (ms : List Macro) → Whole macros pl hs rows book areas marks row out ms → (x : Definition) (ds : List Definition) → Left book d (x ∷ ds) → e + 6 * suc (keptOf ds) ≤ o
+              → (v : Out Definition) → Yields (λ y. kindOf y ≡ kindOf x) v → Puts out o (v >>= λ y. done (wDefinition y [])) out₁ r₁ → Writes out e o (andOne v (shallowAll ds ms)) out′ r
+          by-one ms wh x ds l h (refused c) i p = absurd (omega arith)
+          by-one ms wh x ds l h (done y) i p =
+              let q : kind ≡ kindByte (kindOf y) = hk ∙ listed-kind (l .listed) ∙ ap kindByte (sym (yielded i refl)) in
+              let w : Wrote out₁ e (entryBytes (kindByte (kindOf y)) o (r₁ - o)) out₂ e₂ = rw q at w₂ in
+              let z = next .says ms (still ms wh) ds (next-left hd l)
+              (omega (arith, place-2 y (wh .out-long) p (omega arith) w (omega arith), r₁-is y (wh .out-long) p (omega arith) w)) (omega (arith, same-length w₂)) in
+              one-more y (wh .out-long) p (omega arith) w (keptOf ds) (shallowAll ds ms) (kept-count ds ms) h out′ r z
 
-          step : (ms : List Macro) → Whole macros pl hs rows book areas marks row out ms → (ds : List Definition) → Listed book entry at ds → left ≡ length ds → e + 6 * keptOf ds ≤ o → o ≤ length out → Writes out e o (shallowAll ds ms) out′ r
-          step ms wh [] l el h ho = absurd (omega arith)
-          step ms wh (d ∷ ds) l el h ho =
-              let s = shallow-kept d ds ms (λ q. f (hk ∙ listed-kind l ∙ q)) in
-              rw (s .0) (by-one ms wh d ds l (omega arith) (omega (arith, s .1)) (expandOne d ms) (kind-kept d ms) (kp .says ms wh d _ (listed-body l) (hk ∙ listed-kind l) f (hz ∙ listed-size l) (listed-deep l)))
+          step : (ms : List Macro) → Whole macros pl hs rows book areas marks row out ms → (ds : List Definition) → Left book d ds → e + 6 * keptOf ds ≤ o → Writes out e o (shallowAll ds ms) out′ r
+          step ms wh [] l h = absurd (some-more k l)
+          step ms wh (x ∷ ds) l h =
+              let s = shallow-kept x ds ms (λ q. f (hk ∙ listed-kind (l .listed) ∙ q)) in
+              rw (s .0) (by-one ms wh x ds l (omega (arith, s .1)) (expandOne x ms) (kind-kept x ms) (first kp hk hz f ms wh l))
 
-pub booked : {macros pl hs : List ℕ} {rows : ℕ} {book areas marks row out : List ℕ} {left entry at o : ℕ} → left ≡ numberAt book 0 → entry ≡ pastAt book 0 2 → at ≡ pastAt book 2 (6 * left)
-    → {out′ : List ℕ} {r : ℕ} → Listing macros pl hs rows book areas marks row out entry at left 2 o out′ r → Booked macros pl hs rows book areas marks row out o out′ r
-booked {macros} {pl} {hs} {rows} {book} el ee ea l = record {
-  says = λ ms wh ds e b eo ho.
-      let w = book-listed book ds e b in
-      l .says ms wh ds (rw (ee, ea, el, w .0) (w .1)) (el ∙ w .0) (omega arith) ho;
-}
+pub booked : {macros pl hs : List ℕ} {rows : ℕ} {book areas marks row out : List ℕ} {d : Definitions} {o : ℕ} → d ≡ allOf book
+    → {out′ : List ℕ} {r : ℕ} → Listing macros pl hs rows book areas marks row out d 2 o out′ r → Booked macros pl hs rows book areas marks row out o out′ r
+booked hd l = record { says = λ ms wh ds e b eo ho. l .says ms wh ds (all-left hd ds e b) (omega arith) ho }
 
 -- the loop over the definitions
-pub record Going (macros pl hs : List ℕ) (rows : ℕ) (book areas₀ marks₀ row₀ out₀ : List ℕ) (entry₀ at₀ left₀ e₀ o₀ : ℕ) (areas marks row out : List ℕ) (entry at left e o : ℕ) : Type 0 where
+pub record Going (macros pl hs : List ℕ) (rows : ℕ) (book areas₀ marks₀ row₀ out₀ : List ℕ) (d₀ : Definitions) (e₀ o₀ : ℕ) (areas marks row out : List ℕ) (d : Definitions) (e o : ℕ) : Type 0 where
   pub areas-long : length areas ≡ length areas₀
   pub marks-long : length marks ≡ length marks₀
   pub row-long : length row ≡ length row₀
   pub out-long : length out ≡ length out₀
-  pub goes : (out′ : List ℕ) (r : ℕ) → Listing macros pl hs rows book areas marks row out entry at left e o out′ r → Listing macros pl hs rows book areas₀ marks₀ row₀ out₀ entry₀ at₀ left₀ e₀ o₀ out′ r
+  pub goes : (out′ : List ℕ) (r : ℕ) → Listing macros pl hs rows book areas marks row out d e o out′ r → Listing macros pl hs rows book areas₀ marks₀ row₀ out₀ d₀ e₀ o₀ out′ r

@@ -14,7 +14,8 @@ use Rattle.definition.specs.Macros.{Macro, expand}
 use Rattle.laws.specs.Book.{IsBook}
 use Rattle.seek.specs.Here.{Here}
 use Rattle.writer.specs.Buf.{put}
-use Rattle.contents.specs.Listed.{Listed}
+use Rattle.contents.specs.declared.Definitions.{Definitions}
+use Rattle.contents.specs.Listed.{Left}
 use Rattle.substitution.specs.Turned.{Areas}
 use Rattle.replaced.specs.Call.{Puts}
 use Rattle.known.specs.Table.{Rows}
@@ -65,8 +66,8 @@ Writes out e o (refused k) out′ r = length out < r
 Writes out e o (done es) out′ r = WritesBy out e o es out′ r (leb (o + length (wAll wDefinition es [])) (length out))
 
 -- the definitions that are left
-pub record Listing (macros pl hs : List ℕ) (rows : ℕ) (book areas marks row out : List ℕ) (entry at left e o : ℕ) (out′ : List ℕ) (r : ℕ) : Type 0 where
-  pub says : (ms : List Macro) → Whole macros pl hs rows book areas marks row out ms → (ds : List Definition) → Listed book entry at ds → left ≡ length ds → e + 6 * keptOf ds ≤ o → o ≤ length out
+pub record Listing (macros pl hs : List ℕ) (rows : ℕ) (book areas marks row out : List ℕ) (d : Definitions) (e o : ℕ) (out′ : List ℕ) (r : ℕ) : Type 0 where
+  pub says : (ms : List Macro) → Whole macros pl hs rows book areas marks row out ms → (ds : List Definition) → Left book d ds → e + 6 * keptOf ds ≤ o → o ≤ length out
       → Writes out e o (shallowAll ds ms) out′ r
 
 pub record Booked (macros pl hs : List ℕ) (rows : ℕ) (book areas marks row out : List ℕ) (o : ℕ) (out′ : List ℕ) (r : ℕ) : Type 0 where

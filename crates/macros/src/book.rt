@@ -1,4 +1,6 @@
 // The book that is left: macros removed, order kept, contents made anew, and each format's body expanded.
+use contents::all_definitions;
+use contents::next_definition;
 use contents::params_past;
 use entries::put_entry;
 use expansion::expand_macros_in_combinator;
@@ -96,7 +98,7 @@ fn expand_definition(
     put_part(book, at, end, out, o)
 }
 
-// The definitions that are listed from `entry` on, of which the bodies stand from `at` on: entries go to out from `e` on, bodies from `o` on.
+// All definitions but the macros, one after the other: entries go to out from `e` on, bodies from `o` on.
 pub fn expand_all(
     macros: &[u8],
     places: &[u16],
@@ -111,19 +113,15 @@ pub fn expand_all(
 ) -> usize
     ensures { λ r. ⌜ Booked (now (macros .entry)) (now (places .entry)) (now (hashes .entry)) rows (now (book .entry)) (now (areas .entry)) (now (marks .entry)) (now (row .entry)) (now (out .entry)) bodies (now (out .exit)) r ⌝ }
 {
-    let mut left = number(book, 0) as usize;
-    let mut entry = past(book, 0, 2);
-    let mut at = past(book, 2, 6 * left);
+    let mut d = all_definitions(book);
     let mut e = 2;
     let mut o = bodies;
-    while 0 < left {
-        let kind = byte(book, entry);
-        let size = number(book, past(book, entry, 4)) as usize;
-        let next = past(book, at, size);
-        entry = past(book, entry, 6);
-        left -= 1;
+    while 0 < d.left {
+        let kind = byte(book, d.entry);
+        let size = number(book, past(book, d.entry, 4)) as usize;
+        let at = d.at;
+        d = next_definition(book, d);
         if kind == 4 {
-            at = next;
             continue;
         }
         let r = expand_definition(
@@ -146,7 +144,6 @@ pub fn expand_all(
         }
         e = put_entry(kind, o, r, out, e);
         o = r;
-        at = next;
     }
     o
 }
