@@ -3,7 +3,7 @@
 use mathlib.Core.Path.{_≡_, refl, sym, ap, _∙_}
 use mathlib.Core.List.{List, [], _∷_}
 use mathlib.Core.Bool.{Bool, true, false, cond, _||_, or-false}
-use Prim.Native.Nat.{ℕ, _+_, _-_, _*_, _≤_, _<_}
+use Prim.Native.Nat.{ℕ, _+_, _≤_, _<_}
 use native.Mathlib.Omega.{arith}
 use lib.ListN.{length}
 use Rattle.definition.specs.Tree.{Name, Definition, format, constant, byte-order, macro}
@@ -11,13 +11,14 @@ use Rattle.definition.specs.Names.{eqName, elem}
 use Rattle.definition.specs.Write.{wText, wList, wParam, wCombinator, wDefinition, kindOf, kindByte}
 use Rattle.definition.specs.Size.{sizeBook}
 use Rattle.definition.specs.Lift.{names}
-use Rattle.seek.specs.At.{byteAt, pastAt, numberAt}
+use Rattle.seek.specs.At.{byteAt}
 use Rattle.seek.specs.Here.{Here}
 use Rattle.lookup.specs.Name.{nameAt}
 use Rattle.lookup.proofs.Names.{stands}
 use Rattle.taken.specs.Taken.{both, taken, Grown, Listed as Row}
-use Rattle.contents.specs.Listed.{Listed}
-use Rattle.contents.proofs.Listed.{listed-kind, listed-size, listed-body, listed-next, book-listed}
+use Rattle.contents.specs.declared.Definitions.{Definitions}
+use Rattle.contents.specs.Listed.{allOf, nextOf, Left}
+use Rattle.contents.proofs.Listed.{listed-kind, listed-body, all-left, next-left, no-more, some-more}
 use Rattle.callable.specs.Named.{Hinted, rowNames, Room, Adds, Takes, Taking, Named}
 
 -- a name in front
@@ -99,31 +100,31 @@ names-step (constant n y) ds x e = or-more (eqName x n) (elem x (names ds)) e
 names-step (byte-order y) ds x e = refl
 names-step (macro n ps c) ds x e = refl
 
-module _ {s pl hs hi : List ℕ} {n entry at left : ℕ} where
-  pub taking-none : left ≤ 0 → Taking s pl hs hi n entry at left pl hs hi n
+module _ {s pl hs hi : List ℕ} {n : ℕ} {d : Definitions} where
+  pub taking-none : d .left ≤ 0 → Taking s pl hs hi n d pl hs hi n
   unfolding names elem
-  taking-none h = record { right = λ k. k; says = λ ds l w e r k. none-left ds e }
+  taking-none h = record { right = λ k. k; says = λ ds l w q k. none-left ds w }
     where
-      none-left : (ds : List Definition) → left ≡ length ds → Adds s ds pl n pl n
-      none-left [] e x = refl
-      none-left (d ∷ ds) e x = absurd (omega arith)
+      none-left : (ds : List Definition) → Left s d ds → Adds s ds pl n pl n
+      none-left [] w x = refl
+      none-left (y ∷ ds) w x = absurd (no-more h w)
 
-  pub taking-step : 0 < left → {kind size at₁ entry₁ n₁ : ℕ} {pl₁ hs₁ hi₁ : List ℕ} → kind ≡ byteAt s entry → size ≡ numberAt s (pastAt s entry 4) → Takes s kind at pl hs hi n pl₁ hs₁ hi₁ n₁
-      → at₁ ≡ pastAt s at size → entry₁ ≡ pastAt s entry 6 → length pl₁ ≡ length pl → length hs₁ ≡ length hs → length hi₁ ≡ length hi
-      → {pl′ hs′ hi′ : List ℕ} {r : ℕ} → Taking s pl₁ hs₁ hi₁ n₁ entry₁ at₁ (left - 1) pl′ hs′ hi′ r → Taking s pl hs hi n entry at left pl′ hs′ hi′ r
-  taking-step k {kind} {size} {at₁} {entry₁} {n₁} {pl₁} {hs₁} {hi₁} hk hz t ha he lp lh li {pl′} {hs′} {hi′} {r} next = record {
+  pub taking-step : 0 < d .left → {kind n₁ : ℕ} {e : Definitions} {pl₁ hs₁ hi₁ : List ℕ} → kind ≡ byteAt s (d .entry) → Takes s kind (d .at) pl hs hi n pl₁ hs₁ hi₁ n₁
+      → e ≡ nextOf s d → length pl₁ ≡ length pl → length hs₁ ≡ length hs → length hi₁ ≡ length hi
+      → {pl′ hs′ hi′ : List ℕ} {r : ℕ} → Taking s pl₁ hs₁ hi₁ n₁ e pl′ hs′ hi′ r → Taking s pl hs hi n d pl′ hs′ hi′ r
+  taking-step k {kind} {n₁} {e} {pl₁} {hs₁} {hi₁} hk t he lp lh li {pl′} {hs′} {hi′} {r} next = record {
     right = λ h. next .right (t .right h);
-    says = λ ds l w e q h. step ds l w e q h;
+    says = λ ds l w q h. step ds l w q h;
   }
     where
-      step : (ds : List Definition) → length s ≤ 16384 → Listed s entry at ds → left ≡ length ds → Room pl hs hi (n + left) → Hinted s pl hs hi n → Adds s ds pl n pl′ r
-      step [] l w e q h x = absurd (omega arith)
-      step (d ∷ ds) l w e q h x =
-          next .says ds l (rw (ha, hz, he, listed-size w) (listed-next w)) (omega arith)
-          (record { places-long = omega (arith, t .one, q .places-long); hashes-long = omega (arith, t .one, q .hashes-long); hints-long = omega (arith, t .one, q .hints-long) })
-          (t .right h) x
-          ∙ rw (t .says d _ l (listed-body w) (hk ∙ listed-kind w) (record { places-long = omega (arith, q .places-long); hashes-long = omega (arith, q .hashes-long); hints-long = omega (arith, q .hints-long) }) h x)
-          (sym (names-step d ds x (elem x (rowNames s pl n))))
+      step : (ds : List Definition) → length s ≤ 16384 → Left s d ds → Room pl hs hi (n + d .left) → Hinted s pl hs hi n → Adds s ds pl n pl′ r
+      step [] l w q h x = absurd (some-more k w)
+      step (y ∷ ds) l w q h x =
+          let v = next-left he w in
+          let m : n₁ + e .left ≤ n + d .left = omega (arith, t .one, w .count, v .count) in
+          next .says ds l v (record { places-long = omega (arith, q .places-long); hashes-long = omega (arith, q .hashes-long); hints-long = omega (arith, q .hints-long) }) (t .right h) x
+          ∙ rw (t .says y _ l (listed-body (w .listed)) (hk ∙ listed-kind (w .listed)) (record { places-long = omega (arith, q .places-long); hashes-long = omega (arith, q .hashes-long); hints-long = omega (arith, q .hints-long) }) h x)
+          (sym (names-step y ds x (elem x (rowNames s pl n))))
 
 -- before the first
 nothing : (s pl hs hi : List ℕ) → Hinted s pl hs hi 0
@@ -134,22 +135,21 @@ nothing s pl hs hi = record {
   hinted = λ made. record { hints-long = omega arith; low = λ i h. absurd (omega arith); tried = λ i j h k. absurd (omega arith) };
 }
 
-pub named : {s pl hs hi pl′ hs′ hi′ : List ℕ} {r left entry at : ℕ} → left ≡ numberAt s 0 → entry ≡ pastAt s 0 2 → at ≡ pastAt s 2 (6 * left) → Taking s pl hs hi 0 entry at left pl′ hs′ hi′ r
-    → Named s pl hs hi pl′ hs′ hi′ r
+pub named : {s pl hs hi pl′ hs′ hi′ : List ℕ} {r : ℕ} {d : Definitions} → d ≡ allOf s → Taking s pl hs hi 0 d pl′ hs′ hi′ r → Named s pl hs hi pl′ hs′ hi′ r
 unfolding sizeBook elem taken
-named {s} {pl} {hs} {hi} {pl′} {hs′} {hi′} {r} {left} {entry} {at} el ee ea t = record {
+named {s} {pl} {hs} {hi} e t = record {
   right = t .right (nothing s pl hs hi);
-  says = λ ds e b q x.
-      let w = book-listed s ds e b in
-      t .says ds (omega (arith, ap length e, b .short)) (rw (ee, ea, el, w .0) (w .1)) (el ∙ w .0)
-      (record { places-long = omega (arith, b .few, w .0, q .places-long); hashes-long = omega (arith, b .few, w .0, q .hashes-long); hints-long = omega (arith, b .few, w .0, q .hints-long) })
+  says = λ ds h b q x.
+      let w = all-left e ds h b in
+      t .says ds (omega (arith, ap length h, b .short)) w
+      (record { places-long = omega (arith, b .few, w .count, q .places-long); hashes-long = omega (arith, b .few, w .count, q .hashes-long); hints-long = omega (arith, b .few, w .count, q .hints-long) })
       (nothing s pl hs hi) x
       ∙ or-false (elem x (names ds));
 }
 
 -- the loop: whoever goes on from here has gone from the start
-pub record Going (s pl₀ hs₀ hi₀ : List ℕ) (n₀ entry₀ at₀ left₀ : ℕ) (pl hs hi : List ℕ) (n entry at left : ℕ) : Type 0 where
+pub record Going (s pl₀ hs₀ hi₀ : List ℕ) (d₀ : Definitions) (n₀ : ℕ) (pl hs hi : List ℕ) (d : Definitions) (n : ℕ) : Type 0 where
   pub places-long : length pl ≡ length pl₀
   pub hashes-long : length hs ≡ length hs₀
   pub hints-long : length hi ≡ length hi₀
-  pub goes : (pl′ hs′ hi′ : List ℕ) (r : ℕ) → Taking s pl hs hi n entry at left pl′ hs′ hi′ r → Taking s pl₀ hs₀ hi₀ n₀ entry₀ at₀ left₀ pl′ hs′ hi′ r
+  pub goes : (pl′ hs′ hi′ : List ℕ) (r : ℕ) → Taking s pl hs hi n d pl′ hs′ hi′ r → Taking s pl₀ hs₀ hi₀ n₀ d₀ pl′ hs′ hi′ r

@@ -11,7 +11,8 @@ use Rattle.definition.specs.Lift.{names}
 use Rattle.laws.specs.Book.{IsBook}
 use Rattle.seek.specs.Here.{Here}
 use Rattle.taken.specs.Taken.{both, taken, Table, Hints}
-use Rattle.contents.specs.Listed.{Listed}
+use Rattle.contents.specs.declared.Definitions.{Definitions}
+use Rattle.contents.specs.Listed.{Left}
 
 -- the first n rows are right, whatever the generated names are: all of them stand in the book
 pub record Rows (s places hashes : List ℕ) (n : ℕ) : Type 0 where
@@ -43,10 +44,9 @@ pub record Takes (s : List ℕ) (kind at : ℕ) (places hashes hints : List ℕ)
       → Adds s (d ∷ []) places n places′ r
 
 -- the definitions that are left
-pub record Taking (s : List ℕ) (places hashes hints : List ℕ) (n entry at left : ℕ) (places′ hashes′ hints′ : List ℕ) (r : ℕ) : Type 0 where
+pub record Taking (s : List ℕ) (places hashes hints : List ℕ) (n : ℕ) (d : Definitions) (places′ hashes′ hints′ : List ℕ) (r : ℕ) : Type 0 where
   pub right : Hinted s places hashes hints n → Hinted s places′ hashes′ hints′ r
-  pub says : (ds : List Definition) → length s ≤ 16384 → Listed s entry at ds → left ≡ length ds → Room places hashes hints (n + left) → Hinted s places hashes hints n
-      → Adds s ds places n places′ r
+  pub says : (ds : List Definition) → length s ≤ 16384 → Left s d ds → Room places hashes hints (n + d .left) → Hinted s places hashes hints n → Adds s ds places n places′ r
 
 -- "names a kind 1 or 2 definition": the names of all of these are in the rows
 pub record Named (s places hashes hints places′ hashes′ hints′ : List ℕ) (r : ℕ) : Type 0 where

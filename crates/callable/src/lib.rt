@@ -1,7 +1,7 @@
 // The names that may be called, those of formats and constants, in a table, on validated bytes.
+use contents::all_definitions;
+use contents::next_definition;
 use seek::byte;
-use seek::number;
-use seek::past;
 use taken::take_source_name;
 ghost use Rattle.callable.specs.Named.{Takes, Named};
 
@@ -43,18 +43,12 @@ fn take_defined(
 pub fn take_names(s: &[u8], places: &mut [u16], hashes: &mut [u16], hints: &mut [u16]) -> usize
     ensures { λ r. ⌜ Named (now (s .entry)) (now (places .entry)) (now (hashes .entry)) (now (hints .entry)) (now (places .exit)) (now (hashes .exit)) (now (hints .exit)) r ⌝ }
 {
-    let mut left = number(s, 0) as usize;
-    let mut entry = past(s, 0, 2);
-    let mut at = past(s, 2, 6 * left);
+    let mut d = all_definitions(s);
     let mut n = 0;
-    while 0 < left {
-        let kind = byte(s, entry);
-        let sized = past(s, entry, 4);
-        let size = number(s, sized) as usize;
-        n = take_defined(s, kind, at, places, hashes, hints, n);
-        at = past(s, at, size);
-        entry = past(s, entry, 6);
-        left -= 1;
+    while 0 < d.left {
+        let kind = byte(s, d.entry);
+        n = take_defined(s, kind, d.at, places, hashes, hints, n);
+        d = next_definition(s, d);
     }
     n
 }

@@ -3,7 +3,7 @@
 use mathlib.Core.Path.{_≡_, refl, sym, ap, _∙_}
 use mathlib.Core.List.{List, [], _∷_}
 use mathlib.Core.Bool.{Bool, true, false}
-use Prim.Native.Nat.{ℕ, _+_, _-_, _*_, _%_, _≤_, _<_}
+use Prim.Native.Nat.{ℕ, _+_, _-_, _%_, _≤_, _<_}
 use native.Mathlib.Omega.{arith}
 use lib.ListN.{length, getD, set, length-set}
 use lib.Seq.{getD-set-same, getD-set-other}
@@ -14,7 +14,7 @@ use Rattle.definition.specs.Write.{wName, wList, wDefinition, wCombinator, kind
 use Rattle.definition.specs.Size.{levelsBook, sizeBook}
 use Rattle.definition.specs.Macros.{Macro, macros, expandBy, expandMacro}
 use Rattle.nested.specs.Nested.{isMacro}
-use Rattle.seek.specs.At.{byteAt, pastAt, numberAt}
+use Rattle.seek.specs.At.{byteAt}
 use Rattle.seek.specs.Here.{Here}
 use Rattle.lookup.specs.Name.{nameAt}
 use Rattle.lookup.proofs.Names.{stands}
@@ -22,10 +22,11 @@ use Rattle.hash.specs.Hash.{hashOf}
 use Rattle.hash.proofs.Hash.{hash-ne}
 use Rattle.known.specs.declared.Found.{Found}
 use Rattle.known.specs.declared.Found.the-variants.{At, Unknown}
-use Rattle.contents.specs.Listed.{Listed}
+use Rattle.contents.specs.declared.Definitions.{Definitions}
+use Rattle.contents.specs.Listed.{allOf, nextOf, Left}
 use Rattle.instance.specs.Paired.{Defined}
 use Rattle.known.specs.Table.{Row, Rows, SameRow, Known, Finds, isFound, FindsMacro, Taken, Tabling, Tabled}
-use Rattle.contents.proofs.Listed.{listed-kind, listed-size, listed-body, listed-deep, listed-next, book-listed}
+use Rattle.contents.proofs.Listed.{listed-kind, listed-body, listed-deep, all-left, next-left, no-more, some-more}
 
 pub defined-name : {s : List ℕ} {at : ℕ} (m : Macro) → Defined s at m → nameAt s at ≡ m .name
 unfolding wDefinition
@@ -159,38 +160,36 @@ macros-step (constant n x) ds ms = refl
 macros-step (byte-order x) ds ms = refl
 macros-step (macro n ps c) ds ms = refl
 
-module _ {s pl hs : List ℕ} {n entry at left : ℕ} where
-  pub tabling-none : left ≤ 0 → Tabling s pl hs n entry at left pl hs n
+module _ {s pl hs : List ℕ} {n : ℕ} {d : Definitions} where
+  pub tabling-none : d .left ≤ 0 → Tabling s pl hs n d pl hs n
   unfolding macros
-  tabling-none h = record { says = λ ds ms l w e k lp lh r. none ds ms e r }
+  tabling-none h = record { says = λ ds ms l w k lp lh r. none ds ms w r }
     where
-      none : (ds : List Definition) (ms : List Macro) → left ≡ length ds → Rows s pl hs n ms → Rows s pl hs n (macros ds ms)
-      none [] ms e r = r
-      none (d ∷ ds) ms e r = absurd (omega arith)
+      none : (ds : List Definition) (ms : List Macro) → Left s d ds → Rows s pl hs n ms → Rows s pl hs n (macros ds ms)
+      none [] ms w r = r
+      none (x ∷ ds) ms w r = absurd (no-more h w)
 
-  pub tabling-step : 0 < left → {kind size at₁ entry₁ n₁ : ℕ} {pl₁ hs₁ : List ℕ} → kind ≡ byteAt s entry → size ≡ numberAt s (pastAt s entry 4) → Taken s kind at pl hs n pl₁ hs₁ n₁
-      → at₁ ≡ pastAt s at size → entry₁ ≡ pastAt s entry 6 → length pl₁ ≡ length pl → length hs₁ ≡ length hs
-      → {pl′ hs′ : List ℕ} {r : ℕ} → Tabling s pl₁ hs₁ n₁ entry₁ at₁ (left - 1) pl′ hs′ r → Tabling s pl hs n entry at left pl′ hs′ r
-  tabling-step k {kind} {size} {at₁} {entry₁} {n₁} {pl₁} {hs₁} hk hz t ha he lp₁ lh₁ {pl′} {hs′} {r} next = record { says = λ ds ms l w e q lp lh rs. step ds ms l w e q lp lh rs }
+  pub tabling-step : 0 < d .left → {kind n₁ : ℕ} {e : Definitions} {pl₁ hs₁ : List ℕ} → kind ≡ byteAt s (d .entry) → Taken s kind (d .at) pl hs n pl₁ hs₁ n₁ → e ≡ nextOf s d
+      → length pl₁ ≡ length pl → length hs₁ ≡ length hs → {pl′ hs′ : List ℕ} {r : ℕ} → Tabling s pl₁ hs₁ n₁ e pl′ hs′ r → Tabling s pl hs n d pl′ hs′ r
+  tabling-step k hk t he lp₁ lh₁ {pl′} {hs′} {r} next = record { says = λ ds ms l w q lp lh rs. step ds ms l w q lp lh rs }
     where
-      step : (ds : List Definition) (ms : List Macro) → length s ≤ 16384 → Listed s entry at ds → left ≡ length ds → n + left ≤ 512 → length pl ≡ 512 → length hs ≡ 512
+      step : (ds : List Definition) (ms : List Macro) → length s ≤ 16384 → Left s d ds → n + d .left ≤ 512 → length pl ≡ 512 → length hs ≡ 512
           → Rows s pl hs n ms → Rows s pl′ hs′ r (macros ds ms)
-      step [] ms l w e q lp lh rs = absurd (omega arith)
-      step (d ∷ ds) ms l w e q lp lh rs =
-          rw (macros-step d ds ms)
-          (next .says ds (macros (d ∷ []) ms) l (rw (ha, hz, he, listed-size w) (listed-next w)) (omega arith) (omega (arith, t .one)) (lp₁ ∙ lp) (lh₁ ∙ lh)
-          (t .says d _ ms l (listed-body w) (hk ∙ listed-kind w) (listed-deep w) (omega arith) (omega arith) rs))
+      step [] ms l w q lp lh rs = absurd (some-more k w)
+      step (x ∷ ds) ms l w q lp lh rs =
+          let v = next-left he w in
+          rw (macros-step x ds ms)
+          (next .says ds (macros (x ∷ []) ms) l v (omega (arith, t .one, w .count, v .count)) (lp₁ ∙ lp) (lh₁ ∙ lh)
+          (t .says x _ ms l (listed-body (w .listed)) (hk ∙ listed-kind (w .listed)) (listed-deep (w .listed)) (omega arith) (omega arith) rs))
 
-pub tabled : {s pl hs pl′ hs′ : List ℕ} {r left entry at : ℕ} → left ≡ numberAt s 0 → entry ≡ pastAt s 0 2 → at ≡ pastAt s 2 (6 * left) → Tabling s pl hs 0 entry at left pl′ hs′ r → Tabled s pl hs pl′ hs′ r
+pub tabled : {s pl hs pl′ hs′ : List ℕ} {r : ℕ} {d : Definitions} → d ≡ allOf s → Tabling s pl hs 0 d pl′ hs′ r → Tabled s pl hs pl′ hs′ r
 unfolding sizeBook
-tabled {s} {pl} {hs} {pl′} {hs′} {r} {left} {entry} {at} el ee ea t = record {
-  says = λ ds e b lp lh.
-      let w = book-listed s ds e b in
-      t .says ds [] (omega (arith, ap length e, b .short)) (rw (ee, ea, el, w .0) (w .1)) (el ∙ w .0) (omega (arith, b .few, w .0)) lp lh refl;
+tabled e t = record {
+  says = λ ds h b lp lh. let w = all-left e ds h b in t .says ds [] (omega (arith, ap length h, b .short)) w (omega (arith, b .few, w .count)) lp lh refl;
 }
 
 -- the loop that fills: whoever goes on from here has gone from the start
-pub record Filling (s pl₀ hs₀ : List ℕ) (n₀ entry₀ at₀ left₀ : ℕ) (pl hs : List ℕ) (n entry at left : ℕ) : Type 0 where
+pub record Filling (s pl₀ hs₀ : List ℕ) (d₀ : Definitions) (n₀ : ℕ) (pl hs : List ℕ) (d : Definitions) (n : ℕ) : Type 0 where
   pub places-long : length pl ≡ length pl₀
   pub hashes-long : length hs ≡ length hs₀
-  pub goes : (pl′ hs′ : List ℕ) (r : ℕ) → Tabling s pl hs n entry at left pl′ hs′ r → Tabling s pl₀ hs₀ n₀ entry₀ at₀ left₀ pl′ hs′ r
+  pub goes : (pl′ hs′ : List ℕ) (r : ℕ) → Tabling s pl hs n d pl′ hs′ r → Tabling s pl₀ hs₀ n₀ d₀ pl′ hs′ r

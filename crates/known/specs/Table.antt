@@ -14,7 +14,8 @@ use Rattle.laws.specs.Book.{IsBook}
 use Rattle.nested.specs.Nested.{isMacro}
 use Rattle.seek.specs.Here.{Here}
 use Rattle.hash.specs.Hash.{hashOf}
-use Rattle.contents.specs.Listed.{Listed}
+use Rattle.contents.specs.declared.Definitions.{Definitions}
+use Rattle.contents.specs.Listed.{Left}
 use Rattle.instance.specs.Paired.{Defined}
 use Rattle.known.specs.declared.Found.{Found}
 use Rattle.known.specs.declared.Found.the-variants.{At, Unknown}
@@ -62,8 +63,8 @@ pub record Taken (s : List ℕ) (kind at : ℕ) (places hashes : List ℕ) (n : 
       → n < length places → n < length hashes → Rows s places hashes n ms → Rows s places′ hashes′ r (macros (d ∷ []) ms)
 
 -- the definitions that are left are taken
-pub record Tabling (s : List ℕ) (places hashes : List ℕ) (n entry at left : ℕ) (places′ hashes′ : List ℕ) (r : ℕ) : Type 0 where
-  pub says : (ds : List Definition) (ms : List Macro) → length s ≤ 16384 → Listed s entry at ds → left ≡ length ds → n + left ≤ 512 → length places ≡ 512 → length hashes ≡ 512
+pub record Tabling (s : List ℕ) (places hashes : List ℕ) (n : ℕ) (d : Definitions) (places′ hashes′ : List ℕ) (r : ℕ) : Type 0 where
+  pub says : (ds : List Definition) (ms : List Macro) → length s ≤ 16384 → Left s d ds → n + d .left ≤ 512 → length places ≡ 512 → length hashes ≡ 512
       → Rows s places hashes n ms → Rows s places′ hashes′ r (macros ds ms)
 
 -- all macros of a book

@@ -1,10 +1,10 @@
 // The macros of a book in a table: a row for each, with its place and the hash of its name, the last definition in the last row.
+use contents::all_definitions;
+use contents::next_definition;
 use hash::name_hash;
 use lookup::name_at;
 use lookup::same_name;
 use seek::byte;
-use seek::number;
-use seek::past;
 ghost use Rattle.known.specs.Table.{SameRow, FindsMacro, Taken, Tabled};
 
 // Where the definition of a macro stands, if there is one.
@@ -89,18 +89,12 @@ fn take_macro(
 pub fn table(macros: &[u8], places: &mut [u16], hashes: &mut [u16]) -> usize
     ensures { λ r. ⌜ Tabled (now (macros .entry)) (now (places .entry)) (now (hashes .entry)) (now (places .exit)) (now (hashes .exit)) r ⌝ }
 {
-    let mut left = number(macros, 0) as usize;
-    let mut entry = past(macros, 0, 2);
-    let mut at = past(macros, 2, 6 * left);
+    let mut d = all_definitions(macros);
     let mut n = 0;
-    while 0 < left {
-        let kind = byte(macros, entry);
-        let sized = past(macros, entry, 4);
-        let size = number(macros, sized) as usize;
-        n = take_macro(macros, kind, at, places, hashes, n);
-        at = past(macros, at, size);
-        entry = past(macros, entry, 6);
-        left -= 1;
+    while 0 < d.left {
+        let kind = byte(macros, d.entry);
+        n = take_macro(macros, kind, d.at, places, hashes, n);
+        d = next_definition(macros, d);
     }
     n
 }

@@ -2,7 +2,7 @@
 -- Assumes nothing.
 use mathlib.Core.Path.{_≡_, refl, _∙_}
 use mathlib.Core.List.{List, [], _∷_, _++_, append-assoc}
-use Prim.Native.Nat.{ℕ, zero, suc, _+_, _*_, _-_, _≤_, _<_}
+use Prim.Native.Nat.{ℕ, zero, suc, _-_, _≤_, _<_}
 use native.Mathlib.Omega.{arith}
 use lib.ListN.{length, length-append}
 use Rattle.definition.specs.Out.{done}
@@ -14,11 +14,12 @@ use Rattle.writer.specs.Buf.{Wrote}
 use Rattle.writer.proofs.Wrote.{place-within, glue, wrote-none}
 use Rattle.lookup.specs.Name.{nameAt}
 use Rattle.lookup.proofs.Names.{stands}
-use Rattle.seek.specs.At.{byteAt, pastAt, numberAt, namePast}
+use Rattle.seek.specs.At.{byteAt, numberAt, namePast}
 use Rattle.seek.specs.Here.{Here}
 use Rattle.seek.proofs.Here.{name-here, number-here}
-use Rattle.contents.specs.Listed.{Listed}
-use Rattle.contents.proofs.Listed.{listed-kind, listed-size, listed-body, listed-next, book-listed}
+use Rattle.contents.specs.declared.Definitions.{Definitions}
+use Rattle.contents.specs.Listed.{allOf, nextOf, Left}
+use Rattle.contents.proofs.Listed.{listed-kind, listed-body, all-left, next-left, no-more, some-more}
 use Rattle.printed.specs.Lines.{wordOf, Line, Lines, AllLines, Lists}
 
 pub word-format : (k : ℕ) → (k ≡ 0 → ⊥) → wordOf k ≡ wFormat
@@ -68,37 +69,31 @@ module _ {s : List ℕ} {kind at kept : ℕ} {d d′ : List ℕ} {o r : ℕ} whe
       of (byte-order x) z e h = absurd (omega arith)
       of (macro n ps c) z e h = absurd (omega arith)
 
-pub lines-none : {s d : List ℕ} {entry at left kept o : ℕ} → left ≤ 0 → Lines s entry at left kept d o d o
+pub lines-none : {s d : List ℕ} {e : Definitions} {kept o : ℕ} → e .left ≤ 0 → Lines s e kept d o d o
 unfolding lines
-lines-none {s} {d} {entry} {at} {left} {kept} {o} h = record { says = λ ks ls l e k b. of ks ls e b }
+lines-none {s} {d} {e} {kept} {o} h = record { says = λ ks ls l k b. of ks ls l b }
   where
-    of : (ks ls : List Definition) → left ≡ length (ks ++ ls) → o ≤ suc (length d) → Wrote d o (lines wFormat ks ++ lines wLifted ls) d o
-    of [] [] e b = wrote-none d o b
-    of [] (x ∷ ls) e b = absurd (omega arith)
-    of (x ∷ ks) ls e b = absurd (omega arith)
+    of : (ks ls : List Definition) → Left s e (ks ++ ls) → o ≤ suc (length d) → Wrote d o (lines wFormat ks ++ lines wLifted ls) d o
+    of [] [] l b = wrote-none d o b
+    of [] (x ∷ ls) l b = absurd (no-more h l)
+    of (x ∷ ks) ls l b = absurd (no-more h l)
 
-pub lines-step : {s d d₁ d′ : List ℕ} {entry at left kept o o₁ r : ℕ} → 0 < left → Line s (byteAt s entry) at kept d o d₁ o₁
-    → Lines s (pastAt s entry 6) (pastAt s at (numberAt s (pastAt s entry 4))) (left - 1) (kept - 1) d₁ o₁ d′ r → Lines s entry at left kept d o d′ r
+pub lines-step : {s d d₁ d′ : List ℕ} {e e₁ : Definitions} {kind kept kept₁ o o₁ r : ℕ} → 0 < e .left → kind ≡ byteAt s (e .entry) → Line s kind (e .at) kept d o d₁ o₁ → e₁ ≡ nextOf s e → kept₁ ≡ kept - 1
+    → Lines s e₁ kept₁ d₁ o₁ d′ r → Lines s e kept d o d′ r
 unfolding lines wordOf
-lines-step {s} {d} {d₁} {d′} {entry} {at} {left} {kept} {o} {o₁} {r} h w m = record { says = of }
+lines-step {s} {d} {d₁} {d′} {e} {kept = kept} {o = o} {o₁} {r} h hk w he hm m = record { says = of }
   where
-    of : (ks ls : List Definition) → Listed s entry at (ks ++ ls) → left ≡ length (ks ++ ls) → kept ≡ length ks → o ≤ suc (length d) → Wrote d o (lines wFormat ks ++ lines wLifted ls) d′ r
-    of [] [] l e k b = absurd (omega arith)
-    of [] (x ∷ ls) l e k b =
-        let v : Wrote d o (line wLifted x) d₁ o₁ = rw k at (w .says x _ (listed-kind l) (listed-body l)) in
-        glue v (m .says [] ls (rw (listed-size l) (listed-next l)) (omega arith) (omega arith) (place-within v))
-    of (x ∷ ks) ls l e k b =
-        let v : Wrote d o (line wFormat x) d₁ o₁ = rw k at (w .says x _ (listed-kind l) (listed-body l)) in
-        rw (append-assoc (line wFormat x) (lines wFormat ks) (lines wLifted ls)) (glue v (m .says ks ls (rw (listed-size l) (listed-next l)) (omega arith) (omega arith) (place-within v)))
+    of : (ks ls : List Definition) → Left s e (ks ++ ls) → kept ≡ length ks → o ≤ suc (length d) → Wrote d o (lines wFormat ks ++ lines wLifted ls) d′ r
+    of [] [] l k b = absurd (some-more h l)
+    of [] (x ∷ ls) l k b =
+        let v : Wrote d o (line wLifted x) d₁ o₁ = rw k at (w .says x _ (hk ∙ listed-kind (l .listed)) (listed-body (l .listed))) in
+        glue v (m .says [] ls (next-left he l) (omega arith) (place-within v))
+    of (x ∷ ks) ls l k b =
+        let v : Wrote d o (line wFormat x) d₁ o₁ = rw k at (w .says x _ (hk ∙ listed-kind (l .listed)) (listed-body (l .listed))) in
+        rw (append-assoc (line wFormat x) (lines wFormat ks) (lines wLifted ls)) (glue v (m .says ks ls (next-left he l) (omega arith) (place-within v)))
 
-pub all-lines : {s d d₁ d′ : List ℕ} {kept left entry at o o₁ r : ℕ} → left ≡ numberAt s 0 → entry ≡ pastAt s 0 2 → at ≡ pastAt s 2 (6 * left) → Wrote d o (10 ∷ []) d₁ o₁ → Lines s entry at left kept d₁ o₁ d′ r
-    → AllLines s kept d o d′ r
-all-lines {s} {kept = kept} {left} {entry} {at} a b c w m = record {
-  says = λ ks ls e i k.
-      let g = book-listed s (ks ++ ls) e i in
-      let n : left ≡ length (ks ++ ls) = a ∙ g .0 in
-      glue w (m .says ks ls (rw (b, c, n) (g .1)) n k (place-within w));
-}
+pub all-lines : {s d d₁ d′ : List ℕ} {e : Definitions} {kept o o₁ r : ℕ} → e ≡ allOf s → Wrote d o (10 ∷ []) d₁ o₁ → Lines s e kept d₁ o₁ d′ r → AllLines s kept d o d′ r
+all-lines h w m = record { says = λ ks ls e i k. glue w (m .says ks ls (all-left h (ks ++ ls) e i) k (place-within w)) }
 
 -- `ok D L`, and the lines
 pub lists : {s d d₁ d₂ d₃ d′ : List ℕ} {definitions lifted kept o₁ o₂ o₃ r : ℕ} → Wrote d 0 (111 ∷ 107 ∷ []) d₁ o₁ → Wrote d₁ o₁ (count definitions) d₂ o₂ → Wrote d₂ o₂ (count lifted) d₃ o₃

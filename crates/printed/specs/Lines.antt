@@ -11,7 +11,8 @@ use Rattle.definition.specs.Listing.{wFormat, wLifted, line, lines, listed}
 use Rattle.laws.specs.Book.{IsBook}
 use Rattle.writer.specs.Buf.{Wrote}
 use Rattle.seek.specs.Here.{Here}
-use Rattle.contents.specs.Listed.{Listed}
+use Rattle.contents.specs.declared.Definitions.{Definitions}
+use Rattle.contents.specs.Listed.{Left}
 
 -- how many definitions that were there are left
 unfoldable pub wordOf : ℕ → List ℕ
@@ -22,9 +23,9 @@ wordOf (suc n) = wFormat
 pub record Line (s : List ℕ) (kind at kept : ℕ) (d : List ℕ) (o : ℕ) (d′ : List ℕ) (r : ℕ) : Type 0 where
   pub says : (x : Definition) (z : List ℕ) → kind ≡ kindByte (kindOf x) → Here s at (wDefinition x z) → Wrote d o (line (wordOf kept) x) d′ r
 
--- the lines of the definitions listed from a place on, `left` in all, of which the first were there
-pub record Lines (s : List ℕ) (entry at left kept : ℕ) (d : List ℕ) (o : ℕ) (d′ : List ℕ) (r : ℕ) : Type 0 where
-  pub says : (ks ls : List Definition) → Listed s entry at (ks ++ ls) → left ≡ length (ks ++ ls) → kept ≡ length ks → o ≤ suc (length d) → Wrote d o (lines wFormat ks ++ lines wLifted ls) d′ r
+-- the lines of the definitions that are left, of which the first were there
+pub record Lines (s : List ℕ) (e : Definitions) (kept : ℕ) (d : List ℕ) (o : ℕ) (d′ : List ℕ) (r : ℕ) : Type 0 where
+  pub says : (ks ls : List Definition) → Left s e (ks ++ ls) → kept ≡ length ks → o ≤ suc (length d) → Wrote d o (lines wFormat ks ++ lines wLifted ls) d′ r
 
 -- of a whole book, behind a newline
 pub record AllLines (s : List ℕ) (kept : ℕ) (d : List ℕ) (o : ℕ) (d′ : List ℕ) (r : ℕ) : Type 0 where

@@ -1,10 +1,11 @@
 // The lines of a result, written into a buffer.
+use contents::all_definitions;
+use contents::next_definition;
 use lookup::name_at;
 use numbers::minus;
 use seek::byte;
 use seek::name_past;
 use seek::number;
-use seek::past;
 use shown::put_count;
 use shown::put_shown;
 use writer::put_byte;
@@ -51,20 +52,14 @@ fn put_line(s: &[u8], kind: u8, at: usize, kept: usize, out: &mut [u8], o: usize
 fn put_lines(s: &[u8], kept: usize, out: &mut [u8], at: usize) -> usize
     ensures { λ r. ⌜ AllLines (now (s .entry)) kept (now (out .entry)) at (now (out .exit)) r ⌝ }
 {
-    let mut left = number(s, 0) as usize;
-    let mut entry = past(s, 0, 2);
-    let mut here = past(s, 2, 6 * left);
+    let mut d = all_definitions(s);
     let mut first = kept;
     let mut o = put_byte(10, out, at);
-    while 0 < left {
-        let kind = byte(s, entry);
-        let sized = past(s, entry, 4);
-        let size = number(s, sized) as usize;
-        o = put_line(s, kind, here, first, out, o);
-        here = past(s, here, size);
-        entry = past(s, entry, 6);
+    while 0 < d.left {
+        let kind = byte(s, d.entry);
+        o = put_line(s, kind, d.at, first, out, o);
+        d = next_definition(s, d);
         first = minus(first, 1);
-        left -= 1;
     }
     o
 }

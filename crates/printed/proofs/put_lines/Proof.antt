@@ -5,29 +5,35 @@ use Prim.Native.Nat.{ℕ}
 use mathlib.Core.List.{List}
 use mathlib.Core.Path.{_≡_, refl}
 use lib.ListN.{length}
-use Rattle.printed.specs.Lines.{Lines}
 use native.Mathlib.Omega.{arith}
+use Rattle.contents.specs.Listed.{nextOf}
+use Rattle.printed.specs.Lines.{Lines}
 use Rattle.printed.proofs.Lines.{lines-none, lines-step, all-lines}
 use Rattle.printed.proofs.put_lines.Statement.{statement}
 use Rattle.printed.proofs.put_lines.Tie as tie
 
 abbrev Inv-loop : tie.InvT-loop
-Inv-loop s kept out₀ at left₀ entry₀ here₀ first₀ o₀ out left entry here first o = (length out ≡ length out₀) × ((d : List ℕ) (r : ℕ) → Lines s entry here left first out o d r → Lines s entry₀ here₀ left₀ first₀ out₀ o₀ d r)
+Inv-loop s kept out₀ at d₀ first₀ o₀ out d first o = (length out ≡ length out₀) × ((x : List ℕ) (r : ℕ) → Lines s d first out o x r → Lines s d₀ first₀ out₀ o₀ x r)
 
 abbrev μ-loop : tie.MeasureT-loop
-μ-loop s kept out₀ at left₀ entry₀ here₀ first₀ o₀ out left entry here first o = left
+μ-loop s kept out₀ at d₀ first₀ o₀ out d first o = d .left
 
 loop-holds : tie.Need-loop-holds Inv-loop μ-loop
-loop-holds c = (refl, λ d r p. p)
+loop-holds c = (refl, λ x r p. p)
+
+loop-less : tie.Need-loop-less Inv-loop μ-loop
+unfolding nextOf
+loop-less c = rw (c .before .next-definition .ensures) (omega (arith, c .before .before .before .before .before .before .before .if1 .taken))
 
 loop-again : tie.Need-loop-again Inv-loop μ-loop
-loop-again c = (
-  omega (arith, c .before .before .before .before .before .before .before .before .before .before .before .loop .inv .0),
-  λ d r p. c .before .before .before .before .before .before .before .before .before .before .before .loop .inv .1 d r (lines-step (c .before .before .before .before .before .before .before .before .before .before .loop-test .taken) (rw (c .before .before .before .before .before .before .before .before .before .byte .ensures) at (c .before .before .before .before .before .put-line .ensures)) (rw (c .before .past5 .ensures, c .before .before .past4 .ensures, c .before .before .before .before .before .before .before .number2 .ensures, c .before .before .before .before .before .before .before .before .past3 .ensures, c .minus .ensures) at p)),
-)
+loop-again c =
+    let l = c .before .before .before .before .before .before .before .before .before .loop .inv in (
+      omega (arith, l .0),
+      λ x r p. l .1 x r (lines-step (c .before .before .before .before .before .before .before .if1 .taken) (c .before .before .before .before .before .before .byte .ensures) (c .before .before .before .before .put-line .ensures) (c .before .next-definition .ensures) (c .minus .ensures) p),
+    )
 
 returns : tie.Need-returns Inv-loop μ-loop
-returns c = all-lines (c .before .before .before .before .before .before .before .before .number .ensures) (c .before .before .before .before .before .before .before .past .ensures) (c .before .before .before .before .before .before .past2 .ensures) (c .before .before .before .before .put-byte .ensures) (c .before .loop .inv .1 _ _ (lines-none (c .loop-test .left)))
+returns c = all-lines (c .before .before .before .before .before .before .before .all-definitions .ensures) (c .before .before .before .before .before .put-byte .ensures) (c .before .before .loop .inv .1 _ _ (lines-none (c .if1 .left)))
 
 pub put-lines-spec : {M : Type 1} → statement M
-put-lines-spec = tie.close (tie.spec Inv-loop μ-loop (λ c κs. search needs) (λ c. search needs) (λ c κs. search needs) (λ c. search needs) (λ c κs. search needs) (λ c κs. search needs) loop-holds (λ c κs. search needs) (λ c κs. search needs) (λ c κs. search needs) (λ c. search needs) (λ c κs. search needs) (λ c κs. search needs) (λ c κs. search needs) (λ c κs. search needs) (λ c. search needs) (λ c. search needs) loop-again (λ c. search needs) returns)
+put-lines-spec = tie.close (tie.spec Inv-loop μ-loop (λ c κs. search needs) (λ c κs. search needs) loop-holds (λ c κs. search needs) (λ c κs. search needs) (λ c κs. search needs) (λ c κs. search needs) loop-less loop-again (λ c. search needs) returns)
