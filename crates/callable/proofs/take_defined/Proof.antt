@@ -1,4 +1,4 @@
--- `known::take_defined` meets its contract.
+-- `callable::take_defined` meets its contract.
 -- Assumes nothing.
 use borrow.Author.Needs.{needs}
 use Rattle.callable.proofs.Named.{takes-low, takes-high, takes-far, takes-full, takes-full-2, takes-full-3, takes-row}

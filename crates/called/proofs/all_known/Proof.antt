@@ -1,4 +1,4 @@
--- `known::all_known` meets its contract.
+-- `called::all_known` meets its contract.
 -- Assumes nothing.
 use borrow.Author.Needs.{needs}
 use borrow.Author.Tests.{not-true, not-false}

@@ -1,4 +1,4 @@
--- `known::is_known` meets its contract.
+-- `called::is_known` meets its contract.
 -- Assumes nothing.
 use borrow.Author.Needs.{needs}
 use Rattle.called.proofs.Every.{other-known, found-known}

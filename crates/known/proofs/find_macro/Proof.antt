@@ -1,4 +1,4 @@
--- `rows::find_macro` meets its contract.
+-- `known::find_macro` meets its contract.
 -- Assumes nothing.
 use borrow.Author.Needs.{needs}
 use mathlib.Core.Path.{_≡_}

@@ -1,4 +1,4 @@
--- `rows::same_row` meets its contract.
+-- `known::same_row` meets its contract.
 -- Assumes nothing.
 use native.Mathlib.Omega.{arith}
 use Rattle.known.proofs.Rows.{row-past-places, row-past-hashes, row-other-hash, row-is, row-not}

@@ -3,7 +3,7 @@
 use borrow.Author.Needs.{needs}
 use mathlib.Core.Path.{refl, _∙_}
 use native.Mathlib.Omega.{arith}
-use Rattle.contents.specs.Listed.{nextOf}
+use Rattle.contents.proofs.Listed.{next-less}
 use Rattle.known.proofs.Rows.{Filling, tabling-none, tabling-step, tabled}
 use Rattle.known.proofs.table.Statement.{statement}
 use Rattle.known.proofs.table.Tie as tie
@@ -18,8 +18,7 @@ loop-holds : tie.Need-loop-holds Inv-loop μ-loop
 loop-holds c = record { places-long = refl; hashes-long = refl; goes = λ p h r t. t }
 
 loop-less : tie.Need-loop-less Inv-loop μ-loop
-unfolding nextOf
-loop-less c = rw (c .next-definition .ensures) (omega (arith, c .before .before .before .before .before .before .before .before .before .if1 .taken))
+loop-less c = next-less _ _ (c .next-definition .ensures) (c .before .before .before .before .before .before .before .before .before .if1 .taken)
 
 loop-again : tie.Need-loop-again Inv-loop μ-loop
 loop-again c =

@@ -1,4 +1,4 @@
--- `rows::take_macro` meets its contract.
+-- `known::take_macro` meets its contract.
 -- Assumes nothing.
 use Rattle.known.proofs.Rows.{taken-not, taken-full, taken-full-2, taken-row}
 use borrow.Author.Needs.{needs}

@@ -6,7 +6,7 @@ use mathlib.Core.List.{List}
 use mathlib.Core.Path.{_≡_, refl}
 use lib.ListN.{length}
 use native.Mathlib.Omega.{arith}
-use Rattle.contents.specs.Listed.{nextOf}
+use Rattle.contents.proofs.Listed.{next-less}
 use Rattle.printed.specs.Lines.{Lines}
 use Rattle.printed.proofs.Lines.{lines-none, lines-step, all-lines}
 use Rattle.printed.proofs.put_lines.Statement.{statement}
@@ -22,8 +22,7 @@ loop-holds : tie.Need-loop-holds Inv-loop μ-loop
 loop-holds c = (refl, λ x r p. p)
 
 loop-less : tie.Need-loop-less Inv-loop μ-loop
-unfolding nextOf
-loop-less c = rw (c .before .next-definition .ensures) (omega (arith, c .before .before .before .before .before .before .before .if1 .taken))
+loop-less c = next-less _ _ (c .before .next-definition .ensures) (c .before .before .before .before .before .before .before .if1 .taken)
 
 loop-again : tie.Need-loop-again Inv-loop μ-loop
 loop-again c =

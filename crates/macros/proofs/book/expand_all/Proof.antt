@@ -3,7 +3,7 @@
 use borrow.Author.Needs.{needs}
 use mathlib.Core.Path.{refl, _∙_}
 use native.Mathlib.Omega.{arith}
-use Rattle.contents.specs.Listed.{nextOf}
+use Rattle.contents.proofs.Listed.{next-less}
 use Rattle.macros.proofs.Leftover.{Going, listing-none, listing-macro, listing-stop, listing-step, booked}
 use Rattle.macros.proofs.book.expand_all.Statement.{statement}
 use Rattle.macros.proofs.book.expand_all.Tie as tie
@@ -20,8 +20,7 @@ loop-holds : tie.Need-loop-holds Inv-loop μ-loop
 loop-holds c = record { areas-long = refl; marks-long = refl; row-long = refl; out-long = refl; goes = λ d r l. l }
 
 loop-less : tie.Need-loop-less Inv-loop μ-loop
-unfolding nextOf
-loop-less c = rw (c .before .next-definition .ensures) (omega (arith, c .before .before .before .before .before .if1 .taken))
+loop-less c = next-less _ _ (c .before .next-definition .ensures) (c .before .before .before .before .before .if1 .taken)
 
 loop-again : tie.Need-loop-again Inv-loop μ-loop
 loop-again c =
@@ -53,8 +52,7 @@ returns c =
     (listing-stop (c .before .before .before .before .before .before .before .before .before .before .before .before .before .before .before .before .before .before .before .if1 .taken) (c .before .before .before .before .before .before .before .before .before .before .before .before .before .before .before .before .before .before .byte .ensures) (c .before .before .before .before .before .before .before .before .before .before .before .before .before .before .before .next-definition .ensures) (c .before .before .before .before .before .before .before .before .before .before .before .before .before .before .if2 .left) (c .before .before .before .before .before .before .before .before .before .before .before .before .before .before .before .before .number .ensures ∙ rw (c .before .before .before .before .before .before .before .before .before .before .before .before .before .before .before .before .before .past .ensures)) (c .before .before .before .before .before .before .before .before .before .expand-definition .ensures) (c .before .before .out .given) (c .if3 .taken)))
 
 loop-less-2 : tie.Need-loop-less-2 Inv-loop μ-loop
-unfolding nextOf
-loop-less-2 c = rw (c .before .before .before .before .before .before .before .before .before .before .before .before .before .before .before .before .before .before .before .next-definition .ensures) (omega (arith, c .before .before .before .before .before .before .before .before .before .before .before .before .before .before .before .before .before .before .before .before .before .before .before .if1 .taken))
+loop-less-2 c = next-less _ _ (c .before .before .before .before .before .before .before .before .before .before .before .before .before .before .before .before .before .before .before .next-definition .ensures) (c .before .before .before .before .before .before .before .before .before .before .before .before .before .before .before .before .before .before .before .before .before .before .before .if1 .taken)
 
 loop-again-2 : tie.Need-loop-again-2 Inv-loop μ-loop
 loop-again-2 c =
