@@ -98,7 +98,7 @@ fn expand_definition(
     put_part(book, at, end, out, o)
 }
 
-// All definitions but the macros, one after the other: entries go to out from `e` on, bodies from `o` on.
+// All definitions but the macros, one after the other: entries go to out from its third byte on, bodies from `bodies` on.
 pub fn expand_all(
     macros: &[u8],
     places: &[u16],

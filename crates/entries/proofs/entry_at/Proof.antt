@@ -1,4 +1,4 @@
--- `entries::entry_at` meets its contract: a walk of its MIR, by hand, after the toolchain's `entries::write_pair`. All that it knows of `put_byte` and `put_u16` is that each meets its contract.
+-- `entries::entry_at` meets its contract: a walk of its MIR, by hand, after the toolchain's `writer::write_pair`. All that it knows of `put_byte` and `put_u16` is that each meets its contract.
 -- Each is called at the borrow's own lifetime, share and ghost name: what it returns is, by its contract, a record that is known whole, pointer and ghost name with it. So the last writer holds `out`'s borrow at its last list, and it is opened for the exit.
 -- Assumes nothing.
 use mathlib.Core.Path.{_≡_, refl, sym, ap, subst}
