@@ -12,7 +12,7 @@ pick true a b = a
 pick false a b = b
 
 -- "--nested"
-abbrev wNested : List ℕ
+abbrev pub wNested : List ℕ
 wNested = 45 ∷ 45 ∷ 110 ∷ 101 ∷ 115 ∷ 116 ∷ 101 ∷ 100 ∷ []
 
 -- the program's own name is one of the words

@@ -3,7 +3,7 @@
 use mathlib.Core.Path.{_≡_, sym, _∙_}
 use native.Mathlib.Omega.{arith}
 use Rattle.labels.specs.Labels.{isLabel, linked}
-use Rattle.labels.proofs.Steps.{linked-none, linked-far, linked-on, is-none}
+use Rattle.labels.proofs.Steps.{linked-none, linked-far, linked-same, linked-next, is-none}
 use borrow.Author.Needs.{needs}
 use Rattle.labels.proofs.is_label.Statement.{statement}
 use Rattle.labels.proofs.is_label.Tie as tie
@@ -28,13 +28,13 @@ sub-before : tie.Need-sub-before Inv-loop μ-loop
 sub-before c = omega arith
 
 returns-3 : tie.Need-returns-3 Inv-loop μ-loop
-returns-3 c = sym (c .before .before .before .before .before .loop .inv ∙ linked-on _ _ _ _ _ (c .before .before .before .before .loop-test .taken) (c .before .before .before .if2 .left) ∙ rw (← (c .before .before .label-at .ensures), ← (c .before .same-name .ensures), c .if3 .taken))
+returns-3 c = sym (c .before .before .before .before .before .loop .inv ∙ linked-same _ _ _ _ _ (c .before .before .before .before .loop-test .taken) (c .before .before .before .if2 .left) (c .before .before .label-at .ensures) (c .before .same-name .ensures) (c .if3 .taken))
 
 loop-less : tie.Need-loop-less Inv-loop μ-loop
 loop-less c = omega arith
 
 loop-again : tie.Need-loop-again Inv-loop μ-loop
-loop-again c = c .before .before .before .before .before .before .loop .inv ∙ linked-on _ _ _ _ _ (c .before .before .before .before .before .loop-test .taken) (c .before .before .before .before .if2 .left) ∙ rw (← (c .before .before .before .label-at .ensures), ← (c .before .before .same-name .ensures), c .before .if3 .left, ← (c .link-at .ensures))
+loop-again c = c .before .before .before .before .before .before .loop .inv ∙ linked-next _ _ _ _ _ (c .before .before .before .before .before .loop-test .taken) (c .before .before .before .before .if2 .left) (c .before .before .before .label-at .ensures) (c .before .before .same-name .ensures) (c .before .if3 .left) (c .link-at .ensures)
 
 returns-4 : tie.Need-returns-4 Inv-loop μ-loop
 returns-4 c = sym (c .before .loop .inv ∙ linked-none _ _ _ _ _ (omega arith))

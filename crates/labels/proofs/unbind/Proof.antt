@@ -25,7 +25,7 @@ loop-less : tie.Need-loop-less Inv-loop μ-loop
 loop-less c = omega arith
 
 loop-again : tie.Need-loop-again Inv-loop μ-loop
-loop-again c = (omega arith, c .before .before .before .before .before .loop .inv .1 ∙ unbind-on _ _ _ _ (c .before .before .before .before .loop-test .taken) ∙ rw (← (c .before .before .release .ensures)))
+loop-again c = (omega arith, c .before .before .before .before .before .loop .inv .1 ∙ unbind-on _ _ _ _ (c .before .before .before .before .loop-test .taken) (c .before .before .release .ensures))
 
 returns : tie.Need-returns Inv-loop μ-loop
 returns c = sym (c .before .loop .inv .1 ∙ unbind-done _ _ _ _ (c .loop-test .left))

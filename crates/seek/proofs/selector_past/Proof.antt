@@ -17,11 +17,11 @@ name-past-requires c κs = search needs
 
 returns : tie.Need-returns
 unfolding selectorPast
-returns c = rw (← (c .before .before .before .byte .ensures), ← (c .before .before .past .ensures), eq-eqb _ _ (c .before .if1 .taken)) (c .name-past .ensures)
+returns c = rw (← (c .before .before .before .byte .ensures), ← (c .before .before .past .ensures), eq-eqb _ 1 (c .before .if1 .taken)) (c .name-past .ensures)
 
 returns-2 : tie.Need-returns-2
 unfolding selectorPast
-returns-2 c = rw (← (c .before .before .byte .ensures), ← (c .before .past .ensures), ne-eqb _ _ (c .if1 .left))
+returns-2 c = rw (← (c .before .before .byte .ensures), ← (c .before .past .ensures), ne-eqb _ 1 (c .if1 .left))
 
 pub selector-past-spec : {M : Type 1} → statement M
 selector-past-spec =
