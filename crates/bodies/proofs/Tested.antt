@@ -8,7 +8,7 @@ use native.Mathlib.Omega.{arith}
 use lib.ListN.{length, take}
 use Rattle.definition.specs.Tree.{Name, Combinator, Param, Definition, format, constant, byte-order, macro}
 use Rattle.definition.specs.Write.{wCombinator, wDefinition, kindOf, kindByte}
-use Rattle.definition.specs.Size.{size, sizeBook, levels, levelsP, levelsBook}
+use Rattle.definition.specs.Size.{sizeBook, levels, levelsP, levelsBook}
 use Rattle.definition.specs.Bodies.{chainsOk, everyBody}
 use Rattle.seek.specs.At.{byteAt, namePast}
 use Rattle.seek.specs.Here.{Here}

@@ -4,7 +4,7 @@ use mathlib.Core.List.{List, [], _∷_, _++_, map}
 use Prim.Native.Nat.{_≤_, _<_, ℕ, _+_, _*_}
 use native.Mathlib.Omega.{arith}
 use lib.ListN.{length, length-append}
-use Rattle.definition.specs.Tree.{Name, Text, Shell, wrap, vec, option, array, Selector, CaseKind, enums, ints, arrays, FieldKind, Combinator, plain, chained, Inner, leaf, struct, choice, shell, bytes, invocation, macro-invocation, Fields, field, const, Cases, case, Param, Definition, format}
+use Rattle.definition.specs.Tree.{Name, Text, Shell, wrap, vec, option, array, Selector, CaseKind, FieldKind, Combinator, plain, chained, Inner, leaf, struct, choice, shell, bytes, invocation, macro-invocation, Fields, field, const, Cases, case, Param, Definition, format}
 use Rattle.definition.specs.Write.{wU16, wName, wText, wAll, wList, wSelector, caseByte, wLabel, wOpen, wShut, countC, wCombinator, wInner, wFields, wCases, wParam, wDefinition, sizeOf, wEntries, wParts, entryOf, wBook}
 use Rattle.definition.specs.Size.{size, sizeBook}
 use Rattle.laws.proofs.Splits.{Splits, s-name, s-text, s-list, s-selector, s-label, s-open, s-comb, s-inner, s-param, s-definition}
@@ -70,12 +70,6 @@ open-some (wrap x y) = omega arith
 open-some vec = omega arith
 open-some option = omega arith
 open-some (array l) = omega arith
-
-pub label-some : (k : CaseKind) (l : List ℕ) → 0 < length (wLabel k l [])
-unfolding wLabel wName wText wU16
-label-some enums l = omega arith
-label-some ints l = omega arith
-label-some arrays l = omega arith
 
 pub sizeI-some : (i : Inner) → 0 < sizeI i
 unfolding sizeI wCombinator wOpen

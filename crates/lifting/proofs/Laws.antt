@@ -8,13 +8,10 @@ use Rattle.definition.specs.Tree.{Definition}
 use Rattle.definition.specs.Write.{wBook}
 use Rattle.definition.specs.Size.{sizeBook}
 use Rattle.lifting.specs.Trace.{Trace, treeHead, traceBook, resultOf, traced}
-use Rattle.lifting.specs.Laws.{SameAnswer, RecordsOfLifts, LoopIsTrace, StepsAreFew, StepsStand, StepsAreShallow, StepsKeep, EachLiftTakes, TakenAreNamed, SumCloses, LiftAdds, EachLiftCounts, CallTakes, CountedInBytes, GoesLeftToRight, Gave, Comes, refuses, gives, ElaboratedByPlaces}
+use Rattle.lifting.specs.Laws.{SameAnswer, RecordsOfLifts, SumCloses, CallTakes, CountedInBytes, GoesLeftToRight, Gave, Comes, refuses, gives, ElaboratedByPlaces}
 use Rattle.lifting.proofs.Agree.{sum-closed}
 use Rattle.lifting.proofs.Book.{length-outAll, elaborated-by, was-traced}
 use Rattle.lifting.proofs.Calls.{calls-end, calls-copy, calls-stretch, calls-call}
-use Rattle.lifting.proofs.Frames.{run-body, steps-size, next-shallower}
-use Rattle.lifting.proofs.Places.{next-at, step-keeps}
-use Rattle.lifting.proofs.Counts.{enter-bytes, counted-enter, taken-enter, elem-taken}
 use Rattle.lifting.proofs.Written.{written}
 use Rattle.lifting.proofs.Measured.{size-call, measured-by-bytes}
 
@@ -29,33 +26,6 @@ sum-closes = sum-closed
 
 pub call-takes : CallTakes
 call-takes = size-call
-
-pub loop-is-trace : LoopIsTrace
-loop-is-trace = run-body
-
-pub steps-are-few : StepsAreFew
-steps-are-few = steps-size
-
-pub steps-stand : StepsStand
-steps-stand = next-at
-
-pub steps-are-shallow : StepsAreShallow
-steps-are-shallow = next-shallower
-
-pub steps-keep : StepsKeep
-steps-keep = step-keeps
-
-pub each-lift-takes : EachLiftTakes
-each-lift-takes = taken-enter
-
-pub taken-are-named : TakenAreNamed
-taken-are-named = elem-taken
-
-pub lift-adds : LiftAdds
-lift-adds = enter-bytes
-
-pub each-lift-counts : EachLiftCounts
-each-lift-counts = counted-enter
 
 pub counted-in-bytes : CountedInBytes
 counted-in-bytes = measured-by-bytes

@@ -10,8 +10,5 @@ pub mod Refs
 pub mod Standing
 pub mod Written
 pub mod Measured
-pub mod Frames
-pub mod Counts
-pub mod Places
 pub mod Laws
 pub mod Worked

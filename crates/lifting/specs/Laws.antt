@@ -1,14 +1,12 @@
 -- The laws of lifting by place, statement by statement. The proofs are in proofs/Laws.antt.
 use mathlib.Core.Path.{_≡_}
-use mathlib.Core.Bool.{_||_}
 use mathlib.Core.List.{List, [], _∷_, _++_, map}
-use Prim.Native.Nat.{ℕ, suc, _+_, _*_, _-_, _≤_, _<_}
+use Prim.Native.Nat.{ℕ, suc, _+_, _-_, _≤_, _<_}
 use lib.ListN.{length, getD}
 use Rattle.definition.specs.Code.{Code}
 use Rattle.definition.specs.Res.{absent, just, Res, bad, ok}
 use Rattle.definition.specs.Out.{Out, refused, done}
 use Rattle.definition.specs.Tree.{Name, Combinator, Param, Definition, format}
-use Rattle.definition.specs.Names.{elem}
 use Rattle.definition.specs.Write.{wCombinator, sizeOf, wBook}
 use Rattle.definition.specs.Size.{size, sizeBook}
 use Rattle.definition.specs.Lift.{liftBook}
@@ -17,9 +15,8 @@ use Rattle.laws.proofs.Sizes.{head}
 use Rattle.writer.specs.Buf.{part}
 use Rattle.lifting.specs.Records.{Record, find, call}
 use Rattle.lifting.specs.After.{definitionOf, outAll, liftsAll, firstAt, Stands, AllFound}
-use Rattle.lifting.specs.Calls.{withCalls, resultBytes, paramRoom, byteHead, namesRoom, callRoom}
-use Rattle.lifting.specs.Frames.{Todo, whole, Frame, next, step, run, steps, At, AtNext, Shallower, AllAt}
-use Rattle.lifting.specs.Trace.{Trace, Binder, enter, trace, treeHead, traceBook, traced}
+use Rattle.lifting.specs.Calls.{withCalls, resultBytes, byteHead, callRoom}
+use Rattle.lifting.specs.Trace.{Trace, treeHead, traceBook, traced}
 
 -- The walk that makes records -------------------------------------------------------------------
 
@@ -43,38 +40,6 @@ pub record Traced (ds : List Definition) (t : Trace) : Type 0 where
 abbrev pub RecordsOfLifts : Type 0
 RecordsOfLifts = (ds : List Definition) (t : Trace) → traceBook treeHead ds ≡ ok tt t → Traced ds t
 
--- the trace of a body is a loop over frames
-abbrev pub LoopIsTrace : Type 0
-LoopIsTrace = (headOf : List Record → Record → ℕ) (c : Combinator) (p : ℕ) (n : Name) (env : List Binder) (t : Trace)
-    → run headOf (steps c) (record { todo = whole c p; name = n; env = env; closes = absent } ∷ []) t ≡ trace headOf c p n env t
-
-abbrev pub StepsAreFew : Type 0
-StepsAreFew = (c : Combinator) → steps c ≤ 2 * size c
-
--- what it steps to stands at its place, and a child is one level deeper
-abbrev pub StepsStand : Type 0
-StepsStand = (s : List ℕ) (d : Todo) (n : Name) (env : List Binder) → At s d → AtNext s (next d n env)
-
-abbrev pub StepsAreShallow : Type 0
-StepsAreShallow = (d : Todo) (n : Name) (env : List Binder) → Shallower d (next d n env)
-
-abbrev pub StepsKeep : Type 0
-StepsKeep = (headOf : List Record → Record → ℕ) (s : List ℕ) (m : ℕ) (f : Frame) (fs gs : List Frame) (t u : Trace) → AllAt s m (f ∷ fs) → step headOf f fs t ≡ ok gs u → AllAt s m gs
-
--- "A lifted name is taken before its own children are named": the names taken are those of the records, the last first, and those at the start
-unfoldable pub namesBack : List Record → List Name → List Name
-namesBack [] ns = ns
-namesBack (r ∷ rs) ns = namesBack rs (r .name ∷ ns)
-
-abbrev pub Taken : List Name → Trace → Type 0
-Taken ns t = t .taken ≡ namesBack (t .records) ns
-
-abbrev pub EachLiftTakes : Type 0
-EachLiftTakes = (headOf : List Record → Record → ℕ) (ns : List Name) (r : Record) (t : Trace) → Taken ns t → Taken ns (enter headOf r t)
-
-abbrev pub TakenAreNamed : Type 0
-TakenAreNamed = (rs : List Record) (ns : List Name) (n : Name) → elem n (namesBack rs ns) ≡ elem n (map (λ r. r .name) rs) || elem n ns
-
 -- Code 10 -----------------------------------------------------------------------------------------
 
 -- "6 bytes of contents, the new body and the call, less the combinator moved": it is in the new body, and cancels
@@ -83,23 +48,6 @@ SumCloses = (n : Name) (ps : List Param) (c there : Combinator) (b : ℕ) → (b
 
 abbrev pub CallTakes : Type 0
 CallTakes = (r : Record) → size (call r) ≡ callRoom r
-
--- what a lift takes at the least: 14 bytes, its name twice, and each of its parameters' names with its length byte twice (in the call and in the new body)
-unfoldable pub takes : List Record → ℕ
-takes [] = 0
-takes (r ∷ rs) = 14 + 2 * length (r .name) + 2 * namesRoom (r .params) + takes rs
-
--- with b bytes and n definitions at the start. From `bytes` within 16,384 follow bounds for the tables of names, parameters and records
-pub record Counted (b n : ℕ) (t : Trace) : Type 0 where
-  pub bytes : b + takes (t .records) ≤ t .bytes
-  pub defns : t .defns ≡ n + length (t .records)
-
-abbrev pub EachLiftCounts : Type 0
-EachLiftCounts = (s : List ℕ) (b n : ℕ) (r : Record) (t : Trace) → Counted b n t → length (r .types) ≡ length (r .params) → Counted b n (enter (byteHead s) r t)
-
--- the sum with one more lift
-abbrev pub LiftAdds : Type 0
-LiftAdds = (s : List ℕ) (r : Record) (t : Trace) → (enter (byteHead s) r t) .bytes ≡ t .bytes + 14 + 2 * length (r .name) + paramRoom s (t .records) (r .params) (r .types) + namesRoom (r .params)
 
 -- heads may be counted in the bytes of the expanded book, whatever follows it
 abbrev pub CountedInBytes : Type 0

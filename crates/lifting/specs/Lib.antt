@@ -2,5 +2,4 @@ pub mod Records
 pub mod After
 pub mod Trace
 pub mod Calls
-pub mod Frames
 pub mod Laws

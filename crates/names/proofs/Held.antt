@@ -20,9 +20,6 @@ module _ {d : List ℕ} {at : ℕ} {name : Name} (h : Held d at name) where
   pub held-whole : at ≤ length d → take at d ≡ name
   held-whole k = h .bytes ∙ take-all (length d) name (omega (arith, h .place))
 
-  pub held-length : at ≤ length d → length name ≡ at
-  held-length k = omega (arith, h .place)
-
   module _ {p d′ : List ℕ} {r : ℕ} (w : Wrote d at p d′ r) where
     grown-place : r ≡ min (suc (length d′)) (length (name ++ p))
     grown-place = rw (length-append, same-length w) (omega (arith, h .place, place-is w))

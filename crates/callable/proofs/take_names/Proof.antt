@@ -2,7 +2,6 @@
 -- Assumes nothing.
 use borrow.Author.Needs.{needs}
 use mathlib.Core.Path.{refl, _∙_}
-use native.Mathlib.Omega.{arith}
 use Rattle.contents.proofs.Listed.{next-less}
 use Rattle.callable.proofs.Named.{Going, taking-none, taking-step, named}
 use Rattle.callable.proofs.take_names.Statement.{statement}

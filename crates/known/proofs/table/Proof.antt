@@ -2,7 +2,6 @@
 -- Assumes nothing.
 use borrow.Author.Needs.{needs}
 use mathlib.Core.Path.{refl, _∙_}
-use native.Mathlib.Omega.{arith}
 use Rattle.contents.proofs.Listed.{next-less}
 use Rattle.known.proofs.Rows.{Filling, tabling-none, tabling-step, tabled}
 use Rattle.known.proofs.table.Statement.{statement}
