@@ -16,14 +16,6 @@ pub fn entry(table: &[u16], at: usize) -> u16
     0
 }
 
-// The number at a place of a table, 0 past its end, as a size or a count.
-pub fn fetch(t: &[u16], i: usize) -> usize
-    ensures { λ r. ⌜ (r ≡ getD (now (t .entry)) i 0) × (r ≤ 65535) ⌝ }
-{
-    let x = entry(t, i);
-    x as usize
-}
-
 // A number into a table, as far as the table reaches. 65,535 stands for all that are larger: no place is.
 pub fn store(t: &mut [u16], i: usize, x: usize)
     ensures { λ _. ⌜ now (t .exit) ≡ set (now (t .entry)) i (min x 65535) ⌝ }
