@@ -15,8 +15,8 @@ use Rattle.writer.proofs.Put.{put-past}
 use Rattle.writer.proofs.Wrote.{glue, place-within, wrote-none}
 use Rattle.seek.specs.Here.{Here}
 use Rattle.lookup.specs.Name.{nameAt}
-use Rattle.labels.specs.Labels.{labelsIn, unbindAt}
-use Rattle.labels.proofs.Found.{Same, Finds, same-then, labels-same, finds-same, labelled, labelled-long, labels-bind, release-back, unbind-once, unbind-none, unbind-long}
+use Rattle.labels.specs.Labels.{labelsIn}
+use Rattle.labels.proofs.Found.{Same, Finds, same-self, same-then, same-fewer, labels-same, finds-same, labelled, labelled-long, labels-bind, bind-back}
 use Rattle.uses.specs.Uses.{namesIn}
 use Rattle.scope.specs.Steps.{walk, moved}
 use Rattle.collect.specs.Walk.{State}
@@ -38,7 +38,7 @@ pub record Gathered (s z : List ℕ) (ns : List Name) (l : Bool) (n b : ℕ) (f 
 pub record Ready (s : List ℕ) (p : ℕ) (l : List ℕ) (n b : ℕ) (bound uses : List ℕ) : Type 0 where
   pub here : Here s p l
   pub few : 4 * b + length l ≤ length s
-  pub room : length s + 1024 ≤ 2 * length bound
+  pub room : length s + 512 ≤ length bound
   pub finds : Finds s bound b
   pub fits : n ≤ suc (length uses)
 
@@ -91,7 +91,7 @@ nothing-used f r h = record {
   wrote = wrote-nothing r;
   named = refl;
   same = refl;
-  kept = record { at = λ j h. refl };
+  kept = same-self;
   long = refl;
 }
 
@@ -111,20 +111,20 @@ hushed {uses = uses} met r p k = record {
 }
 
 -- the labels from number b on are taken back
-abbrev pub unboundAt : List ℕ → ℕ → State → State
-unboundAt s b g = (walk (g .0 .at) (g .0 .n) b (g .0 .leftover), unbindAt s b (g .0 .b) (g .1), g .2)
+abbrev pub unboundAt : ℕ → State → State
+unboundAt b g = (walk (g .0 .at) (g .0 .n) b (g .0 .leftover), g .1, g .2)
 
 -- the steps over the fields of a struct, as they are behind it
 pub record Closed (s z : List ℕ) (ns : List Name) (l : Bool) (n b : ℕ) (f : Bool) (bound uses : List ℕ) (g : State) : Type 0 where
   pub more : b ≤ g .0 .b
-  pub gathered : Gathered s z ns l n b f bound uses (unboundAt s b g)
+  pub gathered : Gathered s z ns l n b f bound uses (unboundAt b g)
 
 module _ {s z : List ℕ} {ns : List Name} {l : Bool} {n b : ℕ} {f : Bool} {bound uses : List ℕ} {g : State} (p : Gathered s z ns l n b f bound uses g) where
   -- no field, and a field whose label is not bound
   pub closed-none : Closed s z ns l n b f bound uses g
   closed-none = record {
     more = omega (arith, p .same);
-    gathered = rw (p .same, unbind-none s b (g .1)) (rw (p .same) at (moves p (p .here)));
+    gathered = rw (p .same) at (moves p (p .here));
   }
 
   pub closed-then : {y : List ℕ} {ms : List Name} {k : Bool} {h : State} → Closed s y ms k (g .0 .n) (g .0 .b) (g .0 .leftover) (g .1) (g .2) h → Closed s y (ns ++ ms) (l || k) n b f bound uses h
@@ -134,12 +134,10 @@ module _ {s z : List ℕ} {ns : List Name} {l : Bool} {n b : ℕ} {f : Bool} {bo
   }
 
 -- a label bound for the fields that follow
-module _ {s z : List ℕ} {ns : List Name} {l : Bool} {n b : ℕ} {f : Bool} {uses : List ℕ} {g : State} (at : ℕ) (t : List ℕ) (near : at < 16777216) (few : b + 1 < 16777216) (room : 514 + 2 * b ≤ length t) where
+module _ {s z : List ℕ} {ns : List Name} {l : Bool} {n b : ℕ} {f : Bool} {uses : List ℕ} {g : State} (at : ℕ) (t : List ℕ) (near : at < 4294967296) (few : 516 + 4 * b < 4294967296) (room : 516 + 4 * b ≤ length t) where
   pub binds : (name : Name) → nameAt s at ≡ name → Closed s z ns l n (suc b) f (labelled s at t b) uses g → Closed s z (remove name ns) l n b f t uses g
   binds name e p =
       let q = p .gathered in
-      let c : ℕ = g .0 .b in
-      let long : length (unbindAt s (suc b) c (g .1)) ≡ length t = q .long ∙ labelled-long s at t b near few room in
       record {
         more = omega (arith, p .more);
         gathered = record {
@@ -153,7 +151,7 @@ module _ {s z : List ℕ} {ns : List Name} {l : Bool} {n b : ℕ} {f : Bool} {us
               ∙ without-bind (nameAt s at) (labelsIn s t b) ns
               ∙ ap (λ (y : Name). without (labelsIn s t b) (remove y ns)) e;
           same = refl;
-          kept = rw (unbind-once s b c (g .1) (p .more)) (release-back s at t b near few room (unbindAt s (suc b) c (g .1)) long (q .kept));
-          long = unbind-long s b c (g .1) ∙ sym (unbind-long s (suc b) c (g .1)) ∙ long;
+          kept = same-then (same-fewer (q .kept)) (bind-back s at t b near few room);
+          long = q .long ∙ labelled-long s at t b near few room;
         };
       }

@@ -23,7 +23,7 @@ use Rattle.scope.specs.declared.Walk.{Walk}
 use Rattle.lookup.specs.Name.{nameAt}
 use Rattle.lookup.proofs.Names.{stands as label-stands}
 use Rattle.labels.specs.Labels.{labelsIn}
-use Rattle.labels.proofs.Found.{Same, labelled, labelled-long, bind-is, finds-bind}
+use Rattle.labels.proofs.Found.{Same, same-self, labelled, labelled-long, bind-is, finds-bind}
 use Rattle.uses.specs.Uses.{nameIn, namesIn, useAt}
 use Rattle.scope.specs.Steps.{walk, moved, counted, bindBy}
 use Rattle.roots.specs.Recorded.{isBound, timesUse, nameBy, namesBy, lengthBy, callBy, selectorBy}
@@ -54,7 +54,7 @@ module _ (s : List ℕ) (small : (i : ℕ) → byteAt s i < 256) (short : length
         let x : ℕ = useAt s (w .at) cut in
         let named : nameIn s x ≡ cutBy cut m = use-here small short cut m z (r .here) in
         let found : isBound s x bound (w .b) ≡ elem (cutBy cut m) (labelsIn s bound (w .b)) = r .finds .is (nameIn s x) ∙ ap (λ (n : Name). elem n (labelsIn s bound (w .b))) named in
-        let same : Same bound bound (w .b) = record { at = λ j h. refl } in
+        let same : Same bound bound (w .b) = same-self in
         ⊎-elim
         (λ (e : isBound s x bound (w .b) ≡ true).
         rw e record { here = name-here m (r .here); left = sym (or-false (w .leftover)); used = []; wrote = wrote-nothing r; named = sym (without-here _ _ (sym found ∙ e)); same = refl; kept = same; long = refl })
@@ -265,9 +265,9 @@ module _ (s : List ℕ) (small : (i : ℕ) → byteAt s i < 256) (short : length
       let o = ready-on g (wCombinator c) (s-comb c) p in
       let b : ℕ = G .0 .b in
       let less : 4 * suc b + length (wFields f z) ≤ length s = omega (arith, g .same, r .few, name-long l (wCombinator c (wFields f z)), combinator-long c (wFields f z)) in
-      let near : a < 16777216 = omega (arith, here-length (q .here)) in
-      let few : b + 1 < 16777216 = omega arith in
-      let room : 514 + 2 * b ≤ length (G .1) = omega (arith, o .room) in
+      let near : a < 4294967296 = omega (arith, here-length (q .here)) in
+      let few : 516 + 4 * b < 4294967296 = omega arith in
+      let room : 516 + 4 * b ≤ length (G .1) = omega (arith, o .room) in
       let t : List ℕ = labelled s a (G .1) b in
       let u : Walk = walk (G .0 .at) (G .0 .n) (suc b) (G .0 .leftover) in
       let ready : Ready s (u .at) (wFields f z) (u .n) (u .b) t (G .2) = record {

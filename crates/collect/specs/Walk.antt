@@ -7,7 +7,6 @@ use Prim.Native.Nat.{ℕ, zero, suc, _+_}
 use lib.Dec.{eqb}
 use lib.ListN.{length}
 use Rattle.seek.specs.At.{byteAt, pastAt, numberAt, namePast, textPast, labelPast, standsOn, pick}
-use Rattle.labels.specs.Labels.{unbindAt}
 use Rattle.scope.specs.declared.Walk.{Walk}
 use Rattle.scope.specs.Steps.{walk, moved, counted, unbound, bindBy}
 use Rattle.roots.specs.Recorded.{lengthBy, callBy, selectorBy}
@@ -45,7 +44,7 @@ fieldBy deep s w bound uses =
 unfoldable pub fieldsBy : Step → List ℕ → Step
 fieldsBy deep s w bound uses =
     let g = many (fieldBy deep s) s w bound uses in
-    (unbound w (g .0), unbindAt s (w .b) (g .0 .b) (g .1), g .2)
+    (unbound w (g .0), g .1, g .2)
 
 unfoldable pub wrapBy : Step → List ℕ → Step
 wrapBy deep s w bound uses =

@@ -1,5 +1,4 @@
 // The names that are free in a combinator, by position over validated bytes.
-use labels::unbind;
 use roots::call;
 use roots::roots;
 use roots::selector;
@@ -103,9 +102,6 @@ fn fields(s: &[u8], w: Walk, levels: usize, bound: &mut [u32], uses: &mut [u32])
         here = field(s, here, levels, bound, uses);
         left -= 1;
     }
-    let b = w.b;
-    let end = here.b;
-    unbind(s, bound, b, end);
     unbound(w, here)
 }
 
@@ -225,8 +221,8 @@ fn argument(s: &[u8], w: Walk, levels: usize, bound: &mut [u32], uses: &mut [u32
 }
 
 // The uses of names that are free in the combinator at a place, one for each use, or that a macro call is left in it.
-// Each use takes a byte of s at least and each Dependent field four: 16,384 places for uses are enough for any book, and 8,704 for its labels,
-// two for each and 512 more.
+// Each use takes a byte of s at least and each Dependent field four: 16,384 places for uses are enough for any book, and 16,896 for its labels,
+// four for each and 512 more.
 pub fn collect_params(s: &[u8], at: usize, bound: &mut [u32], uses: &mut [u32]) -> Collected
     ensures { λ r. ⌜ (r ≡ answerOf (collectAt (now (s .entry)) at (now (bound .entry)) (now (uses .entry)) .0)) × (now (bound .exit) ≡ collectAt (now (s .entry)) at (now (bound .entry)) (now (uses .entry)) .1) × (now (uses .exit) ≡ collectAt (now (s .entry)) at (now (bound .entry)) (now (uses .entry)) .2) ⌝ }
 {

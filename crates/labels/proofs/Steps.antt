@@ -1,63 +1,123 @@
--- The look-up link by link and the way back label by label, in the code's own terms.
+-- What leads on, the way of a name step by step and the label that is bound, in the code's own terms.
 -- Assumes nothing.
 use mathlib.Core.Path.{_≡_, refl, _∙_}
 use mathlib.Core.Logic.{⊎-elim}
 use mathlib.Core.List.{List}
 use mathlib.Core.Bool.{Bool, true, false}
-use Prim.Native.Nat.{ℕ, zero, suc, _-_, _≤_, _<_}
+use Prim.Native.Nat.{ℕ, zero, suc, _+_, _*_, _-_, _/_, _%_, _≤_, _<_}
 use native.Mathlib.Omega.{arith}
 use native.Mathlib.Numerals.{sub-one}
 use lib.Dec.{eqb}
-use borrow.Author.Tests.{eqb-true, eqb-false, ne-eqb, le-leb, lt-leb}
+use lib.ListN.{length, getD, set}
+use borrow.Author.Tests.{eq-eqb, ne-eqb, le-leb, lt-leb}
 use Rattle.definition.specs.Tree.{Name}
 use Rattle.definition.specs.Names.{eqName}
+use Rattle.lookup.specs.Name.{nameAt}
 use Rattle.lookup.proofs.Names.{yes-no}
-use Rattle.writer.proofs.Put.{within}
-use Rattle.seek.specs.At.{pick}
-use Rattle.labels.specs.Labels.{labelAt, linkAt, linked, isLabel, releaseAt, unbindAt}
+use Rattle.labels.specs.Labels.{headOf, labelAt, linkAt, halved, forkAt, wayOf, endOf, leadsTo, isLabel, slotOf, bindAt}
 
-module _ (s : List ℕ) (n : Name) (t : List ℕ) where
-  -- a link that leads to none of them
-  pub linked-none : (i link : ℕ) → link ≡ 0 → linked s n t i link ≡ false
-  unfolding linked
-  linked-none zero link h = refl
-  linked-none (suc i) link h = rw (ne-eqb link (suc i) (λ e. omega arith)) (linked-none i link h)
+pub half-on : (x k : ℕ) → 0 < k → {y : ℕ} → y ≡ x / 2 → halved x k ≡ halved y (k - 1)
+unfolding halved
+half-on x zero h e = absurd (omega arith)
+half-on x (suc k) h e = rw (e, sub-one)
 
-  pub linked-far : (i link : ℕ) → i < link → linked s n t i link ≡ false
-  unfolding linked
-  linked-far zero link h = refl
-  linked-far (suc i) link h = rw (ne-eqb link (suc i) (λ e. omega arith)) (linked-far i link (omega arith))
+pub half-done : (x k : ℕ) → k ≤ 0 → halved x k ≡ x
+unfolding halved
+half-done x zero h = refl
+half-done x (suc k) h = absurd (omega arith)
 
-  linked-on : (i link : ℕ) → 0 < link → link ≤ i → linked s n t i link ≡ pick (eqName n (labelAt s t (link - 1))) true (linked s n t (link - 1) (linkAt t (link - 1)))
-  unfolding linked
-  linked-on zero link h k = absurd (omega arith)
-  linked-on (suc i) link h k = ⊎-elim
-      (λ (e : eqb link (suc i) ≡ true).
-      let at : link - 1 ≡ i = (let q = eqb-true link (suc i) e in omega arith) in
-      rw (e, at))
-      (λ (e : eqb link (suc i) ≡ false).
-      let less : link ≤ i = (⊎-elim (λ (p : link ≤ i). p) (λ (p : i < link). absurd (eqb-false link (suc i) e (omega arith))) (within link i)) in
-      rw e (linked-on i link h less))
-      (yes-no (eqb link (suc i)))
+pub half-none : (k : ℕ) → halved 0 k ≡ 0
+unfolding halved
+half-none zero = refl
+half-none (suc k) = half-none k
 
-  module _ (i link : ℕ) (h : 0 < link) (k : link ≤ i) {label : Name} (el : label ≡ labelAt s t (link - 1)) {same : Bool} (es : same ≡ eqName n label) where
-    pub linked-same : same ≡ true → linked s n t i link ≡ true
-    linked-same e = linked-on i link h k ∙ rw (← el, ← es, e)
+module _ (t : List ℕ) (b x : ℕ) {v : ℕ} (ev : v ≡ getD t x 0) where
+  -- no label's number stands there
+  pub link-none : v ≡ 0 → linkAt t b x ≡ 0
+  unfolding linkAt
+  link-none e = ⊎-elim
+      (λ (q : eqb (getD t (515 + 4 * (v - 1)) 0) x ≡ true). rw (← ev, le-leb v b (omega arith), q, e))
+      (λ (q : eqb (getD t (515 + 4 * (v - 1)) 0) x ≡ false). rw (← ev, le-leb v b (omega arith), q))
+      (yes-no (eqb (getD t (515 + 4 * (v - 1)) 0) x))
 
-    pub linked-next : same ≡ false → {next : ℕ} → next ≡ linkAt t (link - 1) → linked s n t i link ≡ linked s n t (link - 1) next
-    linked-next e en = linked-on i link h k ∙ rw (← el, ← es, e, ← en)
+  -- that of a label that is not in force
+  pub link-far : b < v → linkAt t b x ≡ 0
+  unfolding linkAt
+  link-far h = rw (← ev, lt-leb v b h)
 
-  pub is-none : (b : ℕ) → b ≡ 0 → isLabel s n t b ≡ false
-  unfolding isLabel linked
-  is-none b h = rw h
+  module _ (h : v ≤ b) {w : ℕ} (ew : w ≡ getD t (515 + 4 * (v - 1)) 0) where
+    -- that of a label to which another number leads
+    pub link-other : (w ≡ x → ⊥) → linkAt t b x ≡ 0
+    unfolding linkAt
+    link-other n = rw (← ev, le-leb v b h, ← ew, ne-eqb w x n)
 
-module _ (s : List ℕ) (b : ℕ) where
-  pub unbind-on : (i : ℕ) (t : List ℕ) → b < i → {u : List ℕ} → u ≡ releaseAt s t (i - 1) → unbindAt s b i t ≡ unbindAt s b (i - 1) u
-  unfolding unbindAt
-  unbind-on zero t h e = absurd (omega arith)
-  unbind-on (suc i) t h e = rw (e, lt-leb (suc i) b h, sub-one)
+    -- that of the label to which this one leads
+    pub link-here : w ≡ x → linkAt t b x ≡ v
+    unfolding linkAt
+    link-here e = rw (← ev, le-leb v b h, ← ew, eq-eqb w x e)
 
-  pub unbind-done : (i : ℕ) (t : List ℕ) → i ≤ b → unbindAt s b i t ≡ t
-  unfolding unbindAt
-  unbind-done zero t h = refl
-  unbind-done (suc i) t h = rw (le-leb (suc i) b h)
+module _ (s : List ℕ) (n : Name) (t : List ℕ) (b : ℕ) where
+  pub way-start : {x : ℕ} → x ≡ headOf n → endOf s n t b ≡ wayOf s n t b (b - 0) 0 x
+  unfolding endOf
+  way-start e =
+      let whole : b - 0 ≡ b = omega arith in
+      rw (e, whole)
+
+  pub way-done : (k d x : ℕ) → k ≤ 0 → wayOf s n t b k d x ≡ x
+  unfolding wayOf
+  way-done zero d x h = refl
+  way-done (suc k) d x h = absurd (omega arith)
+
+  -- nothing leads on
+  pub way-end : (k d x : ℕ) {v : ℕ} → v ≡ linkAt t b x → v ≡ 0 → wayOf s n t b k d x ≡ x
+  unfolding wayOf
+  way-end zero d x ev e = refl
+  way-end (suc k) d x {v} ev e = rw (← ev, eq-eqb v 0 e)
+
+  module _ {v : ℕ} (h : 0 < v) {label : Name} (el : label ≡ labelAt s t (v - 1)) {same : Bool} (es : same ≡ eqName n label) where
+    -- a label of that name
+    pub way-same : (k d x : ℕ) → v ≡ linkAt t b x → same ≡ true → wayOf s n t b k d x ≡ x
+    unfolding wayOf
+    way-same zero d x ev e = refl
+    way-same (suc k) d x ev e = rw (← ev, ne-eqb v 0 (λ q. omega arith), ← el, ← es, e)
+
+    -- another label
+    pub way-on : (k d x : ℕ) → v ≡ linkAt t b x → 0 < k → same ≡ false → {y : ℕ} → y ≡ forkAt n d (v - 1) → wayOf s n t b k d x ≡ wayOf s n t b (k - 1) (d + 1) y
+    unfolding wayOf
+    way-on zero d x ev k e ey = absurd (omega arith)
+    way-on (suc j) d x ev k e ey = rw (← ev, ne-eqb v 0 (λ q. omega arith), ← el, ← es, e, ← ey, sub-one)
+
+    -- the same, with the steps left counted by the loop
+    pub way-next : (d x : ℕ) → v ≡ linkAt t b x → d < b → same ≡ false → {y : ℕ} → y ≡ forkAt n d (v - 1) → wayOf s n t b (b - d) d x ≡ wayOf s n t b (b - (d + 1)) (d + 1) y
+    way-next d x ev k e ey =
+        let less : (b - d) - 1 ≡ b - (d + 1) = omega arith in
+        way-on (b - d) d x ev (omega arith) e ey ∙ rw less
+
+  -- where the way ends: whether a label of that name follows there, and where the number of a new one is to stand
+  module _ {x : ℕ} (ex : x ≡ endOf s n t b) {v : ℕ} (ev : v ≡ linkAt t b x) where
+    pub is-none : v ≡ 0 → isLabel s n t b ≡ false
+    unfolding isLabel leadsTo
+    is-none e = rw (← ex, ← ev, eq-eqb v 0 e)
+
+    pub is-met : 0 < v → {label : Name} → label ≡ labelAt s t (v - 1) → isLabel s n t b ≡ eqName n label
+    unfolding isLabel leadsTo
+    is-met h el = rw (← ex, ← ev, ne-eqb v 0 (λ q. omega arith), ← el)
+
+    pub slot-end : (aside : ℕ) → v ≡ 0 → slotOf s n t b aside ≡ x
+    unfolding slotOf
+    slot-end aside e = rw (← ex, ← ev, eq-eqb v 0 e)
+
+    pub slot-aside : (aside : ℕ) → (v ≡ 0 → ⊥) → slotOf s n t b aside ≡ aside
+    unfolding slotOf
+    slot-aside aside h = rw (← ex, ← ev, ne-eqb v 0 h)
+
+-- the label that is bound
+module _ (s : List ℕ) (at : ℕ) (t : List ℕ) (b : ℕ) where
+  pub bind-none : length t ≤ 512 + 4 * b + 3 → (b ≡ bindAt s at t b .0) × (t ≡ bindAt s at t b .1)
+  unfolding bindAt
+  bind-none h = rw (le-leb (length t) (512 + 4 * b + 3) h) (refl, refl)
+
+  module _ (h : 512 + 4 * b + 3 < length t) {name : Name} (en : name ≡ nameAt s at) {x : ℕ} (ex : x ≡ slotOf s name t b (512 + 4 * b + 3)) where
+    pub bind-on : {t₁ t₂ t₃ t₄ t₅ : List ℕ} → t₁ ≡ set t (512 + 4 * b) (at % 4294967296) → t₂ ≡ set t₁ (512 + 4 * b + 1) 0 → t₃ ≡ set t₂ (512 + 4 * b + 2) 0 → t₄ ≡ set t₃ x ((b + 1) % 4294967296) → t₅ ≡ set t₄ (512 + 4 * b + 3) (x % 4294967296) → (b + 1 ≡ bindAt s at t b .0) × (t₅ ≡ bindAt s at t b .1)
+    unfolding bindAt
+    bind-on e₁ e₂ e₃ e₄ e₅ = rw (lt-leb (length t) (512 + 4 * b + 3) h, ← en, ← ex, ← e₁, ← e₂, ← e₃, ← e₄) (refl, e₅)

@@ -2,8 +2,8 @@
 -- shown in proofs/Found.antt.
 -- Assumes nothing.
 use mathlib.Core.List.{List, [], _∷_}
-use mathlib.Core.Bool.{Bool, true, false}
-use Prim.Native.Nat.{ℕ, zero, suc, _+_, _*_, _%_}
+use mathlib.Core.Bool.{Bool, false}
+use Prim.Native.Nat.{ℕ, zero, suc, _+_, _*_, _-_, _/_, _%_}
 use lib.Dec.{eqb, leb}
 use lib.ListN.{length, getD, set}
 use Rattle.definition.specs.Tree.{Name}
@@ -16,43 +16,59 @@ use Rattle.hash.specs.Hash.{hashOf}
 unfoldable pub headOf : Name → ℕ
 headOf n = hashOf n % 512
 
--- a label has two numbers behind them: the place of its name, and what its head held before it
+-- a label has four numbers behind them: the place of its name, two that lead on, and where the number stands that leads to it
 unfoldable pub labelAt : List ℕ → List ℕ → ℕ → Name
-labelAt s t i = nameAt s (getD t (512 + 2 * i) 0)
-
-unfoldable pub linkAt : List ℕ → ℕ → ℕ
-linkAt t i = getD t (513 + 2 * i) 0
+labelAt s t i = nameAt s (getD t (512 + 4 * i) 0)
 
 -- the first so many labels, the last one first
 unfoldable pub labelsIn : List ℕ → List ℕ → ℕ → List Name
 labelsIn s t zero = []
 labelsIn s t (suc i) = labelAt s t i ∷ labelsIn s t i
 
--- whether a name is one of the first so many labels, as far as links lead to them: a link is one more than the number of a label
-unfoldable pub linked : List ℕ → Name → List ℕ → ℕ → ℕ → Bool
-linked s n t zero link = false
-linked s n t (suc i) link =
-    let on = linked s n t i (linkAt t i) in
-    let past = linked s n t i link in
-    pick (eqb link (suc i)) (pick (eqName n (labelAt s t i)) true on) past
+-- what leads on at x: one more than the number of one of the first b labels, which says that it is led to from there; or 0. Whatever else the
+-- table holds there leads nowhere, so that labels are taken back by counting fewer of them
+unfoldable pub linkAt : List ℕ → ℕ → ℕ → ℕ
+linkAt t b x = let v = getD t x 0 in pick (leb v b) (pick (eqb (getD t (515 + 4 * (v - 1)) 0) x) v 0) 0
 
+-- a bit of a name; behind its end all are 0
+unfoldable pub halved : ℕ → ℕ → ℕ
+halved x zero = x
+halved x (suc k) = halved (x / 2) k
+
+unfoldable pub bitAt : Name → ℕ → ℕ
+bitAt n d = halved (getD n (d / 8) 0) (d % 8) % 2
+
+-- which number of label i leads on for a name, by a bit of it
+unfoldable pub forkAt : Name → ℕ → ℕ → ℕ
+forkAt n d i = 513 + 4 * i + bitAt n d
+
+-- where the way of a name ends that has come to x after d steps, with k steps left: where nothing leads on, or to a label of that name
+unfoldable pub wayOf : List ℕ → Name → List ℕ → ℕ → ℕ → ℕ → ℕ → ℕ
+wayOf s n t b zero d x = x
+wayOf s n t b (suc k) d x =
+    let v = linkAt t b x in
+    let on = wayOf s n t b k (d + 1) (forkAt n d (v - 1)) in
+    pick (eqb v 0) x (pick (eqName n (labelAt s t (v - 1))) x on)
+
+unfoldable pub endOf : List ℕ → Name → List ℕ → ℕ → ℕ
+endOf s n t b = wayOf s n t b b 0 (headOf n)
+
+-- whether a label of that name follows at x
+unfoldable pub leadsTo : List ℕ → Name → List ℕ → ℕ → ℕ → Bool
+leadsTo s n t b x = let v = linkAt t b x in pick (eqb v 0) false (eqName n (labelAt s t (v - 1)))
+
+-- whether a name is one of the first b labels
 unfoldable pub isLabel : List ℕ → Name → List ℕ → ℕ → Bool
-isLabel s n t b = linked s n t b (getD t (headOf n) 0)
+isLabel s n t b = leadsTo s n t b (endOf s n t b)
+
+-- where the number is to stand that leads to a new label of that name: where its way ends, or aside if there is one of its name already
+unfoldable pub slotOf : List ℕ → Name → List ℕ → ℕ → ℕ → ℕ
+slotOf s n t b aside = let x = endOf s n t b in pick (eqb (linkAt t b x) 0) x aside
 
 -- the label at a place becomes number b: how many there are then, and the table. Past the table's end nothing is bound
 unfoldable pub bindAt : List ℕ → ℕ → List ℕ → ℕ → ℕ × List ℕ
 bindAt s at t b =
-    let first = 512 + 2 * b in
-    let h = headOf (nameAt s at) in
-    pick (leb (length t) (first + 1)) (b, t)
-    (b + 1, set (set (set t first (at % 16777216)) (first + 1) (getD t h 0)) h ((b + 1) % 16777216))
-
--- a label's head holds what it held before; and so for those from number b on, the last one first
-unfoldable pub releaseAt : List ℕ → List ℕ → ℕ → List ℕ
-releaseAt s t i = set t (headOf (labelAt s t i)) (linkAt t i)
-
-unfoldable pub unbindAt : List ℕ → ℕ → ℕ → List ℕ → List ℕ
-unbindAt s b zero t = t
-unbindAt s b (suc i) t =
-    let on = unbindAt s b i (releaseAt s t i) in
-    pick (leb (suc i) b) t on
+    let first = 512 + 4 * b in
+    let x = slotOf s (nameAt s at) t b (first + 3) in
+    pick (leb (length t) (first + 3)) (b, t)
+    (b + 1, set (set (set (set (set t first (at % 4294967296)) (first + 1) 0) (first + 2) 0) x ((b + 1) % 4294967296)) (first + 3) (x % 4294967296))

@@ -1,12 +1,14 @@
-// The labels in force, in one lent table of numbers. Its first 512 are heads, one for each hash that a name can have: one more than the number
-// of the last label with that hash, or 0. Behind them each label has two: the place of its length byte, and what its head held before it.
+// The labels in force, in one lent table of numbers. Its first 512 are heads, one for each hash that a name can have. Behind them each label has
+// four numbers: the place of its length byte, two that lead on, and where the number stands that leads to it. A number that leads on is one more
+// than that of a label, and counts where that label is in force and says that it is led to from there: so labels are taken back by counting fewer
+// of them. Each step looks at the next bit of the name: whatever the labels are, a name meets no more of them than it has bits.
 use hash::name_hash;
 use lookup::name_at;
 use lookup::same_name;
 ghost use mathlib.Core.Path.{_≡_};
-ghost use Prim.Native.Nat.{_+_, _*_};
-ghost use lib.ListN.{getD};
-ghost use Rattle.labels.specs.Labels.{headOf, labelAt, linkAt, isLabel, bindAt, releaseAt, unbindAt};
+ghost use Prim.Native.Nat.{_≤_, _%_};
+ghost use lib.ListN.{getD, set};
+ghost use Rattle.labels.specs.Labels.{headOf, labelAt, linkAt, halved, bitAt, forkAt, endOf, isLabel, slotOf, bindAt};
 
 // The number of a name's head.
 fn head_of(name: &[u8]) -> usize
@@ -17,13 +19,13 @@ fn head_of(name: &[u8]) -> usize
 }
 
 // A number of the table, or 0 past its end.
-fn held(table: &[u32], at: usize) -> u32
-    ensures { λ r. ⌜ r ≡ getD (now (table .entry)) at 0 ⌝ }
+fn held(table: &[u32], at: usize) -> usize
+    ensures { λ r. ⌜ (r ≡ getD (now (table .entry)) at 0) × (r ≤ 4294967295) ⌝ }
 {
     if table.len() <= at {
         return 0;
     }
-    table[at]
+    table[at] as usize
 }
 
 // A label's name.
@@ -33,42 +35,111 @@ fn label_at<'a>(s: &'a [u8], table: &[u32], i: usize) -> &'a [u8]
     if table.len() <= i {
         return name_at(s, 0);
     }
-    let place = held(table, 512 + 2 * i) as usize;
+    let place = held(table, 512 + 4 * i);
     name_at(s, place)
 }
 
-// What a label's head held before it.
-fn link_at(table: &[u32], i: usize) -> u32
-    ensures { λ r. ⌜ r ≡ linkAt (now (table .entry)) i ⌝ }
+// What leads on at x: one more than the number of one of the first b labels, or 0.
+fn link_at(table: &[u32], b: usize, x: usize) -> usize
+    ensures { λ r. ⌜ (r ≡ linkAt (now (table .entry)) b x) × (r ≤ 4294967295) ⌝ }
 {
-    if table.len() <= i {
+    let v = held(table, x);
+    if v == 0 {
         return 0;
     }
-    held(table, 513 + 2 * i)
+    if b < v {
+        return 0;
+    }
+    if held(table, 515 + 4 * (v - 1)) != x {
+        return 0;
+    }
+    v
 }
 
-// Whether a name is one of the first b labels: of these only the ones with its hash are looked at.
+// A number, halved so many times.
+fn half(x: usize, times: usize) -> usize
+    ensures { λ r. ⌜ r ≡ halved x times ⌝ }
+{
+    let mut v = x;
+    let mut left = times;
+    while 0 < left {
+        v = v / 2;
+        left -= 1;
+    }
+    v
+}
+
+// A bit of a name, 0 behind its end.
+fn bit(name: &[u8], depth: usize) -> usize
+    ensures { λ r. ⌜ (r ≡ bitAt (now (name .entry)) depth) × (r ≤ 1) ⌝ }
+{
+    let i = depth / 8;
+    if name.len() <= i {
+        return 0;
+    }
+    let x = name[i] as usize;
+    half(x, depth % 8) % 2
+}
+
+// Which number of label i leads on for a name, by a bit of it.
+fn fork(name: &[u8], depth: usize, i: usize) -> usize
+    requires { ⌜ i ≤ 4294967295 ⌝ }
+    ensures { λ r. ⌜ r ≡ forkAt (now (name .entry)) depth i ⌝ }
+{
+    513 + 4 * i + bit(name, depth)
+}
+
+// Where a name's way ends: where nothing leads on, or to a label of that name.
+fn end_of(s: &[u8], name: &[u8], table: &[u32], b: usize) -> usize
+    ensures { λ r. ⌜ r ≡ endOf (now (s .entry)) (now (name .entry)) (now (table .entry)) b ⌝ }
+{
+    let mut x = head_of(name);
+    let mut depth = 0;
+    while depth < b {
+        let v = link_at(table, b, x);
+        if v == 0 {
+            return x;
+        }
+        if same_name(name, label_at(s, table, v - 1)) {
+            return x;
+        }
+        x = fork(name, depth, v - 1);
+        depth += 1;
+    }
+    x
+}
+
+// Whether a name is one of the first b labels.
 pub fn is_label(s: &[u8], name: &[u8], table: &[u32], b: usize) -> bool
     ensures { λ r. ⌜ r ≡ isLabel (now (s .entry)) (now (name .entry)) (now (table .entry)) b ⌝ }
 {
-    if b == 0 {
+    let x = end_of(s, name, table, b);
+    let v = link_at(table, b, x);
+    if v == 0 {
         return false;
     }
-    let h = head_of(name);
-    let mut before = b;
-    let mut link = held(table, h) as usize;
-    while 0 < link {
-        if before < link {
-            return false;
-        }
-        before = link - 1;
-        let label = label_at(s, table, before);
-        if same_name(name, label) {
-            return true;
-        }
-        link = link_at(table, before) as usize;
+    same_name(name, label_at(s, table, v - 1))
+}
+
+// Where the number is to stand that leads to a new label of that name: where its way ends, or aside if there is one of its name already.
+fn slot_of(s: &[u8], name: &[u8], table: &[u32], b: usize, aside: usize) -> usize
+    ensures { λ r. ⌜ r ≡ slotOf (now (s .entry)) (now (name .entry)) (now (table .entry)) b aside ⌝ }
+{
+    let x = end_of(s, name, table, b);
+    if link_at(table, b, x) == 0 {
+        return x;
     }
-    false
+    aside
+}
+
+// A number into the table, as far as it reaches.
+fn hold(table: &mut [u32], at: usize, x: usize)
+    ensures { λ _. ⌜ now (table .exit) ≡ set (now (table .entry)) at (x % 4294967296) ⌝ }
+{
+    if table.len() <= at {
+        return;
+    }
+    table[at] = (x % 4294967296) as u32;
 }
 
 // The label whose length byte stands at a place becomes number b, as far as the table reaches.
@@ -78,37 +149,15 @@ pub fn bind_label(s: &[u8], at: usize, table: &mut [u32], b: usize) -> usize
     if table.len() <= b {
         return b;
     }
-    let first = 512 + 2 * b;
-    if table.len() <= first + 1 {
+    let first = 512 + 4 * b;
+    if table.len() <= first + 3 {
         return b;
     }
-    let h = head_of(name_at(s, at));
-    let link = table[h];
-    table[first] = (at % 16777216) as u32;
-    table[first + 1] = link;
-    table[h] = ((b + 1) % 16777216) as u32;
+    let x = slot_of(s, name_at(s, at), &table[..], b, first + 3);
+    hold(table, first, at);
+    hold(table, first + 1, 0);
+    hold(table, first + 2, 0);
+    hold(table, x, b + 1);
+    hold(table, first + 3, x);
     b + 1
-}
-
-// A label's head holds what it held before.
-fn release(s: &[u8], table: &mut [u32], i: usize)
-    ensures { λ _. ⌜ now (table .exit) ≡ releaseAt (now (s .entry)) (now (table .entry)) i ⌝ }
-{
-    let h = head_of(label_at(s, &table[..], i));
-    let link = link_at(&table[..], i);
-    if table.len() <= h {
-        return;
-    }
-    table[h] = link;
-}
-
-// The labels with numbers below b are in force again, and no others.
-pub fn unbind(s: &[u8], table: &mut [u32], b: usize, end: usize)
-    ensures { λ _. ⌜ now (table .exit) ≡ unbindAt (now (s .entry)) b end (now (table .entry)) ⌝ }
-{
-    let mut i = end;
-    while b < i {
-        i -= 1;
-        release(s, table, i);
-    }
 }

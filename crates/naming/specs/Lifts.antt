@@ -1,7 +1,7 @@
 -- One lift: the answer, and what the tables say then. Document 01, "Lifting rules", codes 7 to 10.
 use mathlib.Core.List.{List}
 use mathlib.Core.Path.{_≡_}
-use Prim.Native.Nat.{ℕ, _+_, _*_, _≤_, _<_}
+use Prim.Native.Nat.{ℕ, _+_, _≤_, _<_}
 use lib.ListN.{length, take, set}
 use Rattle.definition.specs.Code.{number}
 use Rattle.definition.specs.Res.{Res, bad, ok}
@@ -31,10 +31,10 @@ pub record Some (s : List ℕ) (at end : ℕ) : Type 0 where
   pub what : Combinator
   pub whole : Whole s at end what
 
--- the scratch tables of collection: 512 heads and two numbers a label for every four bytes, a use for every byte
+-- the scratch tables of collection: 512 heads and four numbers a label for every four bytes, a use for every byte
 pub record Scratch (s bound uses spare : List ℕ) : Type 0 where
   pub small : (i : ℕ) → byteAt s i < 256
-  pub labels : length s + 1024 ≤ 2 * length bound
+  pub labels : length s + 512 ≤ length bound
   pub uses-long : length s ≤ length uses
   pub spare-long : length s ≤ length spare
 

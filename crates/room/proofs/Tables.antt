@@ -2,7 +2,7 @@
 -- Assumes nothing.
 use mathlib.Core.Path.{_≡_, refl, _∙_}
 use mathlib.Core.List.{List}
-use Prim.Native.Nat.{ℕ, zero, suc, _+_, _*_, _≤_, _<_}
+use Prim.Native.Nat.{ℕ, zero, suc, _+_, _≤_, _<_}
 use native.Mathlib.Omega.{arith}
 use lib.ListN.{length, getD, replicate, length-replicate}
 use lib.Seq.{getD-drop}
@@ -19,7 +19,7 @@ zero-at (suc n) zero = refl
 zero-at (suc n) (suc p) = zero-at n p
 
 -- tables of zeros for books of at most n bytes, and the ends of one walk over the book: no end is known before it
-pub lent : {s ends : List ℕ} (n m : ℕ) → n + 1024 ≡ 2 * m → length s ≤ n → ((i : ℕ) → getD s i 0 < 256) → ends ≡ measuredBook s (replicate n 0)
+pub lent : {s ends : List ℕ} (n m : ℕ) → n + 512 ≡ m → length s ≤ n → ((i : ℕ) → getD s i 0 < 256) → ends ≡ measuredBook s (replicate n 0)
     → Lent s ends (replicate (16180 + n) 0) (replicate n 0) (replicate m 0) (replicate n 0) (replicate n 0)
 unfolding byteAt numberIn
 lent {s} n m e l b f =

@@ -8,7 +8,7 @@ ghost use Prim.Native.Nat.{_≤_};
 ghost use lib.ListN.{length};
 ghost use Rattle.report.specs.Elaborates.{Expanded, Lifts};
 
-// The tables of a book of at most 512 bytes: for every byte an end, a number and a use; for every four bytes four numbers of a binder and two of a
+// The tables of a book of at most 512 bytes: for every byte an end, a number and a use; for every four bytes four numbers of a binder and of a
 // label, with 512 more for the labels' hashes. The numbers stand behind the sheet's other parts, which take 16,180.
 fn lift_small(s: &[u8], out: &mut [u8]) -> Elaborated
     requires { ⌜ Expanded (now s) × (length (now s) ≤ 512) ⌝ }
@@ -17,7 +17,7 @@ fn lift_small(s: &[u8], out: &mut [u8]) -> Elaborated
     let mut ends = [0u16; 512];
     let mut sheet = [0u16; 16692];
     let mut binders = [0u16; 512];
-    let mut bound = [0u32; 768];
+    let mut bound = [0u32; 1024];
     let mut uses = [0u32; 512];
     let mut spare = [0u32; 512];
     measure_book(s, &mut ends);
@@ -41,7 +41,7 @@ fn lift_short(s: &[u8], out: &mut [u8]) -> Elaborated
     let mut ends = [0u16; 2048];
     let mut sheet = [0u16; 18228];
     let mut binders = [0u16; 2048];
-    let mut bound = [0u32; 1536];
+    let mut bound = [0u32; 2560];
     let mut uses = [0u32; 2048];
     let mut spare = [0u32; 2048];
     measure_book(s, &mut ends);
@@ -65,7 +65,7 @@ fn lift_middle(s: &[u8], out: &mut [u8]) -> Elaborated
     let mut ends = [0u16; 4096];
     let mut sheet = [0u16; 20276];
     let mut binders = [0u16; 4096];
-    let mut bound = [0u32; 2560];
+    let mut bound = [0u32; 4608];
     let mut uses = [0u32; 4096];
     let mut spare = [0u32; 4096];
     measure_book(s, &mut ends);
@@ -89,7 +89,7 @@ fn lift_long(s: &[u8], out: &mut [u8]) -> Elaborated
     let mut ends = [0u16; 16384];
     let mut sheet = [0u16; 32564];
     let mut binders = [0u16; 16384];
-    let mut bound = [0u32; 8704];
+    let mut bound = [0u32; 16896];
     let mut uses = [0u32; 16384];
     let mut spare = [0u32; 16384];
     measure_book(s, &mut ends);

@@ -113,25 +113,43 @@ pub fn hurting() -> Vec<Named> {
         ("500 small definitions", (0..500).map(small).collect()),
         (
             "2,600 uses of the last of 1,000 labels",
-            lone(labelled(1000, 2600)),
+            lone(labelled(&two_letters(1000), 999, 2600)),
+        ),
+        (
+            "1,600 uses of the first of 800 labels of one hash",
+            lone(labelled(&of_one_hash(800), 0, 1600)),
         ),
     ]
     .map(|(name, definitions)| (name.to_string(), written(definitions).expect("a book")))
     .to_vec()
 }
 
-/// So many labels that are bound, and as many uses of the last one: each use is looked up among all of them.
-fn labelled(labels: usize, uses: usize) -> Inner {
-    let name = |number: usize| {
-        let letter = |n: usize| char::from(b'A' + (n % 58) as u8);
-        [letter(number / 58), letter(number)]
-            .iter()
-            .collect::<String>()
-    };
-    let last = name(labels - 1);
-    let mut fields: Vec<_> = (0..labels).map(|n| dependent(&name(n), int())).collect();
-    fields.push(field("z", bytes(&vec![last.as_str(); uses])));
+/// Labels that are bound, and so many uses of one of them: each use is looked up among all of them.
+fn labelled(names: &[String], used: usize, uses: usize) -> Inner {
+    let mut fields: Vec<_> = names.iter().map(|name| dependent(name, int())).collect();
+    fields.push(field("z", bytes(&vec![names[used].as_str(); uses])));
     structure(fields)
+}
+
+fn two_letters(count: usize) -> Vec<String> {
+    let letter = |n: usize| char::from(b'A' + (n % 58) as u8);
+    let name = |n: usize| [letter(n / 58), letter(n)].iter().collect();
+    (0..count).map(name).collect()
+}
+
+/// Names of four letters that share a head in the port's table of labels (crates/hash, crates/labels).
+fn of_one_hash(count: usize) -> Vec<String> {
+    let letters = |n: usize| [n / 195_112, n / 3364, n / 58, n].map(|n| b'A' + (n % 58) as u8);
+    let hash = |name: &[u8]| {
+        name.iter()
+            .fold(0, |h, byte| (h * 31 + usize::from(*byte)) % 65536)
+    };
+    (0..)
+        .map(letters)
+        .filter(|name| hash(name) % 512 == 0)
+        .map(|name| String::from_utf8_lossy(&name).into_owned())
+        .take(count)
+        .collect()
 }
 
 /// A node inside so many others.

@@ -57,7 +57,6 @@ use Rattle.scope.proofs.moved.Reads as moved-reads
 use Rattle.roots.proofs.roots.Reads as roots-reads
 use Rattle.roots.proofs.selector.Reads as selector-reads
 use Rattle.seek.proofs.stands_on.Reads as stands-on-reads
-use Rattle.labels.proofs.unbind.Reads as unbind-reads
 use Rattle.scope.proofs.unbound.Reads as unbound-reads
 use Rattle.seek.proofs.byte.Reads as byte-reads
 use Rattle.seek.proofs.name_past.Reads as name-past-reads
@@ -230,7 +229,7 @@ abbrev field-calls : ℕ → field-lts.Claims
 field-calls t = (byte-reads.Asked, byte-reads.Learnt, past-reads.Asked, past-reads.Learnt, name-past-reads.Asked, name-past-reads.Learnt, text-past-reads.Asked, text-past-reads.Learnt, moved-reads.Asked, moved-reads.Learnt, collect-params-with-bound-below t, collect-params-with-bound.Post, bind-reads.Asked, bind-reads.Learnt)
 
 abbrev fields-calls : ℕ → fields-lts.Claims
-fields-calls t = (number-reads.Asked, number-reads.Learnt, past-reads.Asked, past-reads.Learnt, moved-reads.Asked, moved-reads.Learnt, field-below t, field.Post, unbind-reads.Asked, unbind-reads.Learnt, unbound-reads.Asked, unbound-reads.Learnt)
+fields-calls t = (number-reads.Asked, number-reads.Learnt, past-reads.Asked, past-reads.Learnt, moved-reads.Asked, moved-reads.Learnt, field-below t, field.Post, unbound-reads.Asked, unbound-reads.Learnt)
 
 abbrev inner-calls : ℕ → inner-lts.Claims
 inner-calls t = (byte-reads.Asked, byte-reads.Learnt, past-reads.Asked, past-reads.Learnt, moved-reads.Asked, moved-reads.Learnt, fields-below t, fields.Post, wrap-below t, wrap.Post, choice-below t, choice.Post, collect-params-with-bound-below t, collect-params-with-bound.Post, array-below t, array.Post, roots-reads.Asked, roots-reads.Learnt, call-reads.Asked, call-reads.Learnt, macro-call-below t, macro-call.Post, text-past-reads.Asked, text-past-reads.Learnt)
@@ -565,9 +564,6 @@ fields-loop-less t c = omega arith
 fields-loop-again : (t : ℕ) → fields-lts.Need-loop-again (fields-calls t) (fields-at t) fields.Post fields-Inv-loop fields-μ-loop
 fields-loop-again t c = (omega arith, omega arith, c .before .before .before .before .before .before .before .before .loop .inv .2 ∙ more _ _ _ _ _ (c .before .before .before .before .before .before .before .loop-test .taken) ∙ rw (← (c .before .before .before .before .field .ensures .0), ← (c .before .before .before .before .field .ensures .1), ← (c .before .before .before .before .field .ensures .2)))
 
-fields-unbind-requires : (t : ℕ) → fields-lts.Need-unbind-requires (fields-calls t) (fields-at t) fields.Post fields-Inv-loop fields-μ-loop
-fields-unbind-requires t c κs = omega arith
-
 fields-unbound-requires : (t : ℕ) → fields-lts.Need-unbound-requires (fields-calls t) (fields-at t) fields.Post fields-Inv-loop fields-μ-loop
 fields-unbound-requires t c κs = omega arith
 
@@ -579,7 +575,7 @@ fields-same-length-2 t c = search needs
 
 fields-returns : (t : ℕ) → fields-lts.Need-returns (fields-calls t) (fields-at t) fields.Post fields-Inv-loop fields-μ-loop
 unfolding fieldsBy many
-fields-returns t c = rw (← (c .before .before .before .before .before .before .before .before .before .number .ensures), ← (c .before .before .before .before .before .before .before .before .past .ensures), ← (c .before .before .before .before .before .before .before .moved .ensures), c .before .before .before .before .before .before .loop .inv .2 ∙ done _ _ _ _ _ (c .before .before .before .before .before .loop-test .left)) (c .unbound .ensures, c .before .before .before .unbind .ensures, refl)
+fields-returns t c = rw (← (c .before .before .before .before .before .number .ensures), ← (c .before .before .before .before .past .ensures), ← (c .before .before .before .moved .ensures), c .before .before .loop .inv .2 ∙ done _ _ _ _ _ (c .before .loop-test .left)) (c .unbound .ensures, refl, refl)
 
 inner-byte-requires : (t : ℕ) → inner-lts.Need-byte-requires (inner-calls t) (inner-at t) inner.Post
 inner-byte-requires t c κs = omega arith
@@ -904,7 +900,6 @@ pub +argument+arguments+array+case+cases+chain+choice+collect-params-with-bound+
     (fields-sub-left t)
     (fields-loop-less t)
     (fields-loop-again t)
-    (fields-unbind-requires t)
     (fields-unbound-requires t)
     (fields-same-length t)
     (fields-same-length-2 t)

@@ -10,11 +10,11 @@ use Rattle.labels.proofs.label_at.Tie as tie
 
 returns : tie.Need-returns
 unfolding labelAt
-returns c = rw (List·getD-eq-default (c .before .before .before .before .args .table .now) 0 {n = 512 + 2 * (c .before .before .before .before .args .i)} (omega arith)) (c .name-at .ensures)
+returns c = rw (List·getD-eq-default (c .before .before .before .before .args .table .now) 0 {n = 512 + 4 * (c .before .before .before .before .args .i)} (omega arith)) (c .name-at .ensures)
 
 returns-2 : tie.Need-returns-2
 unfolding labelAt
-returns-2 c = rw (← (c .before .held .ensures)) (c .name-at2 .ensures)
+returns-2 c = rw (← (c .before .held .ensures .0)) (c .name-at2 .ensures)
 
 pub label-at-spec : {M : Type 1} → statement M
 label-at-spec =
@@ -25,6 +25,5 @@ label-at-spec =
     (λ c. search needs)
     (λ c. search needs)
     (λ c κs. search needs)
-    (λ c. search needs)
     (λ c κs. search needs)
     returns-2)

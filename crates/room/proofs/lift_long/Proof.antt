@@ -9,7 +9,7 @@ use Rattle.room.proofs.lift_long.Statement.{statement}
 use Rattle.room.proofs.lift_long.Tie as tie
 
 lift-with-requires : tie.Need-lift-with-requires
-lift-with-requires c κs = let p = c .before .before .before .before .before .before .before .before .before .before .before .before .pre in (p, lent 16384 8704 refl (expanded-short p) (λ i. omega (arith, c .before .before .before .before .before .before .before .before .before .before .before .shared-slice-known .given i)) (c .before .before .before .before .before .before .before .before .measure-book .ensures))
+lift-with-requires c κs = let p = c .before .before .before .before .before .before .before .before .before .before .before .before .pre in (p, lent 16384 16896 refl (expanded-short p) (λ i. omega (arith, c .before .before .before .before .before .before .before .before .before .before .before .shared-slice-known .given i)) (c .before .before .before .before .before .before .before .before .measure-book .ensures))
 
 pub lift-long-spec : {M : Type 1} → statement M
 lift-long-spec =

@@ -8,7 +8,7 @@ use Rattle.room.proofs.lift_middle.Statement.{statement}
 use Rattle.room.proofs.lift_middle.Tie as tie
 
 lift-with-requires : tie.Need-lift-with-requires
-lift-with-requires c κs = let p = c .before .before .before .before .before .before .before .before .before .before .before .before .pre in (p .0, lent 4096 2560 refl (p .1) (λ i. omega (arith, c .before .before .before .before .before .before .before .before .before .before .before .shared-slice-known .given i)) (c .before .before .before .before .before .before .before .before .measure-book .ensures))
+lift-with-requires c κs = let p = c .before .before .before .before .before .before .before .before .before .before .before .before .pre in (p .0, lent 4096 4608 refl (p .1) (λ i. omega (arith, c .before .before .before .before .before .before .before .before .before .before .before .shared-slice-known .given i)) (c .before .before .before .before .before .before .before .before .measure-book .ensures))
 
 pub lift-middle-spec : {M : Type 1} → statement M
 lift-middle-spec =
