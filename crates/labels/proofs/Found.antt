@@ -19,7 +19,7 @@ use Rattle.lookup.proofs.Names.{yes-no}
 use Rattle.writer.proofs.Put.{within}
 use Rattle.seek.specs.At.{pick}
 use Rattle.labels.specs.Labels.{headOf, labelAt, labelsIn, linkAt, bitAt, forkAt, wayOf, endOf, leadsTo, isLabel, slotOf, bindAt}
-use Rattle.labels.proofs.Steps.{way-done, way-end, way-same, way-on}
+use Rattle.labels.proofs.Steps.{link-none, link-far, link-other, link-here, way-done, way-end, way-same, way-on}
 
 -- two tables with the same first b labels, and the same that leads to them
 pub record Same (t u : List ℕ) (b : ℕ) : Type 0 where
@@ -71,25 +71,16 @@ module _ (t : List ℕ) (x : ℕ) where
   back = getD t (515 + 4 * (v - 1)) 0
 
   link-known : (b : ℕ) → v ≤ b → back ≡ x → linkAt t b x ≡ v
-  unfolding linkAt
-  link-known b h e = rw (le-leb v b h, eq-eqb back x e)
-
-  link-aside : (b : ℕ) → (back ≡ x → ⊥) → linkAt t b x ≡ 0
-  unfolding linkAt
-  link-aside b e = ⊎-elim
-      (λ (q : leb v b ≡ true). rw (q, ne-eqb back x e))
-      (λ (q : leb v b ≡ false). rw q)
-      (yes-no (leb v b))
+  link-known b h e = link-here t b x refl h refl e
 
   link-over : (b : ℕ) → b < v → linkAt t b x ≡ 0
-  unfolding linkAt
-  link-over b h = rw (lt-leb v b h)
+  link-over b h = link-far t b x refl h
+
+  link-aside : (b : ℕ) → (back ≡ x → ⊥) → linkAt t b x ≡ 0
+  link-aside b e = ⊎-elim (λ (q : v ≤ b). link-other t b x refl q refl e) (λ (q : b < v). link-over b q) (within v b)
 
   link-zero : (b : ℕ) → v ≡ 0 → linkAt t b x ≡ 0
-  link-zero b h = ⊎-elim
-      (λ (q : eqb back x ≡ true). link-known b (omega arith) (eqb-true back x q) ∙ h)
-      (λ (q : eqb back x ≡ false). link-aside b (eqb-false back x q))
-      (yes-no (eqb back x))
+  link-zero b h = link-none t b x refl h
 
   link-most : (b : ℕ) → linkAt t b x ≤ b
   link-most b = ⊎-elim

@@ -14,6 +14,7 @@ use Rattle.definition.specs.Tree.{Name}
 use Rattle.definition.specs.Names.{eqName}
 use Rattle.lookup.specs.Name.{nameAt}
 use Rattle.lookup.proofs.Names.{yes-no}
+use Rattle.writer.proofs.Put.{within}
 use Rattle.labels.specs.Labels.{headOf, labelAt, linkAt, halved, forkAt, wayOf, endOf, leadsTo, isLabel, slotOf, bindAt}
 
 pub half-on : (x k : ℕ) → 0 < k → {y : ℕ} → y ≡ x / 2 → halved x k ≡ halved y (k - 1)
@@ -110,6 +111,12 @@ module _ (s : List ℕ) (n : Name) (t : List ℕ) (b : ℕ) where
     pub slot-aside : (aside : ℕ) → (v ≡ 0 → ⊥) → slotOf s n t b aside ≡ aside
     unfolding slotOf
     slot-aside aside h = rw (← ex, ← ev, ne-eqb v 0 h)
+
+  -- with no label in force nothing leads on
+  pub is-empty : b ≡ 0 → isLabel s n t b ≡ false
+  is-empty e =
+      let x : ℕ = endOf s n t b in
+      is-none refl refl (⊎-elim (λ (q : getD t x 0 ≤ b). link-none t b x refl (omega arith)) (λ (q : b < getD t x 0). link-far t b x refl q) (within (getD t x 0) b))
 
 -- the label that is bound
 module _ (s : List ℕ) (at : ℕ) (t : List ℕ) (b : ℕ) where

@@ -113,6 +113,9 @@ fn end_of(s: &[u8], name: &[u8], table: &[u32], b: usize) -> usize
 pub fn is_label(s: &[u8], name: &[u8], table: &[u32], b: usize) -> bool
     ensures { λ r. ⌜ r ≡ isLabel (now (s .entry)) (now (name .entry)) (now (table .entry)) b ⌝ }
 {
+    if b == 0 {
+        return false;
+    }
     let x = end_of(s, name, table, b);
     let v = link_at(table, b, x);
     if v == 0 {
