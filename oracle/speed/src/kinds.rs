@@ -117,7 +117,11 @@ pub fn hurting() -> Vec<Named> {
         ),
         (
             "1,600 uses of the first of 800 labels of one hash",
-            lone(labelled(&of_one_hash(800), 0, 1600)),
+            lone(labelled(&of_one_hash("", 800), 0, 1600)),
+        ),
+        (
+            "230 uses of the last of 200 such labels of 31 bytes",
+            lone(labelled(&of_one_hash(&"A".repeat(27), 200), 199, 230)),
         ),
     ]
     .map(|(name, definitions)| (name.to_string(), written(definitions).expect("a book")))
@@ -137,17 +141,22 @@ fn two_letters(count: usize) -> Vec<String> {
     (0..count).map(name).collect()
 }
 
-/// Names of four letters that share a head in the port's table of labels (crates/hash, crates/labels).
-fn of_one_hash(count: usize) -> Vec<String> {
+/// Names that end in four letters and share a head in the port's table of labels (crates/hash, crates/labels).
+fn of_one_hash(beginning: &str, count: usize) -> Vec<String> {
     let letters = |n: usize| [n / 195_112, n / 3364, n / 58, n].map(|n| b'A' + (n % 58) as u8);
-    let hash = |name: &[u8]| {
-        name.iter()
-            .fold(0, |h, byte| (h * 31 + usize::from(*byte)) % 65536)
+    let name = |n: usize| {
+        beginning
+            .chars()
+            .chain(letters(n).map(char::from))
+            .collect()
+    };
+    let hash = |name: &String| {
+        name.bytes()
+            .fold(0, |h, byte| (h * 31 + usize::from(byte)) % 65536)
     };
     (0..)
-        .map(letters)
+        .map(name)
         .filter(|name| hash(name) % 512 == 0)
-        .map(|name| String::from_utf8_lossy(&name).into_owned())
         .take(count)
         .collect()
 }
