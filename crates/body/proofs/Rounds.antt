@@ -39,7 +39,7 @@ use Rattle.steps.specs.declared.Child.{Child}
 use Rattle.steps.specs.declared.Child.the-variants as comes
 use Rattle.steps.proofs.Named.{Reached, StepIs, step-is}
 use Rattle.steps.proofs.Children.{frame-sound}
-use Rattle.body.proofs.Stack.{no-frame, Stack, waiting, lifting, Going}
+use Rattle.body.proofs.Stack.{waiter, Stack, waiting, lifting, Going}
 use Rattle.body.proofs.Turns.{less-pass, goes-pass, child-levels, child-few, goes-open, less-open, ends-refused, good-closed, ends-last, goes-back, less-back}
 
 -- a tree that stands there, and a name that the path holds
@@ -121,15 +121,12 @@ module _ {s : List ℕ} {at : ℕ} {path₀ : List ℕ} {len : ℕ} {binders₀ 
   pub close-safe : n ≤ 65536
   close-safe = let g = R .goes (R .root) in let t = g .good .tables in omega (arith, g .good .finished, t .few .0, t .defns-most)
 
-  abbrev p : Frame
-  p = getD frames (d - 1) no-frame
-
-  resume-by : (ws : List Wait) → 0 < d → Stack s path binders frames d (f .place) (f .last) (f .len) (f .bound) ws → (p .bound ≤ 65535) × (p .child ≤ 65536)
+  resume-by : (ws : List Wait) → 0 < d → Stack s path binders frames d (f .place) (f .last) (f .len) (f .bound) ws → (waiter frames d .bound ≤ 65535) × (waiter frames d .child ≤ 65536)
   unfolding Stack
   resume-by [] h x = absurd (omega arith)
   resume-by (y ∷ ws) h x = let v = x .1 in let e = v .sound in let z = v .frame .ends in (omega (arith, v .frame .few, e .ends, source), omega (arith, e .child, e .ends, source))
 
-  pub resume-safe : 0 < d → (p .bound ≤ 65535) × (p .child ≤ 65536)
+  pub resume-safe : 0 < d → (waiter frames d .bound ≤ 65535) × (waiter frames d .child ≤ 65536)
   resume-safe h = let g = R .goes (R .root) in resume-by (g .waits) h (g .stack)
 
   module _ (path′ : List ℕ) {r : Step} (st : StepAt s f path path′ (nextOf s f) r) where
@@ -168,7 +165,7 @@ module _ {s : List ℕ} {at : ℕ} {path₀ : List ℕ} {len : ℕ} {binders₀ 
             rw (← (ends-last (R .goes x) (closing x) e)) (refl, good-closed (R .goes x));
       })
 
-      module _ (some : 0 < d) {h : Frame} {binders′ : List ℕ} (eh : h ≡ delivered p (f .place) (f .last) (z .whole) (boundAfter s p)) (eb : binders′ ≡ bindBy s p (f .place) (z .inner) binders) where
+      module _ (some : 0 < d) {h : Frame} {binders′ : List ℕ} (eh : h ≡ delivered (waiter frames d) (f .place) (f .last) (z .whole) (boundAfter s (waiter frames d))) (eb : binders′ ≡ bindBy s (waiter frames d) (f .place) (z .inner) binders) where
         pub round-back : Round s at path₀ len binders₀ b made₀ places₀ rows₀ params₀ order₀ w₀ n₀ path′ binders′ bound uses spare made places hashes hints (rowsIn sheet) (paramsIn sheet) (numberIn sheet) (orderIn sheet) frames h (d - 1) w (z .finished)
         round-back = rw (done-path, eb, es .order, es .rows, es .params, es .number, eh, ez) (record { root = R .root; goes = λ x. goes-back (R .goes x) (closing x) some })
 

@@ -54,6 +54,10 @@ module _ {s path binders path′ binders′ : List ℕ} (long : length path′ �
 abbrev pub no-frame : Frame
 no-frame = record { place = 0; last = 0; here = 0; end = 0; left = 0; kind = 0; child = 0; len = 0; bound = 0; done = 0; chained = false; link = 0; own = 0; call = 0 }
 
+-- the one that waits for the top
+abbrev pub waiter : List Frame → ℕ → Frame
+waiter frames d = getD frames (d - 1) no-frame
+
 -- a frame that waits for the node from `place` up to `last`, whose frame has `len` bytes of the path and `bound` binders
 pub record Waits (s path binders : List ℕ) (k : ℕ) (f : Frame) (place last len bound : ℕ) (w : Wait) : Type 0 where
   pub node : Node

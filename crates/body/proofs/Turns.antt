@@ -38,7 +38,7 @@ use Rattle.steps.specs.Steps.{Sound, weight, Refuses, Opened}
 use Rattle.body.specs.declared.Body.the-variants.{Refused}
 use Rattle.steps.proofs.Named.{Reached}
 use Rattle.steps.proofs.Children.{size-least, levels-some}
-use Rattle.body.proofs.Stack.{frame-kept, no-frame, Waits, Stack, stack-kept, stack-more, after, waiting, set-below, waiting-more, lifting-more, waiting-less, lifting-less, Going, closed-size, order-length, closed-is}
+use Rattle.body.proofs.Stack.{frame-kept, no-frame, waiter, Waits, Stack, stack-kept, stack-more, after, waiting, set-below, waiting-more, lifting-more, waiting-less, lifting-less, Going, closed-size, order-length, closed-is}
 
 -- ---- a Const field is passed
 pass-sound : {s path binders : List ℕ} {k : ℕ} {f : Frame} {n : Node} {e : ℕ} → Sound s f → Passing s path binders k f n e → Sound s (passed f e)
@@ -246,7 +246,7 @@ module _ {s path binders bound uses spare made places hashes hints rows params n
   ends-last c e = last-by (g .waits) c e (g .stack) (g .same)
 
   abbrev p : Frame
-  p = getD frames (d - 1) no-frame
+  p = waiter frames d
 
   abbrev q : Frame
   q = delivered p (f .place) (f .last) (closedOf f n .whole) (boundAfter s p)

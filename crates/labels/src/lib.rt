@@ -1,7 +1,8 @@
 // The labels in force, in one lent table of numbers. Its first 512 are heads, one for each hash that a name can have. Behind them each label has
 // four numbers: the place of its length byte, two that lead on, and where the number stands that leads to it. A number that leads on is one more
 // than that of a label, and counts where that label is in force and says that it is led to from there: so labels are taken back by counting fewer
-// of them. Each step looks at the next bit of the name: whatever the labels are, a name meets no more of them than it has bits.
+// of them. Each step looks at the next bit of the name, 0 behind its end: so a name meets no more labels than the longest has bits, and then only
+// those that differ from it in zero bytes at the end.
 use hash::name_hash;
 use lookup::name_at;
 use lookup::same_name;

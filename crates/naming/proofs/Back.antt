@@ -71,7 +71,7 @@ five ints = refl
 five arrays = refl
 
 module _ (at done : ℕ) (name : Name) (env : List Bound) (own : Own) where
-  abbrev node : Link → Rest → Node
+  abbrev pub node : Link → Rest → Node
   node l r = record { link = l; rest = r; at = at; done = done; name = name; env = env; own = own }
 
   module _ {s path binders : List ℕ} {k : ℕ} {f : Frame} (z : Extent) where

@@ -33,7 +33,7 @@ use Rattle.ends.specs.Ends.{innerEnd}
 use Rattle.ends.proofs.Ends.{inner-rest, inner-end}
 use Rattle.naming.specs.Frames.{RestIs, sizeRest, levelsRest, levelsLink, LinkIs, OwnIs, FrameIs, NextIs}
 use Rattle.naming.proofs.Begins.{begins}
-use Rattle.naming.proofs.Back.{past-one, back-chain, back-field, back-case, back-one}
+use Rattle.naming.proofs.Back.{past-one, node, back-chain, back-field, back-case, back-one}
 use Rattle.naming.proofs.Machine.{opens-chain, opens-field, opens-case, opens-one, passes-const, ends-fields, ends-cases, ends-tail}
 
 size-rest : (i : Inner) → skip i + sizeRest (restOf i) ≡ sizeI i
@@ -167,35 +167,32 @@ unfolding pastAt
 past-step s e p q h = omega arith
 
 module _ (at done : ℕ) (name : Name) (env : List Bound) (own : Own) where
-  abbrev node : Link → Rest → Node
-  node l r = record { link = l; rest = r; at = at; done = done; name = name; env = env; own = own }
-
-  next-link : {s path binders : List ℕ} {k : ℕ} {f : Frame} (c : Combinator) (p : ℕ) (r : Rest) → FrameIs s path binders k f (node (ahead c p) r) → NextIs s path binders k f (node (ahead c p) r) (nextOf s f)
+  next-link : {s path binders : List ℕ} {k : ℕ} {f : Frame} (c : Combinator) (p : ℕ) (r : Rest) → FrameIs s path binders k f (node at done name env own (ahead c p) r) → NextIs s path binders k f (node at done name env own (ahead c p) r) (nextOf s f)
   unfolding NextIs LinkIs levelsLink
   next-link {s} {path} {binders} {k} {f} c p r g =
       let l = g .link in
       rw (next-chain s f (l .0), past-step s (f .end) p (l .1) (l .2 .is .reach)) (record { child = c; wait = _; opens = opens-chain r at done name env own c p; stands = l .2; deep = g .deep-link; behind = omega (arith, g .ends, l .1); back = λ path binders h room z few. back-chain at done name env own z c p r p h })
 
   module _ {s path binders : List ℕ} {k : ℕ} {f : Frame} (small : length s ≤ 16384) (l : ℕ) where
-    next-no-field : FrameIs s path binders k f (node (behind l) (fields no-field)) → NextIs s path binders k f (node (behind l) (fields no-field)) (nextOf s f)
+    next-no-field : FrameIs s path binders k f (node at done name env own (behind l) (fields no-field)) → NextIs s path binders k f (node at done name env own (behind l) (fields no-field)) (nextOf s f)
     unfolding NextIs LinkIs RestIs sizeRest sizeF wCombinator countF
     next-no-field g =
         let z : f .end - f .here ≡ 0 = omega (arith, g .ends) in
         rw (next-none s f (g .link .0) (g .rest .2)) (record { closes = λ t. rw (z, g .done, g .link .1) (ends-fields l at done name env own t) })
 
-    next-no-case : (j : CaseKind) (i : ℕ) → FrameIs s path binders k f (node (behind l) (cases no-case j i)) → NextIs s path binders k f (node (behind l) (cases no-case j i)) (nextOf s f)
+    next-no-case : (j : CaseKind) (i : ℕ) → FrameIs s path binders k f (node at done name env own (behind l) (cases no-case j i)) → NextIs s path binders k f (node at done name env own (behind l) (cases no-case j i)) (nextOf s f)
     unfolding NextIs LinkIs RestIs sizeRest sizeC wCombinator countC
     next-no-case j i g =
         let z : f .end - f .here ≡ 0 = omega (arith, g .ends) in
         rw (next-none s f (g .link .0) (g .rest .2)) (record { closes = λ t. rw (z, g .done, g .link .1) (ends-cases l at done name env own j i t) })
 
-    next-bytes : (j : ℕ) → FrameIs s path binders k f (node (behind l) (tail j)) → NextIs s path binders k f (node (behind l) (tail j)) (nextOf s f)
+    next-bytes : (j : ℕ) → FrameIs s path binders k f (node at done name env own (behind l) (tail j)) → NextIs s path binders k f (node at done name env own (behind l) (tail j)) (nextOf s f)
     unfolding NextIs LinkIs RestIs sizeRest
     next-bytes j g =
         let z : f .end - f .here ≡ j = omega (arith, g .ends) in
         rw (next-tail s f (g .link .0) (g .rest)) (record { closes = λ t. rw (z, g .done, g .link .1) (ends-tail l at done name env own j t) })
 
-    next-a-field : (j : FieldKind) (a : Name) (c : Combinator) (h : Fields) → FrameIs s path binders k f (node (behind l) (fields (field j a c h))) → NextIs s path binders k f (node (behind l) (fields (field j a c h))) (nextOf s f)
+    next-a-field : (j : FieldKind) (a : Name) (c : Combinator) (h : Fields) → FrameIs s path binders k f (node at done name env own (behind l) (fields (field j a c h))) → NextIs s path binders k f (node at done name env own (behind l) (fields (field j a c h))) (nextOf s f)
     unfolding NextIs LinkIs RestIs levelsRest wCombinator countF levels nextField
     next-a-field j a c h g =
         let y = g .after in
@@ -206,7 +203,7 @@ module _ (at done : ℕ) (name : Name) (env : List Bound) (own : Own) where
         rw (next-field s f (g .link .0) (omega (arith, g .rest .2)) (g .rest .1), byte-here r, no-third j, m, e)
         (record { child = c; wait = _; opens = opens-field l at done name env own j a c h; stands = record { after = wFields h y; is = rw e at b }; deep = omega (arith, g .deep); behind = omega (arith, g .here); back = λ path binders fr room z few. back-field at done name env own z small room few l j a c h fr })
 
-    next-a-const : (a : Name) (x : List ℕ) (h : Fields) → FrameIs s path binders k f (node (behind l) (fields (const a x h))) → NextIs s path binders k f (node (behind l) (fields (const a x h))) (nextOf s f)
+    next-a-const : (a : Name) (x : List ℕ) (h : Fields) → FrameIs s path binders k f (node at done name env own (behind l) (fields (const a x h))) → NextIs s path binders k f (node at done name env own (behind l) (fields (const a x h))) (nextOf s f)
     unfolding NextIs LinkIs RestIs levelsRest wCombinator countF levels nextField sizeRest passed advanced
     next-a-const a x h g =
         let y = g .after in
@@ -217,7 +214,7 @@ module _ (at done : ℕ) (name : Name) (env : List Bound) (own : Own) where
         let d : constEnd (f .here) a x - f .here ≡ 1 + length (wName a []) + length (wText x []) = omega arith in
         rw (next-field s f (g .link .0) (omega (arith, g .rest .2)) (g .rest .1), byte-here r, e)
         (record {
-          next = advanced (node (behind l) (fields (const a x h))) (fields h) (constEnd at a x) (plus done (1 + length (wName a []) + length (wText x []))) env;
+          next = advanced (node at done name env own (behind l) (fields (const a x h))) (fields h) (constEnd at a x) (plus done (1 + length (wName a []) + length (wText x []))) env;
           frame = record {
             after = y;
             rest = (rw e at b, g .rest .1, omega (arith, g .rest .2));
@@ -236,7 +233,7 @@ module _ (at done : ℕ) (name : Name) (env : List Bound) (own : Own) where
           same = λ ws t. passes-const l at done name env own a x h ws t;
         })
 
-    next-a-case : (x : List ℕ) (c : Combinator) (h : Cases) (j : CaseKind) (i : ℕ) → FrameIs s path binders k f (node (behind l) (cases (case x c h) j i)) → NextIs s path binders k f (node (behind l) (cases (case x c h) j i)) (nextOf s f)
+    next-a-case : (x : List ℕ) (c : Combinator) (h : Cases) (j : CaseKind) (i : ℕ) → FrameIs s path binders k f (node at done name env own (behind l) (cases (case x c h) j i)) → NextIs s path binders k f (node at done name env own (behind l) (cases (case x c h) j i)) (nextOf s f)
     unfolding NextIs LinkIs RestIs levelsRest wCombinator countC levels wLabel caseByte caseSegment
     next-a-case x c h enums i g =
         let y = g .after in
@@ -258,7 +255,7 @@ module _ (at done : ℕ) (name : Name) (env : List Bound) (own : Own) where
         rw (next-arrays s f (g .link .0) (omega (arith, g .rest .2)) (g .rest .1), e, g .rest .3)
         (record { child = c; wait = _; opens = opens-case l at done name env own x c h arrays i; stands = record { after = wCases h arrays y; is = rw e at (text-here x r) }; deep = omega (arith, g .deep); behind = omega (arith, g .here); back = λ path binders fr room z few. back-case at done name env own z small room few l x c h arrays i fr })
 
-    next-a-one : (x : Shell) (c : Combinator) → FrameIs s path binders k f (node (behind l) (one x c)) → NextIs s path binders k f (node (behind l) (one x c)) (nextOf s f)
+    next-a-one : (x : Shell) (c : Combinator) → FrameIs s path binders k f (node at done name env own (behind l) (one x c)) → NextIs s path binders k f (node at done name env own (behind l) (one x c)) (nextOf s f)
     unfolding NextIs LinkIs RestIs levelsRest wOpen wShut nextOne shellSegment
     next-a-one (wrap u v) c g =
         let r = g .rest .0 in
