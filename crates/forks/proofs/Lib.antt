@@ -1,0 +1,3 @@
+mod Steps
+mod Ways
+pub mod Rows

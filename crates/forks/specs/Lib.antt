@@ -1,0 +1,2 @@
+pub mod Forks
+pub mod Leads
