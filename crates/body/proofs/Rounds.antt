@@ -68,9 +68,9 @@ holds path len l h = ⊎-elim short long (within len 255)
         record { name = path ++ (0 ∷ []); held = record { place = omega arith; bytes = take-all len path (omega arith) ∙ sym (take-append-le (length path) path (0 ∷ []) (omega arith) ∙ take-all (length path) path (omega arith)) } }
 
 pub record Round (s : List ℕ) (at : ℕ) (path₀ : List ℕ) (len : ℕ) (binders₀ : List ℕ) (b : ℕ) (made₀ places₀ rows₀ params₀ order₀ : List ℕ) (w₀ : Counts) (n₀ : ℕ)
-    (path binders bound uses spare made places hashes hints rows params number order : List ℕ) (frames : List Frame) (f : Frame) (d : ℕ) (w : Counts) (n : ℕ) : Type 0 where
+    (path binders bound uses spare made places ways hints rows params number order : List ℕ) (frames : List Frame) (f : Frame) (d : ℕ) (w : Counts) (n : ℕ) : Type 0 where
   pub root : Root s at path₀ len
-  pub goes : (x : Root s at path₀ len) → Going s path binders bound uses spare made places hashes hints rows params number order frames f d w n
+  pub goes : (x : Root s at path₀ len) → Going s path binders bound uses spare made places ways hints rows params number order frames f d w n
       (walk (x .tree) at (x .name) (boundFrom s binders₀ 0 b) (sheetOf s made₀ places₀ rows₀ params₀ (take n₀ order₀) w₀))
 
 -- what is left to walk
@@ -78,9 +78,9 @@ abbrev pub left : List ℕ → List Frame → Frame → ℕ → ℕ
 left s frames f d = weight s f + waiting frames d (f .last)
 
 -- ---- the start
-module _ {s : List ℕ} {at : ℕ} {path : List ℕ} {len : ℕ} {binders : List ℕ} {b : ℕ} {bound uses spare made places hashes hints rows params number order : List ℕ} {w : Counts} {n : ℕ} where
-  pub round-start : {frames : List Frame} {f : Frame} (last : ℕ) → len ≤ 256 → Good s made places hashes hints rows params number order w n → Ready s at path binders b bound uses spare → f ≡ frameAt s at last len b 0 0 → length frames ≡ 64
-      → Round s at path len binders b made places rows params order w n path binders bound uses spare made places hashes hints rows params number order frames f 0 w n
+module _ {s : List ℕ} {at : ℕ} {path : List ℕ} {len : ℕ} {binders : List ℕ} {b : ℕ} {bound uses spare made places ways hints rows params number order : List ℕ} {w : Counts} {n : ℕ} where
+  pub round-start : {frames : List Frame} {f : Frame} (last : ℕ) → len ≤ 256 → Good s made places ways hints rows params number order w n → Ready s at path binders b bound uses spare → f ≡ frameAt s at last len b 0 0 → length frames ≡ 64
+      → Round s at path len binders b made places rows params order w n path binders bound uses spare made places ways hints rows params number order frames f 0 w n
   unfolding frameAt OwnIs Stack lifting
   round-start last h good r ef l = rw ef (record {
     root = let y = holds path len (r .path-long) h in record { tree = r .stands .what; name = y .name; stands = r .stands .stands; deep = r .stands .deep; held = y .held };
@@ -107,8 +107,8 @@ module _ {s : List ℕ} {at : ℕ} {path : List ℕ} {len : ℕ} {binders : List
   })
 
 module _ {s : List ℕ} {at : ℕ} {path₀ : List ℕ} {len : ℕ} {binders₀ : List ℕ} {b : ℕ} {made₀ places₀ rows₀ params₀ order₀ : List ℕ} {w₀ : Counts} {n₀ : ℕ}
-    {path binders bound uses spare made places hashes hints rows params number order : List ℕ} {frames : List Frame} {f : Frame} {d : ℕ} {w : Counts} {n : ℕ}
-    (R : Round s at path₀ len binders₀ b made₀ places₀ rows₀ params₀ order₀ w₀ n₀ path binders bound uses spare made places hashes hints rows params number order frames f d w n) where
+    {path binders bound uses spare made places ways hints rows params number order : List ℕ} {frames : List Frame} {f : Frame} {d : ℕ} {w : Counts} {n : ℕ}
+    (R : Round s at path₀ len binders₀ b made₀ places₀ rows₀ params₀ order₀ w₀ n₀ path binders bound uses spare made places ways hints rows params number order frames f d w n) where
   source : length s ≤ 16384
   source = R .goes (R .root) .good .tables .source
 
@@ -140,7 +140,7 @@ module _ {s : List ℕ} {at : ℕ} {path₀ : List ℕ} {len : ℕ} {binders₀ 
     passing q x = (rw q at (step-is s f path path′ r st)) .1 binders (63 - d) (R .goes x .node) source (R .goes x .top)
 
     pub round-pass : {e : ℕ} {h : Frame} → r ≡ step.Pass e → h ≡ passed f e
-        → Round s at path₀ len binders₀ b made₀ places₀ rows₀ params₀ order₀ w₀ n₀ path′ binders bound uses spare made places hashes hints rows params number order frames h d w n
+        → Round s at path₀ len binders₀ b made₀ places₀ rows₀ params₀ order₀ w₀ n₀ path′ binders bound uses spare made places ways hints rows params number order frames h d w n
     round-pass q eh = rw (pass-path q, eh) (record { root = R .root; goes = λ x. goes-pass (R .goes x) (passing q x) })
 
     pub round-less-pass : {e : ℕ} {h : Frame} → r ≡ step.Pass e → h ≡ passed f e → left s frames h d < left s frames f d
@@ -157,7 +157,7 @@ module _ {s : List ℕ} {at : ℕ} {path₀ : List ℕ} {len : ℕ} {binders₀ 
       unfolding StepIs
       closing x = (rw q at (step-is s f path path′ r st)) .1 binders (63 - d) (R .goes x .node) source (R .goes x .top)
 
-      pub walks-last : d ≡ 0 → Walks s at path₀ len binders₀ b made₀ places₀ rows₀ params₀ order₀ w₀ n₀ made places hashes hints (rowsIn sheet) (paramsIn sheet) (numberIn sheet) (orderIn sheet) (Named w (z .finished))
+      pub walks-last : d ≡ 0 → Walks s at path₀ len binders₀ b made₀ places₀ rows₀ params₀ order₀ w₀ n₀ made places ways hints (rowsIn sheet) (paramsIn sheet) (numberIn sheet) (orderIn sheet) (Named w (z .finished))
       unfolding Ends
       walks-last e = rw (ez, es .order, es .rows, es .params, es .number) (record {
         walks = λ c name st deep held.
@@ -166,7 +166,7 @@ module _ {s : List ℕ} {at : ℕ} {path₀ : List ℕ} {len : ℕ} {binders₀ 
       })
 
       module _ (some : 0 < d) {h : Frame} {binders′ : List ℕ} (eh : h ≡ delivered (waiter frames d) (f .place) (f .last) (z .whole) (boundAfter s (waiter frames d))) (eb : binders′ ≡ bindBy s (waiter frames d) (f .place) (z .inner) binders) where
-        pub round-back : Round s at path₀ len binders₀ b made₀ places₀ rows₀ params₀ order₀ w₀ n₀ path′ binders′ bound uses spare made places hashes hints (rowsIn sheet) (paramsIn sheet) (numberIn sheet) (orderIn sheet) frames h (d - 1) w (z .finished)
+        pub round-back : Round s at path₀ len binders₀ b made₀ places₀ rows₀ params₀ order₀ w₀ n₀ path′ binders′ bound uses spare made places ways hints (rowsIn sheet) (paramsIn sheet) (numberIn sheet) (orderIn sheet) frames h (d - 1) w (z .finished)
         round-back = rw (done-path, eb, es .order, es .rows, es .params, es .number, eh, ez) (record { root = R .root; goes = λ x. goes-back (R .goes x) (closing x) some })
 
         pub round-less-back : left s frames h (d - 1) < left s frames f d
@@ -182,7 +182,7 @@ module _ {s : List ℕ} {at : ℕ} {path₀ : List ℕ} {len : ℕ} {binders₀ 
       unfolding StepIs
       step-kept = (rw q at (step-is s f path path′ r st)) .kept
 
-      pub open-safe : {ends : List ℕ} → Right s ends → Tables s made places hashes hints rows params w × Standing s place × Scratch s bound uses spare × (length path′ ≡ 255) × (f .bound ≤ 65536) × Sized binders (f .bound) × Right s ends
+      pub open-safe : {ends : List ℕ} → Right s ends → Tables s made places ways hints rows params w × Standing s place × Scratch s bound uses spare × (length path′ ≡ 255) × (f .bound ≤ 65536) × Sized binders (f .bound) × Right s ends
       open-safe right =
           let g = R .goes (R .root) in
           let o = reached (R .root) .opening in (
@@ -195,15 +195,15 @@ module _ {s : List ℕ} {at : ℕ} {path₀ : List ℕ} {len : ℕ} {binders₀ 
             right,
           )
 
-      module _ {path₂ made′ places′ hashes′ hints′ rows′ params′ number′ : List ℕ} {t : Child} (come : Comes s place path′ l binders (f .bound) made places hashes hints rows params number w path₂ made′ places′ hashes′ hints′ rows′ params′ number′ t) where
+      module _ {path₂ made′ places′ ways′ hints′ rows′ params′ number′ : List ℕ} {t : Child} (come : Comes s place path′ l binders (f .bound) made places ways hints rows params number w path₂ made′ places′ ways′ hints′ rows′ params′ number′ t) where
         child-is : (x : Root s at path₀ len) → ChildIs s path₂ binders (63 - (d + 1)) place l (f .bound) (reached x .opening .child) (R .goes x .node) (reached x .opening .wait) (sheetOf s made places rows params (take n order) w) (w .lifts)
-            (λ v. sheetOf s made′ places′ rows′ params′ (take n order) v) (λ v. Good s made′ places′ hashes′ hints′ rows′ params′ number′ order v n) t
+            (λ v. sheetOf s made′ places′ rows′ params′ (take n order) v) (λ v. Good s made′ places′ ways′ hints′ rows′ params′ number′ order v n) t
         child-is x =
             let g = R .goes x in
             let y = reached x in
             come .comes (y .opening .child) (y .base) (63 - (d + 1)) (g .node) (y .opening .wait) order n (y .opening .stands) (child-levels g y) (omega arith) (y .held) (y .opening .opens) (g .top .env) (child-few g y) (g .good)
 
-        pub walks-refused : {e : ℕ} → t ≡ comes.Refused e → {order′ : List ℕ} → order′ ≡ order → Walks s at path₀ len binders₀ b made₀ places₀ rows₀ params₀ order₀ w₀ n₀ made′ places′ hashes′ hints′ rows′ params′ number′ order′ (Refused e)
+        pub walks-refused : {e : ℕ} → t ≡ comes.Refused e → {order′ : List ℕ} → order′ ≡ order → Walks s at path₀ len binders₀ b made₀ places₀ rows₀ params₀ order₀ w₀ n₀ made′ places′ ways′ hints′ rows′ params′ number′ order′ (Refused e)
         unfolding ChildIs
         walks-refused et eo = rw eo (record {
           walks = λ c name st deep held.
@@ -216,12 +216,12 @@ module _ {s : List ℕ} {at : ℕ} {path₀ : List ℕ} {len : ℕ} {binders₀ 
           unfolding ChildIs
           opened x = (rw et at (child-is x)) .0
 
-          good-opened : (x : Root s at path₀ len) → Good s made′ places′ hashes′ hints′ rows′ params′ number′ order v n
+          good-opened : (x : Root s at path₀ len) → Good s made′ places′ ways′ hints′ rows′ params′ number′ order v n
           unfolding ChildIs
           good-opened x = (rw et at (child-is x)) .1
 
           pub round-open : {order′ : List ℕ} → order′ ≡ order → {bound′ uses′ spare′ : List ℕ} → length path₂ ≡ length path′ → length bound′ ≡ length bound → length uses′ ≡ length uses → length spare′ ≡ length spare
-              → Round s at path₀ len binders₀ b made₀ places₀ rows₀ params₀ order₀ w₀ n₀ path₂ binders bound′ uses′ spare′ made′ places′ hashes′ hints′ rows′ params′ number′ order′ (set frames d f) h (d + 1) v n
+              → Round s at path₀ len binders₀ b made₀ places₀ rows₀ params₀ order₀ w₀ n₀ path₂ binders bound′ uses′ spare′ made′ places′ ways′ hints′ rows′ params′ number′ order′ (set frames d f) h (d + 1) v n
           round-open eo l₂ lb lu ls = rw eo (record { root = R .root; goes = λ x. goes-open (R .goes x) (reached x) (opened x) refl (good-opened x) long (l₂ ∙ long) step-kept (come .kept) lb lu ls })
 
           pub round-less-open : left s (set frames d f) h (d + 1) < left s frames f d
@@ -232,7 +232,7 @@ some zero h = absurd (h refl)
 some (suc a) h = omega arith
 
 -- ---- what is lent keeps its length
-pub record Lengths (path₀ binders₀ bound₀ uses₀ spare₀ made₀ places₀ hashes₀ hints₀ sheet₀ path₁ binders₁ bound₁ uses₁ spare₁ made₁ places₁ hashes₁ hints₁ sheet₁ : List ℕ) : Type 0 where
+pub record Lengths (path₀ binders₀ bound₀ uses₀ spare₀ made₀ places₀ ways₀ hints₀ sheet₀ path₁ binders₁ bound₁ uses₁ spare₁ made₁ places₁ ways₁ hints₁ sheet₁ : List ℕ) : Type 0 where
   pub path : length path₁ ≡ length path₀
   pub binders : length binders₁ ≡ length binders₀
   pub bound : length bound₁ ≡ length bound₀
@@ -240,11 +240,11 @@ pub record Lengths (path₀ binders₀ bound₀ uses₀ spare₀ made₀ places�
   pub spare : length spare₁ ≡ length spare₀
   pub made : length made₁ ≡ length made₀
   pub places : length places₁ ≡ length places₀
-  pub hashes : length hashes₁ ≡ length hashes₀
+  pub ways : length ways₁ ≡ length ways₀
   pub hints : length hints₁ ≡ length hints₀
   pub sheet : length sheet₁ ≡ length sheet₀
 
-pub lengths-on : {path₀ binders₀ bound₀ uses₀ spare₀ made₀ places₀ hashes₀ hints₀ sheet₀ path binders bound uses spare made places hashes hints sheet path′ binders′ bound′ uses′ spare′ made′ places′ hashes′ hints′ sheet′ : List ℕ} → Lengths path₀ binders₀ bound₀ uses₀ spare₀ made₀ places₀ hashes₀ hints₀ sheet₀ path binders bound uses spare made places hashes hints sheet → Lengths path binders bound uses spare made places hashes hints sheet path′ binders′ bound′ uses′ spare′ made′ places′ hashes′ hints′ sheet′ → Lengths path₀ binders₀ bound₀ uses₀ spare₀ made₀ places₀ hashes₀ hints₀ sheet₀ path′ binders′ bound′ uses′ spare′ made′ places′ hashes′ hints′ sheet′
+pub lengths-on : {path₀ binders₀ bound₀ uses₀ spare₀ made₀ places₀ ways₀ hints₀ sheet₀ path binders bound uses spare made places ways hints sheet path′ binders′ bound′ uses′ spare′ made′ places′ ways′ hints′ sheet′ : List ℕ} → Lengths path₀ binders₀ bound₀ uses₀ spare₀ made₀ places₀ ways₀ hints₀ sheet₀ path binders bound uses spare made places ways hints sheet → Lengths path binders bound uses spare made places ways hints sheet path′ binders′ bound′ uses′ spare′ made′ places′ ways′ hints′ sheet′ → Lengths path₀ binders₀ bound₀ uses₀ spare₀ made₀ places₀ ways₀ hints₀ sheet₀ path′ binders′ bound′ uses′ spare′ made′ places′ ways′ hints′ sheet′
 lengths-on x y = record {
   path = y .path ∙ x .path;
   binders = y .binders ∙ x .binders;
@@ -253,7 +253,7 @@ lengths-on x y = record {
   spare = y .spare ∙ x .spare;
   made = y .made ∙ x .made;
   places = y .places ∙ x .places;
-  hashes = y .hashes ∙ x .hashes;
+  ways = y .ways ∙ x .ways;
   hints = y .hints ∙ x .hints;
   sheet = y .sheet ∙ x .sheet;
 }

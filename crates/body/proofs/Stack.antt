@@ -167,13 +167,13 @@ lifting-less frames zero h = absurd (omega arith)
 lifting-less frames (suc d) h = let e : suc d - 1 ≡ d = omega arith in rw e
 
 -- ---- the loop: `whole` is what the pass over the body answers
-pub record Going (s path binders bound uses spare made places hashes hints rows params number order : List ℕ) (frames : List Frame) (f : Frame) (d : ℕ) (w : Counts) (n : ℕ) (whole : Res Sheet Extent) : Type 0 where
+pub record Going (s path binders bound uses spare made places ways hints rows params number order : List ℕ) (frames : List Frame) (f : Frame) (d : ℕ) (w : Counts) (n : ℕ) (whole : Res Sheet Extent) : Type 0 where
   pub node : Node
   pub waits : List Wait
   pub top : FrameIs s path binders (63 - d) f node
   pub stack : Stack s path binders frames d (f .place) (f .last) (f .len) (f .bound) waits
   pub same : run node waits (sheetOf s made places rows params (take n order) w) ≡ whole
-  pub good : Good s made places hashes hints rows params number order w n
+  pub good : Good s made places ways hints rows params number order w n
   pub scratch : Scratch s bound uses spare
   pub path-long : length path ≡ 255
   pub binders-long : length s ≤ length binders

@@ -49,9 +49,9 @@ pub less-pass : {s path binders : List ℕ} {k : ℕ} {f : Frame} {n : Node} {e 
 unfolding passed weight
 less-pass p = omega (arith, p .ahead, p .frame .ends)
 
-module _ {s path binders bound uses spare made places hashes hints rows params number order : List ℕ} {frames : List Frame} {f : Frame} {d : ℕ} {w : Counts} {n : ℕ} {whole : Res Sheet Extent}
-    (g : Going s path binders bound uses spare made places hashes hints rows params number order frames f d w n whole) where
-  pub goes-pass : {e : ℕ} → Passing s path binders (63 - d) f (g .node) e → Going s path binders bound uses spare made places hashes hints rows params number order frames (passed f e) d w n whole
+module _ {s path binders bound uses spare made places ways hints rows params number order : List ℕ} {frames : List Frame} {f : Frame} {d : ℕ} {w : Counts} {n : ℕ} {whole : Res Sheet Extent}
+    (g : Going s path binders bound uses spare made places ways hints rows params number order frames f d w n whole) where
+  pub goes-pass : {e : ℕ} → Passing s path binders (63 - d) f (g .node) e → Going s path binders bound uses spare made places ways hints rows params number order frames (passed f e) d w n whole
   unfolding passed
   goes-pass p = record {
     node = p .next;
@@ -79,8 +79,8 @@ stack-push s path binders frames f d place last len bound w ws h x y =
     let b : 64 - (d + 1) ≡ 63 - d = omega arith in
     rw (a, b, getD-set-same frames d f no-frame h) (omega arith, x, y)
 
-module _ {s path binders bound uses spare made places hashes hints rows params number order : List ℕ} {frames : List Frame} {f : Frame} {d : ℕ} {w : Counts} {n : ℕ} {whole : Res Sheet Extent}
-    (g : Going s path binders bound uses spare made places hashes hints rows params number order frames f d w n whole) {path₁ : List ℕ} {at len : ℕ} (r : Reached s (63 - d) f (g .node) path₁ at len) where
+module _ {s path binders bound uses spare made places ways hints rows params number order : List ℕ} {frames : List Frame} {f : Frame} {d : ℕ} {w : Counts} {n : ℕ} {whole : Res Sheet Extent}
+    (g : Going s path binders bound uses spare made places ways hints rows params number order frames f d w n whole) {path₁ : List ℕ} {at len : ℕ} (r : Reached s (63 - d) f (g .node) path₁ at len) where
   pub child-deep : d < 63
   child-deep = omega (arith, r .opening .deep, levels-some (r .opening .child))
 
@@ -92,9 +92,9 @@ module _ {s path binders bound uses spare made places hashes hints rows params n
 
   module _ {path₂ : List ℕ} {u : Sheet} {h : Frame} {v : Counts}
       (o : Opened s path₂ binders (63 - (d + 1)) at len (f .bound) (r .opening .child) (g .node) (r .opening .wait) (sheetOf s made places rows params (take n order) w) u (w .lifts) h v) where
-    pub goes-open : {bound′ uses′ spare′ made′ places′ hashes′ hints′ rows′ params′ number′ : List ℕ} → u ≡ sheetOf s made′ places′ rows′ params′ (take n order) v → Good s made′ places′ hashes′ hints′ rows′ params′ number′ order v n → length path₁ ≡ length path → length path₂ ≡ length path → take (f .len) path₁ ≡ take (f .len) path → take len path₂ ≡ take len path₁
+    pub goes-open : {bound′ uses′ spare′ made′ places′ ways′ hints′ rows′ params′ number′ : List ℕ} → u ≡ sheetOf s made′ places′ rows′ params′ (take n order) v → Good s made′ places′ ways′ hints′ rows′ params′ number′ order v n → length path₁ ≡ length path → length path₂ ≡ length path → take (f .len) path₁ ≡ take (f .len) path → take len path₂ ≡ take len path₁
         → length bound′ ≡ length bound → length uses′ ≡ length uses → length spare′ ≡ length spare
-        → Going s path₂ binders bound′ uses′ spare′ made′ places′ hashes′ hints′ rows′ params′ number′ order (set frames d f) h (d + 1) v n whole
+        → Going s path₂ binders bound′ uses′ spare′ made′ places′ ways′ hints′ rows′ params′ number′ order (set frames d f) h (d + 1) v n whole
     goes-open eu good l₁ l₂ k₁ k₂ lb lu ls =
         let few = child-deep in
         let room : d < length frames = omega (arith, g .frames-long) in
@@ -214,15 +214,15 @@ delivered-sized s p at e whole inner binders x room h = by-test (p .chained)
     of true = sized-more binders (p .bound) (min (pastAt s (p .here) 1) 65535) (min at 65535) 0 (min inner 65535) x room (omega arith)
     of false = x
 
-module _ {s path binders bound uses spare made places hashes hints rows params number order : List ℕ} {frames : List Frame} {f : Frame} {d : ℕ} {w : Counts} {n : ℕ} {whole : Res Sheet Extent}
-    (g : Going s path binders bound uses spare made places hashes hints rows params number order frames f d w n whole) where
+module _ {s path binders bound uses spare made places ways hints rows params number order : List ℕ} {frames : List Frame} {f : Frame} {d : ℕ} {w : Counts} {n : ℕ} {whole : Res Sheet Extent}
+    (g : Going s path binders bound uses spare made places ways hints rows params number order frames f d w n whole) where
   abbrev z : Extent
   z = record { whole = closedOf f n .whole; inner = closedOf f n .inner }
 
   abbrev sheet : Sheet
   sheet = sheetOf s made places rows params (take (closedOf f n .finished) (orderOf f order n)) w
 
-  pub good-closed : Good s made places hashes hints rows params number (orderOf f order n) w (closedOf f n .finished)
+  pub good-closed : Good s made places ways hints rows params number (orderOf f order n) w (closedOf f n .finished)
   good-closed = record {
     tables = g .good .tables;
     number-long = g .good .number-long;
@@ -252,7 +252,7 @@ module _ {s path binders bound uses spare made places hashes hints rows params n
   q = delivered p (f .place) (f .last) (closedOf f n .whole) (boundAfter s p)
 
   back-by : (ws : List Wait) → Closing f (g .node) → 0 < d → Stack s path binders frames d (f .place) (f .last) (f .len) (f .bound) ws → run (g .node) ws (sheetOf s made places rows params (take n order) w) ≡ whole
-      → Going s path (bindBy s p (f .place) (closedOf f n .inner) binders) bound uses spare made places hashes hints rows params number (orderOf f order n) frames q (d - 1) w (closedOf f n .finished) whole
+      → Going s path (bindBy s p (f .place) (closedOf f n .inner) binders) bound uses spare made places ways hints rows params number (orderOf f order n) frames q (d - 1) w (closedOf f n .finished) whole
   unfolding Stack size
   back-by [] c e x h = absurd (omega arith)
   back-by (y ∷ ws) c e x h =
@@ -284,7 +284,7 @@ module _ {s path binders bound uses spare made places hashes hints rows params n
       }
 
   pub goes-back : Closing f (g .node) → 0 < d
-      → Going s path (bindBy s p (f .place) (closedOf f n .inner) binders) bound uses spare made places hashes hints rows params number (orderOf f order n) frames q (d - 1) w (closedOf f n .finished) whole
+      → Going s path (bindBy s p (f .place) (closedOf f n .inner) binders) bound uses spare made places ways hints rows params number (orderOf f order n) frames q (d - 1) w (closedOf f n .finished) whole
   goes-back c e = back-by (g .waits) c e (g .stack) (g .same)
 
   pub less-back : 0 < d → weight s q + waiting frames (d - 1) (q .last) < weight s f + waiting frames d (f .last)

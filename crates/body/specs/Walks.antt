@@ -34,7 +34,7 @@ Ends (ok z t) (Named v n) sheet good = (t ≡ sheet v n) × good v n
 Ends (bad k t) (Named v n) sheet good = ⊥
 Ends (ok z t) (Refused c) sheet good = ⊥
 
-pub record Walks (s : List ℕ) (at : ℕ) (path : List ℕ) (len : ℕ) (binders : List ℕ) (b : ℕ) (made places rows params order : List ℕ) (w : Counts) (n : ℕ) (made′ places′ hashes′ hints′ rows′ params′ number′ order′ : List ℕ) (r : Body) : Type 0 where
+pub record Walks (s : List ℕ) (at : ℕ) (path : List ℕ) (len : ℕ) (binders : List ℕ) (b : ℕ) (made places rows params order : List ℕ) (w : Counts) (n : ℕ) (made′ places′ ways′ hints′ rows′ params′ number′ order′ : List ℕ) (r : Body) : Type 0 where
   pub walks : (c : Combinator) (name : Name) → Stands s at c → levels c ≤ 64 → Held path len name
       → Ends (walk c at name (boundFrom s binders 0 b) (sheetOf s made places rows params (take n order) w)) r
-      (λ v m. sheetOf s made′ places′ rows′ params′ (take m order′) v) (λ v m. Good s made′ places′ hashes′ hints′ rows′ params′ number′ order′ v m)
+      (λ v m. sheetOf s made′ places′ rows′ params′ (take m order′) v) (λ v m. Good s made′ places′ ways′ hints′ rows′ params′ number′ order′ v m)

@@ -36,14 +36,14 @@ pub fn expand_combinator(
     spare: &mut [u32],
     made: &mut [u8],
     places: &mut [u16],
-    hashes: &mut [u16],
+    ways: &mut [u32],
     hints: &mut [u16],
     sheet: &mut [u16],
     w: Counts,
     n: usize,
 ) -> Body
-    requires { ⌜ Good (now s) (now made) (now places) (now hashes) (now hints) (rowsIn (now sheet)) (paramsIn (now sheet)) (numberIn (now sheet)) (orderIn (now sheet)) w n × Ready (now s) at (now path) (now binders) b (now bound) (now uses) (now spare) × (len ≤ 256) × Right (now s) (now ends) ⌝ }
-    ensures { λ r. ⌜ Walks (now (s .entry)) at (now (path .entry)) len (now (binders .entry)) b (now (made .entry)) (now (places .entry)) (rowsIn (now (sheet .entry))) (paramsIn (now (sheet .entry))) (orderIn (now (sheet .entry))) w n (now (made .exit)) (now (places .exit)) (now (hashes .exit)) (now (hints .exit)) (rowsIn (now (sheet .exit))) (paramsIn (now (sheet .exit))) (numberIn (now (sheet .exit))) (orderIn (now (sheet .exit))) r ⌝ }
+    requires { ⌜ Good (now s) (now made) (now places) (now ways) (now hints) (rowsIn (now sheet)) (paramsIn (now sheet)) (numberIn (now sheet)) (orderIn (now sheet)) w n × Ready (now s) at (now path) (now binders) b (now bound) (now uses) (now spare) × (len ≤ 256) × Right (now s) (now ends) ⌝ }
+    ensures { λ r. ⌜ Walks (now (s .entry)) at (now (path .entry)) len (now (binders .entry)) b (now (made .entry)) (now (places .entry)) (rowsIn (now (sheet .entry))) (paramsIn (now (sheet .entry))) (orderIn (now (sheet .entry))) w n (now (made .exit)) (now (places .exit)) (now (ways .exit)) (now (hints .exit)) (rowsIn (now (sheet .exit))) (paramsIn (now (sheet .exit))) (numberIn (now (sheet .exit))) (orderIn (now (sheet .exit))) r ⌝ }
 {
     let end = end_of(s, ends, at);
     let last = combinator_past(s, ends, end);
@@ -86,7 +86,7 @@ pub fn expand_combinator(
                     spare,
                     made,
                     places,
-                    hashes,
+                    ways,
                     hints,
                     sheet,
                     counts,

@@ -20,7 +20,7 @@ use Rattle.writer.proofs.Put.{within}
 use Rattle.taken.specs.Taken.{both}
 use Rattle.found.specs.Found.{Found}
 use Rattle.found.proofs.Rows.{found-not, found-is}
-use Rattle.callable.specs.Named.{rowNames}
+use Rattle.kinds.specs.Rows.{rowNames}
 use Rattle.called.specs.Known.{knownAt}
 
 -- a call

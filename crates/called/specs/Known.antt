@@ -6,7 +6,7 @@ use lib.Dec.{eqb}
 use Rattle.definition.specs.Names.{elem}
 use Rattle.seek.specs.At.{byteAt, pastAt, pick}
 use Rattle.lookup.specs.Name.{nameAt}
-use Rattle.callable.specs.Named.{rowNames}
+use Rattle.kinds.specs.Rows.{rowNames}
 
 -- "every Invocation .. names a kind 1 or 2 definition": the call at a place; a macro's passes
 unfoldable pub knownAt : List ℕ → List ℕ → ℕ → ℕ → Bool

@@ -115,7 +115,7 @@ module _ {s made rows params number order : List ℕ} where
 
   module _ {v : Counts} {n : ℕ} (x : Expands s made rows params number order (Named v n)) where
     abbrev Given : List Definition → Type 0
-    Given ds = Handed (wBook ds ++ []) ds (traceBook treeHead ds) (outcome (liftBook ds)) (sheetOf s made (x .places) rows params (take n order) v) (Good s made (x .places) (x .hashes) (x .hints) rows params number order v n)
+    Given ds = Handed (wBook ds ++ []) ds (traceBook treeHead ds) (outcome (liftBook ds)) (sheetOf s made (x .places) rows params (take n order) v) (Good s made (x .places) (x .ways) (x .hints) rows params number order v n)
 
     given-by : (ds : List Definition) → s ≡ wBook ds → IsBook ds → Given ds
     given-by ds w b = handed _ _ v n (walks-as-traced ds) (comes ds) (x .expands ds w b)

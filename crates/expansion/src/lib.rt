@@ -14,15 +14,15 @@ fn macro_of(
     call: usize,
     macros: &[u8],
     places: &[u16],
-    hashes: &[u16],
+    ways: &[u32],
     rows: usize,
 ) -> Found
-    ensures { λ r. ⌜ MacroOf (now (book .entry)) call (now (macros .entry)) (now (places .entry)) (now (hashes .entry)) rows r ⌝ }
+    ensures { λ r. ⌜ MacroOf (now (book .entry)) call (now (macros .entry)) (now (places .entry)) (now (ways .entry)) rows r ⌝ }
 {
     let tag = byte(book, call);
     let a = past(book, call, 1);
     if tag == 16 {
-        return find_macro(name_at(book, a), macros, places, hashes, rows);
+        return find_macro(name_at(book, a), macros, places, ways, rows);
     }
     Found::Unknown
 }
@@ -32,7 +32,7 @@ fn macro_of(
 pub fn expand_macros_in_combinator(
     macros: &[u8],
     places: &[u16],
-    hashes: &[u16],
+    ways: &[u32],
     rows: usize,
     book: &[u8],
     from: usize,
@@ -43,7 +43,7 @@ pub fn expand_macros_in_combinator(
     out: &mut [u8],
     start: usize,
 ) -> usize
-    ensures { λ r. ⌜ Expanding (now (macros .entry)) (now (places .entry)) (now (hashes .entry)) rows (now (book .entry)) to (now (marks .entry)) (now (areas .entry)) (now (row .entry)) (now (out .entry)) from start 0 (now (out .exit)) r ⌝ }
+    ensures { λ r. ⌜ Expanding (now (macros .entry)) (now (places .entry)) (now (ways .entry)) rows (now (book .entry)) to (now (marks .entry)) (now (areas .entry)) (now (row .entry)) (now (out .entry)) from start 0 (now (out .exit)) r ⌝ }
 {
     let mut copied = from;
     let mut o = start;
@@ -52,7 +52,7 @@ pub fn expand_macros_in_combinator(
         let call = marks[i] as usize;
         let end = marks[i + 1] as usize;
         i += 2;
-        let found = macro_of(book, call, macros, places, hashes, rows);
+        let found = macro_of(book, call, macros, places, ways, rows);
         match found {
             Found::At { at } => {
                 let q = put_part(book, copied, call, out, o);

@@ -7,7 +7,7 @@ use Prim.Native.Nat.{ℕ, suc, _+_, _*_, _-_, _/_, _%_, _≤_, _<_}
 use native.Mathlib.Omega.{arith}
 use native.Mathlib.Nat.{eq-or-lt-of-le}
 use native.Mathlib.Numerals.{add-one}
-use lib.ListN.{length, getD, set, length-set}
+use lib.ListN.{length, getD, set, replicate, length-set, getD-replicate}
 use lib.Seq.{getD-set-same, getD-set-other}
 use Rattle.definition.specs.Tree.{Name}
 use Rattle.forks.specs.Forks.{bitAt, forkAt, slotFrom, slotOf, rowAt, apartAt, Apart, enteredAt}
@@ -26,6 +26,10 @@ leads-none f t c h = record {
   first = λ i k. absurd (omega arith);
   is = λ i k. absurd (omega arith);
 }
+
+-- a new table
+pub clear-new : (n : ℕ) → 256 ≤ n → Clear (replicate n 0)
+clear-new n h = record { heads = λ x k. getD-replicate n x 0 0 (omega arith) }
 
 -- the same names
 pub leads-same : {f g : ℕ → Name} {t : List ℕ} {n : ℕ} → Leads f t n → ((i : ℕ) → i < n → g i ≡ f i) → Leads g t n

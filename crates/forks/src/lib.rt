@@ -9,7 +9,7 @@ ghost use lib.ListN.{length, getD, set};
 ghost use Rattle.forks.specs.Forks.{bitAt, forkAt, slotOf, rowAt, byteApart, apartAt, Apart, enteredAt};
 
 // A number of the table, or 0 past its end.
-pub fn held(table: &[u32], at: usize) -> usize
+fn held(table: &[u32], at: usize) -> usize
     ensures { λ r. ⌜ (r ≡ getD (now (table .entry)) at 0) × (r ≤ 4294967295) ⌝ }
 {
     if table.len() <= at {
@@ -19,7 +19,7 @@ pub fn held(table: &[u32], at: usize) -> usize
 }
 
 // A number into the table, as far as it reaches.
-pub fn hold(table: &mut [u32], at: usize, x: usize)
+fn hold(table: &mut [u32], at: usize, x: usize)
     requires { ⌜ x ≤ 4294967295 ⌝ }
     ensures { λ _. ⌜ now (table .exit) ≡ set (now (table .entry)) at x ⌝ }
 {

@@ -36,9 +36,9 @@ use Rattle.own.specs.Own.{Params, Binds, Own}
 use Rattle.format.specs.Formats.{Format, EndsIn, Defined}
 
 -- what is said of a format
-pub record Formatted (s : List ℕ) (at : ℕ) (made places rows params order : List ℕ) (w : Counts) (n : ℕ) (made′ places′ hashes′ hints′ rows′ params′ number′ order′ : List ℕ) (r : Body) : Type 0 where
+pub record Formatted (s : List ℕ) (at : ℕ) (made places rows params order : List ℕ) (w : Counts) (n : ℕ) (made′ places′ ways′ hints′ rows′ params′ number′ order′ : List ℕ) (r : Body) : Type 0 where
   pub says : (m : Name) (ps : List Param) (c : Combinator) (z : List ℕ) → Here s at (wDefinition (format m ps c) z) → levelsP ps ≤ 64 → levels c ≤ 64
-      → EndsIn (walk c (at + head m ps) m (ownBound ps (paramsAt at m)) (sheetOf s made places rows params (take n order) w)) s made′ places′ hashes′ hints′ rows′ params′ number′ order′ r
+      → EndsIn (walk c (at + head m ps) m (ownBound ps (paramsAt at m)) (sheetOf s made places rows params (take n order) w)) s made′ places′ ways′ hints′ rows′ params′ number′ order′ r
 
 -- a name that was put into an empty path
 pub held : {d : List ℕ} {name : Name} {d′ : List ℕ} {r : ℕ} → Wrote d 0 name d′ r → Held d′ r name
@@ -90,9 +90,9 @@ module _ {s : List ℕ} {at : ℕ} (short : length s ≤ 16384) {list : ℕ} (el
           sized = rw e (g .sized);
         }
 
-    pub formatted : {path₀ path : List ℕ} {len : ℕ} → Wrote path₀ 0 (nameAt s at) path len → {made places rows params order : List ℕ} {w : Counts} {n : ℕ} {made′ places′ hashes′ hints′ rows′ params′ number′ order′ : List ℕ} {r : Body}
-        → Walks s body path len binders b made places rows params order w n made′ places′ hashes′ hints′ rows′ params′ number′ order′ r
-        → Formatted s at made places rows params order w n made′ places′ hashes′ hints′ rows′ params′ number′ order′ r
+    pub formatted : {path₀ path : List ℕ} {len : ℕ} → Wrote path₀ 0 (nameAt s at) path len → {made places rows params order : List ℕ} {w : Counts} {n : ℕ} {made′ places′ ways′ hints′ rows′ params′ number′ order′ : List ℕ} {r : Body}
+        → Walks s body path len binders b made places rows params order w n made′ places′ ways′ hints′ rows′ params′ number′ order′ r
+        → Formatted s at made places rows params order w n made′ places′ ways′ hints′ rows′ params′ number′ order′ r
     formatted put walks = record {
       says = λ m ps c z h dp dc.
           let g = binds m ps c z h dp dc in
@@ -109,24 +109,24 @@ ends-after (bad k t) (Named v n) sheet good h = h
 ends-after (ok z t) (Refused c) sheet good h = h
 
 module _ {s : List ℕ} {kind at : ℕ} {made places rows params order : List ℕ} {w : Counts} {n : ℕ} where
-  pub defined-format : kind ≡ 1 → {made′ places′ hashes′ hints′ rows′ params′ number′ order′ : List ℕ} {r : Body} → Formatted s at made places rows params order w n made′ places′ hashes′ hints′ rows′ params′ number′ order′ r
-      → Defined s kind at made places rows params order w n made′ places′ hashes′ hints′ rows′ params′ number′ order′ r
+  pub defined-format : kind ≡ 1 → {made′ places′ ways′ hints′ rows′ params′ number′ order′ : List ℕ} {r : Body} → Formatted s at made places rows params order w n made′ places′ ways′ hints′ rows′ params′ number′ order′ r
+      → Defined s kind at made places rows params order w n made′ places′ ways′ hints′ rows′ params′ number′ order′ r
   unfolding walkAll kindByte kindOf levelsBook
-  defined-format k {made′} {places′} {hashes′} {hints′} {rows′} {params′} {number′} {order′} {r} f = record { says = λ d z h e l. of d z h e l }
+  defined-format k {made′} {places′} {ways′} {hints′} {rows′} {params′} {number′} {order′} {r} f = record { says = λ d z h e l. of d z h e l }
     where
       of : (d : Definition) (z : List ℕ) → Here s at (wDefinition d z) → kind ≡ kindByte (kindOf d) → levelsBook (d ∷ []) ≤ 64
-          → EndsIn (walkAll (d ∷ []) at (sheetOf s made places rows params (take n order) w)) s made′ places′ hashes′ hints′ rows′ params′ number′ order′ r
+          → EndsIn (walkAll (d ∷ []) at (sheetOf s made places rows params (take n order) w)) s made′ places′ ways′ hints′ rows′ params′ number′ order′ r
       of (format m ps c) z h e l = ends-after _ r _ _ (f .says m ps c z h (omega arith) (omega arith))
       of (constant m x) z h e l = absurd (omega arith)
       of (byte-order x) z h e l = absurd (omega arith)
       of (macro m ps c) z h e l = absurd (omega arith)
 
-  pub defined-none : (kind ≡ 1 → ⊥) → {hashes hints number : List ℕ} → Good s made places hashes hints rows params number order w n
-      → Defined s kind at made places rows params order w n made places hashes hints rows params number order (Named w n)
+  pub defined-none : (kind ≡ 1 → ⊥) → {ways hints number : List ℕ} → Good s made places ways hints rows params number order w n
+      → Defined s kind at made places rows params order w n made places ways hints rows params number order (Named w n)
   unfolding walkAll kindByte kindOf Ends
-  defined-none k {hashes} {hints} {number} g = record { says = λ d z h e l. of d e }
+  defined-none k {ways} {hints} {number} g = record { says = λ d z h e l. of d e }
     where
-      of : (d : Definition) → kind ≡ kindByte (kindOf d) → EndsIn (walkAll (d ∷ []) at (sheetOf s made places rows params (take n order) w)) s made places hashes hints rows params number order (Named w n)
+      of : (d : Definition) → kind ≡ kindByte (kindOf d) → EndsIn (walkAll (d ∷ []) at (sheetOf s made places rows params (take n order) w)) s made places ways hints rows params number order (Named w n)
       of (format m ps c) e = absurd (k e)
       of (constant m x) e = (refl, g)
       of (byte-order x) e = (refl, g)

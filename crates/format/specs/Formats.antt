@@ -32,8 +32,8 @@ pub record Format (s : List ℕ) (at : ℕ) : Type 0 where
 
 -- a walk ends with the answer r, and the tables say what it says
 abbrev pub EndsIn : {A : Type 0} → Res Sheet A → List ℕ → List ℕ → List ℕ → List ℕ → List ℕ → List ℕ → List ℕ → List ℕ → List ℕ → Body → Type 0
-EndsIn m s made places hashes hints rows params number order r = Ends m r (λ v k. sheetOf s made places rows params (take k order) v) (λ v k. Good s made places hashes hints rows params number order v k)
+EndsIn m s made places ways hints rows params number order r = Ends m r (λ v k. sheetOf s made places rows params (take k order) v) (λ v k. Good s made places ways hints rows params number order v k)
 
-pub record Defined (s : List ℕ) (kind at : ℕ) (made places rows params order : List ℕ) (w : Counts) (n : ℕ) (made′ places′ hashes′ hints′ rows′ params′ number′ order′ : List ℕ) (r : Body) : Type 0 where
+pub record Defined (s : List ℕ) (kind at : ℕ) (made places rows params order : List ℕ) (w : Counts) (n : ℕ) (made′ places′ ways′ hints′ rows′ params′ number′ order′ : List ℕ) (r : Body) : Type 0 where
   pub says : (d : Definition) (z : List ℕ) → Here s at (wDefinition d z) → kind ≡ kindByte (kindOf d) → levelsBook (d ∷ []) ≤ 64
-      → EndsIn (walkAll (d ∷ []) at (sheetOf s made places rows params (take n order) w)) s made′ places′ hashes′ hints′ rows′ params′ number′ order′ r
+      → EndsIn (walkAll (d ∷ []) at (sheetOf s made places rows params (take n order) w)) s made′ places′ ways′ hints′ rows′ params′ number′ order′ r

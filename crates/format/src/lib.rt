@@ -26,14 +26,14 @@ pub fn expand_definition(
     spare: &mut [u32],
     made: &mut [u8],
     places: &mut [u16],
-    hashes: &mut [u16],
+    ways: &mut [u32],
     hints: &mut [u16],
     sheet: &mut [u16],
     w: Counts,
     n: usize,
 ) -> Body
-    requires { ⌜ Good (now s) (now made) (now places) (now hashes) (now hints) (rowsIn (now sheet)) (paramsIn (now sheet)) (numberIn (now sheet)) (orderIn (now sheet)) w n × Space (now s) (now path) (now binders) (now bound) (now uses) (now spare) × (kind ≡ 1 → Format (now s) at) × Right (now s) (now ends) ⌝ }
-    ensures { λ r. ⌜ Defined (now (s .entry)) kind at (now (made .entry)) (now (places .entry)) (rowsIn (now (sheet .entry))) (paramsIn (now (sheet .entry))) (orderIn (now (sheet .entry))) w n (now (made .exit)) (now (places .exit)) (now (hashes .exit)) (now (hints .exit)) (rowsIn (now (sheet .exit))) (paramsIn (now (sheet .exit))) (numberIn (now (sheet .exit))) (orderIn (now (sheet .exit))) r ⌝ }
+    requires { ⌜ Good (now s) (now made) (now places) (now ways) (now hints) (rowsIn (now sheet)) (paramsIn (now sheet)) (numberIn (now sheet)) (orderIn (now sheet)) w n × Space (now s) (now path) (now binders) (now bound) (now uses) (now spare) × (kind ≡ 1 → Format (now s) at) × Right (now s) (now ends) ⌝ }
+    ensures { λ r. ⌜ Defined (now (s .entry)) kind at (now (made .entry)) (now (places .entry)) (rowsIn (now (sheet .entry))) (paramsIn (now (sheet .entry))) (orderIn (now (sheet .entry))) w n (now (made .exit)) (now (places .exit)) (now (ways .exit)) (now (hints .exit)) (rowsIn (now (sheet .exit))) (paramsIn (now (sheet .exit))) (numberIn (now (sheet .exit))) (orderIn (now (sheet .exit))) r ⌝ }
 {
     if kind != 1 {
         return Body::Named(w, n);
@@ -55,7 +55,7 @@ pub fn expand_definition(
         spare,
         made,
         places,
-        hashes,
+        ways,
         hints,
         sheet,
         w,

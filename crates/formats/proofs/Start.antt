@@ -2,9 +2,9 @@
 -- Assumes nothing.
 use mathlib.Core.Path.{_≡_, ap, _∙_}
 use mathlib.Core.List.{List}
-use Prim.Native.Nat.{ℕ, _≤_}
+use Prim.Native.Nat.{ℕ, _≤_, _<_}
 use native.Mathlib.Omega.{arith}
-use lib.ListN.{length, take}
+use lib.ListN.{length, take, getD}
 use Rattle.definition.specs.Tree.{Definition}
 use Rattle.definition.specs.Write.{wBook}
 use Rattle.definition.specs.Size.{sizeBook}
@@ -17,7 +17,10 @@ use Rattle.lift.specs.Sheet.{sheetOf}
 use Rattle.walked.specs.Book.{blank, walkBook}
 use Rattle.body.specs.declared.Body.{Body}
 use Rattle.steps.specs.Good.{Good}
-use Rattle.start.specs.Rows.{AtStart}
+use Rattle.forks.specs.Leads.{Clear}
+use Rattle.taken.proofs.Take.{table-anywhere, taken-anywhere, packed-anywhere, hints-none}
+use Rattle.kinds.specs.Rows.{OfKinds, Room, Rows}
+use Rattle.kinds.proofs.Rows.{names-in}
 use Rattle.inorder.specs.InOrder.{InOrder}
 use Rattle.formats.specs.Expands.{Starts, Expands}
 use Rattle.report.proofs.Reporting.{expanded-short}
@@ -26,12 +29,18 @@ abbrev pub counts : ℕ → ℕ → ℕ → Counts
 counts taken bytes defns = record { taken = taken; end = 0; lifts = 0; params = 0; bytes = bytes; defns = defns }
 
 module _ {s made rows params number order : List ℕ} (x : Starts s made rows params number order) where
-  module _ {places hashes hints : List ℕ} {taken : ℕ} (t : AtStart s places hashes hints taken) {defns : ℕ} (ed : defns ≡ numberAt s 0) where
-    pub good : 512 ≤ length places → 512 ≤ length hashes → 512 ≤ length hints → Good s made places hashes hints rows params number order (counts taken (length s) defns) 0
+  module _ {places₀ ways₀ places ways : List ℕ} {taken : ℕ} (t : OfKinds s 1 2 places₀ ways₀ places ways taken) (c : Clear ways₀) (lp₀ : 512 ≤ length places₀) (lw₀ : 1280 ≤ length ways₀) {defns : ℕ} (ed : defns ≡ numberAt s 0) where
+    right : Rows s places ways taken
+    right = t .right c (omega arith)
+
+    room : Room places₀ ways₀ 512
+    room = record { places-long = omega arith; ways-long = omega arith }
+
+    pub good : {hints : List ℕ} → 512 ≤ length places → 1280 ≤ length ways → 512 ≤ length hints → ((i : ℕ) → i < 512 → getD hints i 0 ≡ 0) → Good s made places ways hints rows params number order (counts taken (length s) defns) 0
     unfolding rowsOf lastFrom
-    good lp lh li =
+    good lp lh li hi =
         let k = x .book in
-        let r = t .says (k .of) (k .book) (k .isBook) in
+        let r = t .says (k .of) (k .book) (k .isBook) room in
         let d : defns ≡ length (k .of) = ed ∙ book-listed s (k .of) (k .book) (k .isBook) .0 in
         let l = expanded-short k in
         record {
@@ -39,13 +48,13 @@ module _ {s made rows params number order : List ℕ} (x : Starts s made rows pa
             source = l;
             made-long = x .made-long;
             places-long = lp;
-            hashes-long = lh;
+            ways-long = lh;
             hints-long = li;
             rows-long = x .rows-long;
             params-long = x .params-long;
-            table = r .0 .table made;
-            hinted = r .0 .hinted made;
-            packed = r .0 .packed made;
+            table = table-anywhere s (right .sourced) made (right .table);
+            hinted = hints-none _ places _ taken (omega (arith, r .1, k .isBook .few)) (λ i h. hi i (omega (arith, r .1, k .isBook .few)));
+            packed = packed-anywhere s (right .sourced) made;
             rows-in = λ i h. absurd (omega arith);
             room = omega arith;
             few = (omega arith, omega (arith, r .1));
@@ -63,14 +72,14 @@ module _ {s made rows params number order : List ℕ} (x : Starts s made rows pa
     sheet-is ds e b =
         let l : length s ≡ length (wBook ds) = ap length e in
         let d : defns ≡ length ds = ed ∙ book-listed s ds e b .0 in
-        rw (t .says ds e b .0 .names made, l, d)
+        rw (taken-anywhere s (right .sourced) made, names-in right ds (t .says ds e b room .0), l, d)
 
-    pub expands : {made′ places′ hashes′ hints′ rows′ params′ number′ order′ : List ℕ} {r : Body} → InOrder s made places rows params order (counts taken (length s) defns) made′ places′ hashes′ hints′ rows′ params′ number′ order′ r
+    pub expands : {made′ places′ ways′ hints′ rows′ params′ number′ order′ : List ℕ} {r : Body} → InOrder s made places rows params order (counts taken (length s) defns) made′ places′ ways′ hints′ rows′ params′ number′ order′ r
         → Expands s made′ rows′ params′ number′ order′ r
     unfolding walkBook
-    expands {made′} {places′} {hashes′} {hints′} {rows′} {params′} {number′} {order′} {r} o = record {
+    expands {made′} {places′} {ways′} {hints′} {rows′} {params′} {number′} {order′} {r} o = record {
       places = places′;
-      hashes = hashes′;
+      ways = ways′;
       hints = hints′;
       expands = λ ds e b. rw (← (sheet-is ds e b)) (o .says ds e b);
     }

@@ -26,7 +26,7 @@ pub record Starts (s made rows params number order : List ℕ) : Type 0 where
 -- the lifts that stand in the tables are those of the walk; the rows of names taken are gone when it is done
 pub record Expands (s made′ rows′ params′ number′ order′ : List ℕ) (r : Body) : Type 0 where
   pub places : List ℕ
-  pub hashes : List ℕ
+  pub ways : List ℕ
   pub hints : List ℕ
   pub expands : (ds : List Definition) → s ≡ wBook ds → IsBook ds
-      → Ends (walkBook ds) r (λ v n. sheetOf s made′ places rows′ params′ (take n order′) v) (λ v n. Good s made′ places hashes hints rows′ params′ number′ order′ v n)
+      → Ends (walkBook ds) r (λ v n. sheetOf s made′ places rows′ params′ (take n order′) v) (λ v n. Good s made′ places ways hints rows′ params′ number′ order′ v n)

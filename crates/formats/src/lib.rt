@@ -1,8 +1,8 @@
 // The naming pass over the expanded book.
 use body::Body;
 use inorder::expand_in_order;
+use kinds::take_kinds;
 use lift::Counts;
-use start::take_at_start;
 ghost use Prim.Native.Nat.{_≤_};
 ghost use lib.ListN.{length};
 ghost use Rattle.ends.specs.Ends.{Right};
@@ -26,9 +26,9 @@ pub fn expand_definitions(
 {
     let mut path = [0u8; 255];
     let mut places = [0u16; 512];
-    let mut hashes = [0u16; 512];
+    let mut ways = [0u32; 1280];
     let mut hints = [0u16; 512];
-    let taken = take_at_start(s, &mut places, &mut hashes, &mut hints);
+    let taken = take_kinds(s, 1, 2, &mut places, &mut ways);
     let defns = seek::number(s, 0) as usize;
     let w = Counts {
         taken,
@@ -48,7 +48,7 @@ pub fn expand_definitions(
         spare,
         made,
         &mut places,
-        &mut hashes,
+        &mut ways,
         &mut hints,
         sheet,
         w,

@@ -4,17 +4,18 @@ use mathlib.Core.Path.{_≡_, refl, sym, ap, _∙_}
 use mathlib.Core.Logic.{⊎-elim}
 use mathlib.Core.List.{List}
 use mathlib.Core.Bool.{Bool, true, false}
-use Prim.Native.Nat.{ℕ, zero, suc, _+_, _<_}
+use Prim.Native.Nat.{ℕ, zero, suc, _≤_, _<_}
 use native.Mathlib.Omega.{arith}
 use native.Mathlib.Nat.{eq-or-lt-of-le, le-refl}
-use lib.ListN.{length, getD}
+use lib.ListN.{length}
 use Rattle.definition.specs.Tree.{Name}
 use Rattle.definition.specs.Names.{eqName, elem}
-use Rattle.lookup.proofs.Names.{yes-no, not-both, ne-length, eqName-true}
-use Rattle.hash.specs.Hash.{hashOf}
-use Rattle.hash.proofs.Hash.{hash-ne}
+use Rattle.lookup.proofs.Names.{yes-no, not-both, ne-name, ne-length, eqName-true, eqName-refl}
+use Rattle.forks.specs.Forks.{slotOf, rowAt}
+use Rattle.forks.specs.Leads.{rowOf}
+use Rattle.forks.proofs.Rows.{leads-first}
 use Rattle.taken.specs.Taken.{Store, row, taken, Table}
-use Rattle.found.specs.Found.{Hashed, Found}
+use Rattle.found.specs.Found.{Found}
 
 -- ---- rows
 module _ (x : Name) (names : Store) (places : List ℕ) where
@@ -44,8 +45,8 @@ module _ (x : Name) (names : Store) (places : List ℕ) where
     pub found-name : r < n → row names places r ≡ x
     found-name h = sym (eqName-true x (row names places r) (f .here h))
 
-pub long-free : (x : Name) {names : Store} {places hashes : List ℕ} {n : ℕ} → Table names places hashes n → 255 < length x → elem x (taken names places n) ≡ false
-long-free x {names} {places} {hashes} {n} t h =
+pub long-free : (x : Name) {names : Store} {places ways : List ℕ} {n : ℕ} → Table names places ways n → 255 < length x → elem x (taken names places n) ≡ false
+long-free x {names} {places} {ways} {n} t h =
     not-taken x names places n (λ j k. ne-length x (row names places j) (λ e. let z = t .short j k in omega arith))
 
 pub length-taken : (names : Store) (places : List ℕ) (n : ℕ) → length (taken names places n) ≡ n
@@ -53,38 +54,39 @@ unfolding taken
 length-taken names places zero = refl
 length-taken names places (suc n) = ap suc (length-taken names places n)
 
--- ---- the search for a row
-pub none-yet : (x : Name) (names : Store) (places : List ℕ) (j : ℕ) → j < 0 → eqName x (row names places j) ≡ false
-none-yet x names places j h = absurd (omega arith)
+-- ---- the row to which a name's way leads
+module _ {names : Store} {places ways : List ℕ} {n : ℕ} (t : Table names places ways n) (x : Name) where
+  -- the first of its name
+  before : rowOf ways x n < n → eqName x (row names places (rowOf ways x n)) ≡ true → (j : ℕ) → j < rowOf ways x n → eqName x (row names places j) ≡ false
+  before h e j k = ne-name x (row names places j) (λ q. absurd (let z = leads-first (t .leads) x j (omega arith) (sym q) .0 in omega arith))
 
-pub one-more : (x : Name) (names : Store) (places : List ℕ) (i : ℕ) → ((j : ℕ) → j < i → eqName x (row names places j) ≡ false)
-    → eqName x (row names places i) ≡ false → (j : ℕ) → j < i + 1 → eqName x (row names places j) ≡ false
-one-more x names places i f e j h = ⊎-elim
-    (λ (k : j ≡ i). ap (λ (m : ℕ). eqName x (row names places m)) k ∙ e)
-    (λ (k : j < i). f j k)
-    (eq-or-lt-of-le (omega arith))
+  -- or none has the name
+  nowhere : (rowOf ways x n < n → eqName x (row names places (rowOf ways x n)) ≡ false) → (j : ℕ) → j < n → eqName x (row names places j) ≡ false
+  nowhere e j k = ne-name x (row names places j) (λ q.
+      let z = leads-first (t .leads) x j k (sym q) in
+      not-both _ (ap (eqName x) (z .1) ∙ eqName-refl x) (e (let y = z .0 in omega arith)))
 
--- ---- the look at the hashes
-pub unhashed-none : (hashes : List ℕ) (hash : ℕ) (seen : Bool) → Hashed hashes 0 hash seen
-unhashed-none hashes hash seen = record { none = λ e j h. absurd (omega arith) }
+  module _ {at r : ℕ} (ea : at ≡ slotOf ways x n) (er : r ≡ rowAt ways at n) where
+    is-row : r ≡ rowOf ways x n
+    unfolding rowOf
+    is-row = er ∙ rw ea
 
-module _ {hashes : List ℕ} (i : ℕ) {hash : ℕ} where
-  pub unhashed-more : {seen : Bool} → Hashed hashes i hash seen → (getD hashes i 0 ≡ hash → ⊥) → Hashed hashes (i + 1) hash seen
-  unhashed-more t f = record {
-    none = λ e j h. ⊎-elim
-        (λ (k : j ≡ i). λ g. f (ap (λ (m : ℕ). getD hashes m 0) (sym k) ∙ g))
-        (λ (k : j < i). t .none e j k)
-        (eq-or-lt-of-le (omega arith));
-  }
+    pub found-none : n ≤ r → Found x names places n n
+    found-none h = record {
+      bound = le-refl n;
+      before = nowhere (λ k. absurd (let z = is-row in omega arith));
+      here = λ k. absurd (omega arith);
+    }
 
-  pub hashed : Hashed hashes (i + 1) hash true
-  hashed = record { none = λ e j h. not-both _ refl e }
+    module _ {other : Name} (eo : other ≡ row names places r) {same : Bool} (es : same ≡ eqName x other) where
+      pub found-here : r < n → same ≡ true → Found x names places n r
+      found-here h e =
+          let z = is-row in
+          let y : eqName x (row names places r) ≡ true = sym (ap (eqName x) eo) ∙ sym es ∙ e in
+          record { bound = omega arith; before = rw z (before (omega arith) (rw z at y)); here = λ k. y }
 
--- a name whose hash no row has
-pub no-row : (x : Name) {names : Store} {places hashes : List ℕ} {n hash : ℕ} {seen : Bool} → Table names places hashes n → hash ≡ hashOf x → Hashed hashes n hash seen → seen ≡ false
-    → Found x names places n n
-no-row x {names} {places} {hashes} {n} t e s k = record {
-  bound = le-refl n;
-  before = λ j h. hash-ne x (row names places j) _ _ e (t .hash j h) (s .none k j h);
-  here = λ h. absurd (omega arith);
-}
+      pub found-other : r < n → same ≡ false → Found x names places n n
+      found-other h e =
+          let z = is-row in
+          let y : eqName x (row names places r) ≡ false = sym (ap (eqName x) eo) ∙ sym es ∙ e in
+          record { bound = le-refl n; before = nowhere (λ k. rw z at y); here = λ k. absurd (omega arith) }

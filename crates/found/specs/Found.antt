@@ -2,16 +2,11 @@
 -- Assumes nothing.
 use mathlib.Core.Path.{_≡_}
 use mathlib.Core.List.{List}
-use mathlib.Core.Bool.{Bool, true, false}
+use mathlib.Core.Bool.{true, false}
 use Prim.Native.Nat.{ℕ, _≤_, _<_}
-use lib.ListN.{getD}
 use Rattle.definition.specs.Tree.{Name}
 use Rattle.definition.specs.Names.{eqName}
 use Rattle.taken.specs.Taken.{Store, row}
-
--- where the answer is no, none of the first n rows has the hash
-pub record Hashed (hashes : List ℕ) (n hash : ℕ) (r : Bool) : Type 0 where
-  pub none : r ≡ false → (j : ℕ) → j < n → getD hashes j 0 ≡ hash → ⊥
 
 -- the first row of a name, or n
 pub record Found (name : Name) (names : Store) (places : List ℕ) (n r : ℕ) : Type 0 where

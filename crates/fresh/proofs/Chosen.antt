@@ -47,8 +47,8 @@ chosen-base {d} {at} {names} {places} {n} f e h =
     }
 
 -- a base that has no room is free, and stays too long
-pub chosen-long : {d : List ℕ} {at : ℕ} {names : Store} {places hashes : List ℕ} {n : ℕ} → Table names places hashes n → 255 ≤ length d → length d < at → Fresh d at names places n d (length d + 1)
-chosen-long {d} {at} {names} {places} {hashes} {n} t h k = record {
+pub chosen-long : {d : List ℕ} {at : ℕ} {names : Store} {places ways : List ℕ} {n : ℕ} → Table names places ways n → 255 ≤ length d → length d < at → Fresh d at names places n d (length d + 1)
+chosen-long {d} {at} {names} {places} {ways} {n} t h k = record {
   within = λ m. absurd (omega arith);
   beyond = λ m. (omega arith, refl);
   named = λ base g.

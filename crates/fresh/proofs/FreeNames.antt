@@ -76,7 +76,7 @@ held-new {d} w = grown (record { place = omega arith; bytes = sym (take-nil (len
 
 -- whether the name that the buffer holds is free
 module _ {d : List ℕ} {at : ℕ} {names : Store} {places : List ℕ} {n : ℕ} where
-  pub tells-long : {hashes : List ℕ} → Table names places hashes n → 255 ≤ length d → length d < at → Tells d at (taken names places n) true
+  pub tells-long : {ways : List ℕ} → Table names places ways n → 255 ≤ length d → length d < at → Tells d at (taken names places n) true
   tells-long t h k = record { says = λ name g. long-free name t (let z = g .place in omega arith) }
 
   pub tells-found : {r : ℕ} → Found (take at d) names places n r → at ≤ length d → Tells d at (taken names places n) (eqb r n)

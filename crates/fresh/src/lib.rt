@@ -19,16 +19,16 @@ fn is_free<'a>(
     book: &'a [u8],
     made: &'a [u8],
     places: &[u16],
-    hashes: &[u16],
+    ways: &[u32],
     n: usize,
 ) -> bool
-    requires { ⌜ Table (both (now book) (now made)) (now places) (now hashes) n × (255 ≤ length (now path)) ⌝ }
+    requires { ⌜ Table (both (now book) (now made)) (now places) (now ways) n × (255 ≤ length (now path)) ⌝ }
     ensures { λ r. ⌜ Tells (now (path .entry)) len (taken (both (now (book .entry)) (now (made .entry))) (now (places .entry)) n) r ⌝ }
 {
     if path.len() < len {
         return true;
     }
-    find_name(&path[..len], book, made, places, hashes, n) == n
+    find_name(&path[..len], book, made, places, ways, n) == n
 }
 
 // The first number from `first` on, and below n, whose numbered name is free; else n. Path's first `at` bytes are the base.
@@ -38,17 +38,17 @@ fn first_free<'a>(
     book: &'a [u8],
     made: &'a [u8],
     places: &[u16],
-    hashes: &[u16],
+    ways: &[u32],
     n: usize,
     first: usize,
 ) -> Free
-    requires { ⌜ Table (both (now book) (now made)) (now places) (now hashes) n × (255 ≤ length (now path)) × (at ≤ length (now path)) × (first ≤ n) ⌝ }
+    requires { ⌜ Table (both (now book) (now made)) (now places) (now ways) n × (255 ≤ length (now path)) × (at ≤ length (now path)) × (first ≤ n) ⌝ }
     ensures { λ r. ⌜ FirstFree (now (path .entry)) at (both (now (book .entry)) (now (made .entry))) (now (places .entry)) n first (now (path .exit)) (r .number) (r .len) ⌝ }
 {
     let mut number = first;
     while number < n {
         let len = names::numbered_name(number, path, at);
-        if is_free(&path[..], len, book, made, places, hashes, n) {
+        if is_free(&path[..], len, book, made, places, ways, n) {
             return Free { number, len };
         }
         number += 1;
@@ -65,23 +65,23 @@ pub fn fresh_generated_name<'a>(
     book: &'a [u8],
     made: &'a [u8],
     places: &[u16],
-    hashes: &[u16],
+    ways: &[u32],
     hints: &mut [u16],
     n: usize,
 ) -> usize
-    requires { ⌜ Table (both (now book) (now made)) (now places) (now hashes) n × Hints (both (now book) (now made)) (now places) (now hints) n × (255 ≤ length (now path)) × (n < 65536) ⌝ }
+    requires { ⌜ Table (both (now book) (now made)) (now places) (now ways) n × Hints (both (now book) (now made)) (now places) (now hints) n × (255 ≤ length (now path)) × (n < 65536) ⌝ }
     ensures { λ r. ⌜ Fresh (now (path .entry)) at (both (now (book .entry)) (now (made .entry))) (now (places .entry)) n (now (path .exit)) r ⌝ }
     ensures { λ _. ⌜ Hints (both (now (book .entry)) (now (made .entry))) (now (places .entry)) (now (hints .exit)) n ⌝ }
 {
     if path.len() < at {
         return path.len() + 1;
     }
-    let found = find_name(&path[..at], book, made, places, hashes, n);
+    let found = find_name(&path[..at], book, made, places, ways, n);
     if found == n {
         return at;
     }
     let first = hints[found] as usize;
-    let free = first_free(path, at, book, made, places, hashes, n, first);
+    let free = first_free(path, at, book, made, places, ways, n, first);
     let number = free.number;
     hints[found] = number as u16;
     free.len

@@ -57,8 +57,8 @@ pub record Rest (s : List ℕ) (d : Definitions) (m : Res Sheet Unit) (t : Sheet
   pub same : m ≡ walkAll rest (d .at) t
 
 -- the loop: whoever goes on from here has gone from the start
-pub record Going (s made₀ places₀ rows₀ params₀ order₀ : List ℕ) (w₀ : Counts) (made places hashes hints rows params number order : List ℕ) (w : Counts) (n : ℕ) (d : Definitions) : Type 0 where
-  pub good : Good s made places hashes hints rows params number order w n
+pub record Going (s made₀ places₀ rows₀ params₀ order₀ : List ℕ) (w₀ : Counts) (made places ways hints rows params number order : List ℕ) (w : Counts) (n : ℕ) (d : Definitions) : Type 0 where
+  pub good : Good s made places ways hints rows params number order w n
   pub goes : (ds : List Definition) → s ≡ wBook ds → IsBook ds
       → Rest s d (walkAll ds (firstAt ds) (sheetOf s made₀ places₀ rows₀ params₀ (take 0 order₀) w₀)) (sheetOf s made places rows params (take n order) w)
 
@@ -71,8 +71,8 @@ at-next : {s : List ℕ} {d d₁ : Definitions} → d₁ ≡ nextOf s d → {x :
 unfolding nextOf
 at-next h l = ap (λ (x : Definitions). x .at) h ∙ rw (listed-size (l .listed)) (listed-past (l .listed))
 
-pub going : {s made places hashes hints rows params number order : List ℕ} {w : Counts} → Good s made places hashes hints rows params number order w 0 → {d : Definitions} → d ≡ allOf s
-    → Going s made places rows params order w made places hashes hints rows params number order w 0 d
+pub going : {s made places ways hints rows params number order : List ℕ} {w : Counts} → Good s made places ways hints rows params number order w 0 → {d : Definitions} → d ≡ allOf s
+    → Going s made places rows params order w made places ways hints rows params number order w 0 d
 going g h = record {
   good = g;
   goes = λ ds e b.
@@ -87,13 +87,13 @@ is-format (constant m x) z h l k = absurd (omega arith)
 is-format (byte-order x) z h l k = absurd (omega arith)
 is-format (macro m ps c) z h l k = absurd (omega arith)
 
-module _ {s made₀ places₀ rows₀ params₀ order₀ : List ℕ} {w₀ : Counts} {made places hashes hints rows params number order : List ℕ} {w : Counts} {n : ℕ} {d : Definitions}
-    (g : Going s made₀ places₀ rows₀ params₀ order₀ w₀ made places hashes hints rows params number order w n d) where
-  pub going-all : d .left ≤ 0 → InOrder s made₀ places₀ rows₀ params₀ order₀ w₀ made places hashes hints rows params number order (Named w n)
+module _ {s made₀ places₀ rows₀ params₀ order₀ : List ℕ} {w₀ : Counts} {made places ways hints rows params number order : List ℕ} {w : Counts} {n : ℕ} {d : Definitions}
+    (g : Going s made₀ places₀ rows₀ params₀ order₀ w₀ made places ways hints rows params number order w n d) where
+  pub going-all : d .left ≤ 0 → InOrder s made₀ places₀ rows₀ params₀ order₀ w₀ made places ways hints rows params number order (Named w n)
   unfolding walkAll Ends
   going-all h = record { says = λ ds e b. let r = g .goes ds e b in rw (r .same) (of (r .rest) (r .are)) }
     where
-      of : (rest : List Definition) → Left s d rest → EndsIn (walkAll rest (d .at) (sheetOf s made places rows params (take n order) w)) s made places hashes hints rows params number order (Named w n)
+      of : (rest : List Definition) → Left s d rest → EndsIn (walkAll rest (d .at) (sheetOf s made places rows params (take n order) w)) s made places ways hints rows params number order (Named w n)
       of [] l = (refl, g .good)
       of (x ∷ ds) l = absurd (no-more h l)
 
@@ -105,31 +105,31 @@ module _ {s made₀ places₀ rows₀ params₀ order₀ : List ℕ} {w₀ : Cou
         of [] l = absurd (some-more more l)
         of (x ∷ ds) l = let i = l .listed in is-format x (wAll wDefinition ds []) (listed-body i) (listed-deep i) (sym (ek ∙ listed-kind i) ∙ k)
 
-    module _ {made′ places′ hashes′ hints′ rows′ params′ number′ order′ : List ℕ} where
-      pub going-refused : {c : ℕ} → Defined s kind (d .at) made places rows params order w n made′ places′ hashes′ hints′ rows′ params′ number′ order′ (Refused c)
-          → InOrder s made₀ places₀ rows₀ params₀ order₀ w₀ made′ places′ hashes′ hints′ rows′ params′ number′ order′ (Refused c)
+    module _ {made′ places′ ways′ hints′ rows′ params′ number′ order′ : List ℕ} where
+      pub going-refused : {c : ℕ} → Defined s kind (d .at) made places rows params order w n made′ places′ ways′ hints′ rows′ params′ number′ order′ (Refused c)
+          → InOrder s made₀ places₀ rows₀ params₀ order₀ w₀ made′ places′ ways′ hints′ rows′ params′ number′ order′ (Refused c)
       going-refused {c} y = record { says = λ ds e b. let r = g .goes ds e b in rw (r .same) (of (r .rest) (r .are)) }
         where
           of : (rest : List Definition) → Left s d rest
-              → EndsIn (walkAll rest (d .at) (sheetOf s made places rows params (take n order) w)) s made′ places′ hashes′ hints′ rows′ params′ number′ order′ (Refused c)
+              → EndsIn (walkAll rest (d .at) (sheetOf s made places rows params (take n order) w)) s made′ places′ ways′ hints′ rows′ params′ number′ order′ (Refused c)
           of [] l = absurd (some-more more l)
           of (x ∷ ds) l =
               let i = l .listed in
               rw (walk-first x ds (d .at) (sheetOf s made places rows params (take n order) w))
               (ends-refused _ _ _ c (λ t. walkAll ds (d .at + sizeOf x) t) (y .says x (wAll wDefinition ds []) (listed-body i) (ek ∙ listed-kind i) (listed-deep i)))
 
-      module _ {v : Counts} {k : ℕ} (y : Defined s kind (d .at) made places rows params order w n made′ places′ hashes′ hints′ rows′ params′ number′ order′ (Named v k)) where
+      module _ {v : Counts} {k : ℕ} (y : Defined s kind (d .at) made places rows params order w n made′ places′ ways′ hints′ rows′ params′ number′ order′ (Named v k)) where
         first : {x : Definition} {ds : List Definition} → Left s d (x ∷ ds)
-            → (walkAll (x ∷ []) (d .at) (sheetOf s made places rows params (take n order) w) ≡ ok tt (sheetOf s made′ places′ rows′ params′ (take k order′) v)) × Good s made′ places′ hashes′ hints′ rows′ params′ number′ order′ v k
+            → (walkAll (x ∷ []) (d .at) (sheetOf s made places rows params (take n order) w) ≡ ok tt (sheetOf s made′ places′ rows′ params′ (take k order′) v)) × Good s made′ places′ ways′ hints′ rows′ params′ number′ order′ v k
         first {x} {ds} l = let i = l .listed in ends-named _ _ _ v k (y .says x (wAll wDefinition ds []) (listed-body i) (ek ∙ listed-kind i) (listed-deep i))
 
-        pub going-step : Expanded s → {d₁ : Definitions} → d₁ ≡ nextOf s d → Going s made₀ places₀ rows₀ params₀ order₀ w₀ made′ places′ hashes′ hints′ rows′ params′ number′ order′ v k d₁
+        pub going-step : Expanded s → {d₁ : Definitions} → d₁ ≡ nextOf s d → Going s made₀ places₀ rows₀ params₀ order₀ w₀ made′ places′ ways′ hints′ rows′ params′ number′ order′ v k d₁
         going-step b {d₁} h = record {
           good = let r = g .goes (b .of) (b .book) (b .isBook) in well (r .rest) (r .are);
           goes = λ ds e i. let r = g .goes ds e i in of _ (r .rest) (r .are) (r .same);
         }
           where
-            well : (rest : List Definition) → Left s d rest → Good s made′ places′ hashes′ hints′ rows′ params′ number′ order′ v k
+            well : (rest : List Definition) → Left s d rest → Good s made′ places′ ways′ hints′ rows′ params′ number′ order′ v k
             well [] l = absurd (some-more more l)
             well (x ∷ ds) l = first l .1
 
@@ -139,8 +139,8 @@ module _ {s made₀ places₀ rows₀ params₀ order₀ : List ℕ} {w₀ : Cou
             of m (x ∷ ds) l q = record { rest = ds; are = next-left h l; same = q ∙ walk-first x ds (d .at) (sheetOf s made places rows params (take n order) w) ∙ rw (first l .0, at-next h l) }
 
 -- ---- the rows keep their lengths
-pub kept : {s path₀ binders₀ bound₀ uses₀ spare₀ made₀ places₀ hashes₀ hints₀ sheet₀ path binders bound uses spare made places hashes hints sheet : List ℕ} → Space s path₀ binders₀ bound₀ uses₀ spare₀
-    → Lengths path₀ binders₀ bound₀ uses₀ spare₀ made₀ places₀ hashes₀ hints₀ sheet₀ path binders bound uses spare made places hashes hints sheet → Space s path binders bound uses spare
+pub kept : {s path₀ binders₀ bound₀ uses₀ spare₀ made₀ places₀ ways₀ hints₀ sheet₀ path binders bound uses spare made places ways hints sheet : List ℕ} → Space s path₀ binders₀ bound₀ uses₀ spare₀
+    → Lengths path₀ binders₀ bound₀ uses₀ spare₀ made₀ places₀ ways₀ hints₀ sheet₀ path binders bound uses spare made places ways hints sheet → Space s path binders bound uses spare
 kept x l = record {
   scratch = record {
     small = x .scratch .small;

@@ -13,6 +13,6 @@ use Rattle.walked.specs.Book.{walkAll}
 use Rattle.body.specs.declared.Body.{Body}
 use Rattle.format.specs.Formats.{EndsIn}
 
-pub record InOrder (s : List ℕ) (made places rows params order : List ℕ) (w : Counts) (made′ places′ hashes′ hints′ rows′ params′ number′ order′ : List ℕ) (r : Body) : Type 0 where
+pub record InOrder (s : List ℕ) (made places rows params order : List ℕ) (w : Counts) (made′ places′ ways′ hints′ rows′ params′ number′ order′ : List ℕ) (r : Body) : Type 0 where
   pub says : (ds : List Definition) → s ≡ wBook ds → IsBook ds
-      → EndsIn (walkAll ds (firstAt ds) (sheetOf s made places rows params (take 0 order) w)) s made′ places′ hashes′ hints′ rows′ params′ number′ order′ r
+      → EndsIn (walkAll ds (firstAt ds) (sheetOf s made places rows params (take 0 order) w)) s made′ places′ ways′ hints′ rows′ params′ number′ order′ r

@@ -23,13 +23,13 @@ pub fn expand_in_order(
     spare: &mut [u32],
     made: &mut [u8],
     places: &mut [u16],
-    hashes: &mut [u16],
+    ways: &mut [u32],
     hints: &mut [u16],
     sheet: &mut [u16],
     start: Counts,
 ) -> Body
-    requires { ⌜ Good (now s) (now made) (now places) (now hashes) (now hints) (rowsIn (now sheet)) (paramsIn (now sheet)) (numberIn (now sheet)) (orderIn (now sheet)) start 0 × Space (now s) (now path) (now binders) (now bound) (now uses) (now spare) × Expanded (now s) × Right (now s) (now ends) ⌝ }
-    ensures { λ r. ⌜ InOrder (now (s .entry)) (now (made .entry)) (now (places .entry)) (rowsIn (now (sheet .entry))) (paramsIn (now (sheet .entry))) (orderIn (now (sheet .entry))) start (now (made .exit)) (now (places .exit)) (now (hashes .exit)) (now (hints .exit)) (rowsIn (now (sheet .exit))) (paramsIn (now (sheet .exit))) (numberIn (now (sheet .exit))) (orderIn (now (sheet .exit))) r ⌝ }
+    requires { ⌜ Good (now s) (now made) (now places) (now ways) (now hints) (rowsIn (now sheet)) (paramsIn (now sheet)) (numberIn (now sheet)) (orderIn (now sheet)) start 0 × Space (now s) (now path) (now binders) (now bound) (now uses) (now spare) × Expanded (now s) × Right (now s) (now ends) ⌝ }
+    ensures { λ r. ⌜ InOrder (now (s .entry)) (now (made .entry)) (now (places .entry)) (rowsIn (now (sheet .entry))) (paramsIn (now (sheet .entry))) (orderIn (now (sheet .entry))) start (now (made .exit)) (now (places .exit)) (now (ways .exit)) (now (hints .exit)) (rowsIn (now (sheet .exit))) (paramsIn (now (sheet .exit))) (numberIn (now (sheet .exit))) (orderIn (now (sheet .exit))) r ⌝ }
 {
     let mut d = all_definitions(s);
     let mut w = start;
@@ -50,7 +50,7 @@ pub fn expand_in_order(
             spare,
             made,
             places,
-            hashes,
+            ways,
             hints,
             sheet,
             w,

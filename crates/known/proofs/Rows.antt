@@ -1,195 +1,212 @@
--- The table of macros: a row's test, the search from the last row, and filling.
+-- The macros in rows: what a look-up finds.
 -- Assumes nothing.
 use mathlib.Core.Path.{_≡_, refl, sym, ap, _∙_}
-use mathlib.Core.List.{List, [], _∷_}
-use mathlib.Core.Bool.{Bool, true, false}
-use Prim.Native.Nat.{ℕ, _+_, _-_, _%_, _≤_, _<_}
+use mathlib.Core.Logic.{⊎-elim}
+use mathlib.Core.List.{List, [], _∷_, _++_, append-assoc}
+use mathlib.Core.Bool.{Bool, true, false, _||_}
+use Prim.Native.Nat.{ℕ, suc, _+_, _-_, _≤_, _<_}
 use native.Mathlib.Omega.{arith}
-use lib.ListN.{length, getD, set, length-set}
-use lib.Seq.{getD-set-same, getD-set-other}
+use native.Mathlib.Nat.{eq-or-lt-of-le}
+use lib.ListN.{length, getD}
 use Rattle.definition.specs.Out.{done}
-use Rattle.definition.specs.Tree.{Name, Inners, macro-invocation, Definition, format, constant, byte-order, macro}
+use Rattle.definition.specs.Tree.{Name, Combinator, Inners, no-inner, macro-invocation, Definition, format, constant, byte-order, macro}
 use Rattle.definition.specs.Names.{eqName}
 use Rattle.definition.specs.Write.{wName, wList, wDefinition, wCombinator, kindOf, kindByte}
-use Rattle.definition.specs.Size.{levelsBook, sizeBook}
+use Rattle.definition.specs.Size.{levelsBook}
 use Rattle.definition.specs.Macros.{Macro, macros, expandBy, expandMacro}
 use Rattle.nested.specs.Nested.{isMacro}
-use Rattle.seek.specs.At.{byteAt}
-use Rattle.seek.specs.Here.{Here}
-use Rattle.lookup.specs.Name.{nameAt}
-use Rattle.lookup.proofs.Names.{stands}
-use Rattle.hash.specs.Hash.{hashOf}
-use Rattle.hash.proofs.Hash.{hash-ne}
+use Rattle.lookup.specs.Name.{nameAt, nameOf}
+use Rattle.lookup.proofs.Names.{stands, yes-no, not-both, ne-name, eqName-true, eqName-refl}
+use Rattle.forks.specs.Forks.{slotOf, rowAt}
+use Rattle.forks.specs.Leads.{rowOf, Clear}
+use Rattle.forks.proofs.Rows.{leads-first}
+use Rattle.taken.specs.Taken.{both, row}
+use Rattle.taken.proofs.Take.{source-place}
+use Rattle.kinds.specs.Rows.{keep, ofKinds, Stands, InRows, OfKinds, Rows as Right}
+use Rattle.instance.specs.Paired.{Defined}
 use Rattle.known.specs.declared.Found.{Found}
 use Rattle.known.specs.declared.Found.the-variants.{At, Unknown}
-use Rattle.contents.specs.declared.Definitions.{Definitions}
-use Rattle.contents.specs.Listed.{allOf, nextOf, Left}
-use Rattle.instance.specs.Paired.{Defined}
-use Rattle.known.specs.Table.{Row, Rows, SameRow, Known, Finds, isFound, FindsMacro, Taken, Tabling, Tabled}
-use Rattle.contents.proofs.Listed.{listed-kind, listed-body, listed-deep, all-left, next-left, no-more, some-more}
+use Rattle.known.specs.Table.{Rows, Known, Finds, isFound, FindsMacro, Tabled}
 
-pub defined-name : {s : List ℕ} {at : ℕ} (m : Macro) → Defined s at m → nameAt s at ≡ m .name
-unfolding wDefinition
-defined-name {s} {at} m d = stands s at (m .name) (wList wName (m .params) (wCombinator (m .body) (d .rest))) (d .here .is)
-
--- a row
-module _ {name : Name} {hash : ℕ} {s pl hs : List ℕ} {i : ℕ} where
-  pub row-past-places : length pl ≤ i → SameRow name hash s pl hs i Unknown
-  row-past-places h = record { says = λ m r e. absurd (omega (arith, r .places-long)) }
-
-  pub row-past-hashes : length hs ≤ i → SameRow name hash s pl hs i Unknown
-  row-past-hashes h = record { says = λ m r e. absurd (omega (arith, r .hashes-long)) }
-
-  pub row-other-hash : (getD hs i 0 ≡ hash → ⊥) → SameRow name hash s pl hs i Unknown
-  row-other-hash h = record { says = λ m r e. hash-ne (m .name) name hash (getD hs i 0) (r .hash) e (λ q. h (sym q)) }
-
-tells : (name s pl hs : List ℕ) (i : ℕ) (n : List ℕ) (b : Bool) → n ≡ nameAt s (getD pl i 0) → b ≡ eqName n name → (m : Macro) → Row s pl hs i m → b ≡ eqName (m .name) name
-tells name s pl hs i n b q e m r = e ∙ rw (q, defined-name m (r .defined))
-
-module _ {name : Name} {hash : ℕ} {s pl hs : List ℕ} {i : ℕ} where
-  pub row-is : {n : List ℕ} {b : Bool} → n ≡ nameAt s (getD pl i 0) → b ≡ eqName n name → b ≡ true → SameRow name hash s pl hs i (At (getD pl i 0))
-  row-is {n} {b} q e t = record { says = λ m r h. (r .defined, sym (tells name s pl hs i n b q e m r) ∙ t) }
-
-  pub row-not : {n : List ℕ} {b : Bool} → n ≡ nameAt s (getD pl i 0) → b ≡ eqName n name → b ≡ false → SameRow name hash s pl hs i Unknown
-  row-not {n} {b} q e t = record { says = λ m r h. sym (tells name s pl hs i n b q e m r) ∙ t }
-
--- the search
-module _ {name : Name} {s pl hs : List ℕ} {i : ℕ} where
-  pub found-none : i ≤ 0 → FindsMacro name s pl hs i Unknown
-  unfolding expandMacro isMacro
-  found-none h = record { says = λ ms r xs. none ms r xs; known = λ ms r. none-known ms r }
-    where
-      none : (ms : List Macro) → Rows s pl hs i ms → (xs : Inners) → expandMacro ms name xs ≡ done (macro-invocation name xs)
-      none [] r xs = refl
-      none (m ∷ ms) r xs = absurd (omega arith)
-
-      none-known : (ms : List Macro) → Rows s pl hs i ms → false ≡ isMacro ms name
-      none-known [] r = refl
-      none-known (m ∷ ms) r = absurd (omega arith)
-
-  module _ {hash : ℕ} (k : 0 < i) (e : hash ≡ hashOf name) where
-    pub found-here : {at : ℕ} → SameRow name hash s pl hs (i - 1) (At at) → FindsMacro name s pl hs i (At at)
-    unfolding expandMacro expandBy isMacro
-    found-here {at} v = record { says = λ ms r xs. here ms r xs; known = λ ms r. here-known ms r }
-      where
-        here : (ms : List Macro) → Rows s pl hs i ms → (xs : Inners) → Known s ms name xs at
-        here [] r xs = absurd (omega arith)
-        here (m ∷ ms) r xs = let w = v .says m (r .1) e in record { known = m; defined = w .0; is = rw (w .1) }
-
-        here-known : (ms : List Macro) → Rows s pl hs i ms → true ≡ isMacro ms name
-        here-known [] r = absurd (omega arith)
-        here-known (m ∷ ms) r = rw (v .says m (r .1) e .1)
-
-    pub found-on : SameRow name hash s pl hs (i - 1) Unknown → {f : Found} → FindsMacro name s pl hs (i - 1) f → FindsMacro name s pl hs i f
-    unfolding expandMacro expandBy isMacro
-    found-on v {f} g = record { says = λ ms r xs. on ms r xs; known = λ ms r. on-known ms r }
-      where
-        kept : (m : Macro) (ms : List Macro) (xs : Inners) → eqName (m .name) name ≡ false → (f : Found) → Finds s ms name xs f → Finds s (m ∷ ms) name xs f
-        kept m ms xs q (At at) w = record { known = w .known; defined = w .defined; is = rw q (w .is) }
-        kept m ms xs q Unknown w = rw q w
-
-        on : (ms : List Macro) → Rows s pl hs i ms → (xs : Inners) → Finds s ms name xs f
-        on [] r xs = absurd (omega arith)
-        on (m ∷ ms) r xs = kept m ms xs (v .says m (r .1) e) f (g .says ms (r .2) xs)
-
-        on-known : (ms : List Macro) → Rows s pl hs i ms → isFound f ≡ isMacro ms name
-        on-known [] r = absurd (omega arith)
-        on-known (m ∷ ms) r = rw (v .says m (r .1) e) (g .known ms (r .2))
-
--- filling
-rows-kept : (s pl hs : List ℕ) (n x y k : ℕ) → k ≤ n → (ms : List Macro) → Rows s pl hs k ms → Rows s (set pl n x) (set hs n y) k ms
-rows-kept s pl hs n x y k h [] r = r
-rows-kept s pl hs n x y k h (m ∷ ms) r =
-    let w = r .1 in
-    let z = r .0 in (
-      r .0,
-      record {
-        places-long = simp length-set (w .places-long);
-        hashes-long = simp length-set (w .hashes-long);
-        defined = rw (getD-set-other pl n (k - 1) x 0 (λ (e : k - 1 ≡ n). absurd (omega arith))) (w .defined);
-        hash = rw (getD-set-other hs n (k - 1) y 0 (λ (e : k - 1 ≡ n). absurd (omega arith))) (w .hash);
-      },
-      rows-kept s pl hs n x y (k - 1) (omega arith) ms (r .2),
-    )
-
-module _ {s pl hs : List ℕ} {kind at n : ℕ} where
-  pub taken-not : (kind ≡ 4 → ⊥) → Taken s kind at pl hs n pl hs n
-  unfolding macros kindByte kindOf
-  taken-not h = record { one = omega arith; says = λ d z ms l e k dd hp hh r. other d ms k r }
-    where
-      other : (d : Definition) (ms : List Macro) → kind ≡ kindByte (kindOf d) → Rows s pl hs n ms → Rows s pl hs n (macros (d ∷ []) ms)
-      other (format m ps c) ms k r = r
-      other (constant m x) ms k r = r
-      other (byte-order x) ms k r = r
-      other (macro m ps c) ms k r = absurd (h k)
-
-  pub taken-full : length pl ≤ n → Taken s kind at pl hs n pl hs n
-  taken-full h = record { one = omega arith; says = λ d z ms l e k dd hp hh r. absurd (omega arith) }
-
-  pub taken-full-2 : length hs ≤ n → Taken s kind at pl hs n pl hs n
-  taken-full-2 h = record { one = omega arith; says = λ d z ms l e k dd hp hh r. absurd (omega arith) }
-
-  pub taken-row : kind ≡ 4 → {h : ℕ} {name : List ℕ} → name ≡ nameAt s at → h ≡ hashOf name → Taken s kind at pl hs n (set pl n (at % 65536)) (set hs n h) (n + 1)
-  unfolding macros kindByte kindOf levelsBook
-  taken-row q {h} {name} e g = record { one = omega arith; says = λ d z ms l w k dd hp hh r. row d z ms l w k dd hp hh r }
-    where
-      row : (d : Definition) (z : List ℕ) (ms : List Macro) → length s ≤ 16384 → Here s at (wDefinition d z) → kind ≡ kindByte (kindOf d) → levelsBook (d ∷ []) ≤ 64
-          → n < length pl → n < length hs → Rows s pl hs n ms → Rows s (set pl n (at % 65536)) (set hs n h) (n + 1) (macros (d ∷ []) ms)
-      row (format m ps c) z ms l w k dd hp hh r = absurd (omega arith)
-      row (constant m x) z ms l w k dd hp hh r = absurd (omega arith)
-      row (byte-order x) z ms l w k dd hp hh r = absurd (omega arith)
-      row (macro m ps c) z ms l w k dd hp hh r =
-          let x : n + 1 - 1 ≡ n = omega arith in
-          let a : at % 65536 ≡ at = omega (arith, w .reach) in
-          let def : Defined s at (record { name = m; params = ps; body = c }) = record { rest = z; here = w; deep = omega arith } in (
-            omega arith,
-            rw (x, a)
-                (record {
-                  places-long = simp length-set hp;
-                  hashes-long = simp length-set hh;
-                  defined = rw (getD-set-same pl n at 0 hp) def;
-                  hash = rw (getD-set-same hs n h 0 hh) (g ∙ rw (e, defined-name (record { name = m; params = ps; body = c }) def));
-                }),
-            rw x (rows-kept s pl hs n (at % 65536) h n (omega arith) ms r),
-          )
-
-macros-step : (d : Definition) (ds : List Definition) (ms : List Macro) → macros (d ∷ ds) ms ≡ macros ds (macros (d ∷ []) ms)
+-- ---- two lists of macros, one behind the other
+macros-behind : (ds : List Definition) (ms : List Macro) → macros ds ms ≡ macros ds [] ++ ms
 unfolding macros
-macros-step (format n ps c) ds ms = refl
-macros-step (constant n x) ds ms = refl
-macros-step (byte-order x) ds ms = refl
-macros-step (macro n ps c) ds ms = refl
+macros-behind [] ms = refl
+macros-behind (format n ps c ∷ ds) ms = macros-behind ds ms
+macros-behind (constant n x ∷ ds) ms = macros-behind ds ms
+macros-behind (byte-order x ∷ ds) ms = macros-behind ds ms
+macros-behind (macro n ps c ∷ ds) ms =
+    let m : Macro = record { name = n; params = ps; body = c } in
+    macros-behind ds (m ∷ ms) ∙ sym (append-assoc (macros ds []) (m ∷ []) ms) ∙ ap (λ (l : List Macro). l ++ ms) (sym (macros-behind ds (m ∷ [])))
 
-module _ {s pl hs : List ℕ} {n : ℕ} {d : Definitions} where
-  pub tabling-none : d .left ≤ 0 → Tabling s pl hs n d pl hs n
-  unfolding macros
-  tabling-none h = record { says = λ ds ms l w k lp lh r. none ds ms w r }
+module _ (name : Name) where
+  unknown-behind : (a b : List Macro) → isMacro a name ≡ false → isMacro (a ++ b) name ≡ isMacro b name
+  unfolding isMacro
+  unknown-behind [] b e = refl
+  unknown-behind (m ∷ a) b e = ⊎-elim
+      (λ (q : eqName (m .name) name ≡ true). absurd (not-both true refl (rw q at e)))
+      (λ (q : eqName (m .name) name ≡ false). rw q (unknown-behind a b (rw q at e)))
+      (yes-no (eqName (m .name) name))
+
+  known-behind : (a b : List Macro) → isMacro a name ≡ true → isMacro (a ++ b) name ≡ true
+  unfolding isMacro
+  known-behind [] b e = absurd (not-both false e refl)
+  known-behind (m ∷ a) b e = ⊎-elim
+      (λ (q : eqName (m .name) name ≡ true). rw q)
+      (λ (q : eqName (m .name) name ≡ false). rw q (known-behind a b (rw q at e)))
+      (yes-no (eqName (m .name) name))
+
+  module _ (xs : Inners) where
+    none-known : (a : List Macro) → isMacro a name ≡ false → expandMacro a name xs ≡ done (macro-invocation name xs)
+    unfolding isMacro expandMacro expandBy
+    none-known [] e = refl
+    none-known (m ∷ a) e = ⊎-elim
+        (λ (q : eqName (m .name) name ≡ true). absurd (not-both true refl (rw q at e)))
+        (λ (q : eqName (m .name) name ≡ false). rw q (none-known a (rw q at e)))
+        (yes-no (eqName (m .name) name))
+
+    expand-behind : (a b : List Macro) → isMacro a name ≡ false → expandMacro (a ++ b) name xs ≡ expandMacro b name xs
+    unfolding isMacro expandMacro expandBy
+    expand-behind [] b e = refl
+    expand-behind (m ∷ a) b e = ⊎-elim
+        (λ (q : eqName (m .name) name ≡ true). absurd (not-both true refl (rw q at e)))
+        (λ (q : eqName (m .name) name ≡ false). rw q (expand-behind a b (rw q at e)))
+        (yes-no (eqName (m .name) name))
+
+    expand-before : (a b : List Macro) → isMacro a name ≡ true → expandMacro (a ++ b) name xs ≡ expandMacro a name xs
+    unfolding isMacro expandMacro expandBy
+    expand-before [] b e = absurd (not-both false e refl)
+    expand-before (m ∷ a) b e = ⊎-elim
+        (λ (q : eqName (m .name) name ≡ true). rw q)
+        (λ (q : eqName (m .name) name ≡ false). rw q (expand-before a b (rw q at e)))
+        (yes-no (eqName (m .name) name))
+
+-- ---- macros in rows, and a name
+module _ (s places : List ℕ) (name : Name) where
+  abbrev at : ℕ → Name
+  at j = nameAt s (getD places j 0)
+
+  last-name : (n : ℕ) {m : Name} {ps : List Name} {c : Combinator} → Stands s (getD places (n - 1) 0) (macro m ps c) → at (n - 1) ≡ m
+  unfolding wDefinition
+  last-name n {m} {ps} {c} k = stands s (getD places (n - 1) 0) m (wList wName ps (wCombinator c (k .rest))) (k .here .is)
+
+  -- no row has it
+  no-row : (n : ℕ) (ds : List Definition) → InRows s places n (ofKinds 4 4 ds) → ((j : ℕ) → j < n → eqName name (at j) ≡ false) → isMacro (macros ds []) name ≡ false
+  unfolding ofKinds keep InRows macros isMacro kindByte kindOf
+  no-row n [] r f = refl
+  no-row n (format m ps c ∷ ds) r f = no-row n ds r f
+  no-row n (constant m x ∷ ds) r f = no-row n ds r f
+  no-row n (byte-order x ∷ ds) r f = no-row n ds r f
+  no-row n (macro m ps c ∷ ds) r f =
+      let z = r .0 in
+      let e = last-name n (r .1) in
+      let q : eqName m name ≡ false = ne-name m name (λ k. not-both _ (eqName-refl name) (ap (eqName name) (sym (e ∙ k)) ∙ f (n - 1) (omega arith))) in
+      rw (macros-behind ds (record { name = m; params = ps; body = c } ∷ []), unknown-behind name (macros ds []) (record { name = m; params = ps; body = c } ∷ []) (no-row (n - 1) ds (r .2) (λ j h. f j (omega arith))), q)
+
+  -- the first that has it
+  module _ (xs : Inners) where
+    record First (ms : List Macro) (r : ℕ) : Type 0 where
+      known : isMacro ms name ≡ true
+      here : Known s ms name xs (getD places r 0)
+
+    one-row : (n : ℕ) (ds : List Definition) → InRows s places n (ofKinds 4 4 ds) → (r : ℕ) → r < n → eqName name (at r) ≡ true → ((j : ℕ) → j < r → eqName name (at j) ≡ false) → First (macros ds []) r
+    unfolding ofKinds keep InRows macros isMacro expandMacro expandBy kindByte kindOf levelsBook
+    one-row n [] k r h e f = absurd (omega arith)
+    one-row n (format m ps c ∷ ds) k r h e f = one-row n ds k r h e f
+    one-row n (constant m x ∷ ds) k r h e f = one-row n ds k r h e f
+    one-row n (byte-order x ∷ ds) k r h e f = one-row n ds k r h e f
+    one-row n (macro m ps c ∷ ds) k r h e f =
+        let z = k .0 in
+        let w = macros-behind ds (record { name = m; params = ps; body = c } ∷ []) in
+        rw w (⊎-elim (λ (q : r ≡ n - 1). last q) (λ (q : r < n - 1). before (one-row (n - 1) ds (k .2) r q e f)) (eq-or-lt-of-le (omega arith)))
+      where
+        this : List Macro
+        this = record { name = m; params = ps; body = c } ∷ []
+
+        last : r ≡ n - 1 → First (macros ds [] ++ this) r
+        last q =
+            let u = no-row (n - 1) ds (k .2) (λ j i. f j (omega arith)) in
+            let y : eqName m name ≡ true = rw (← (last-name n (k .1)), ← q, ← (eqName-true name (at r) e)) (eqName-refl name) in
+            record {
+              known = unknown-behind name (macros ds []) this u ∙ rw y;
+              here = record {
+                known = record { name = m; params = ps; body = c };
+                defined = rw q (record { rest = k .1 .rest; here = k .1 .here; deep = let d = k .1 .deep in omega arith });
+                is = expand-behind name xs (macros ds []) this u ∙ rw y;
+              };
+            }
+
+        before : First (macros ds []) r → First (macros ds [] ++ this) r
+        before v = record {
+          known = known-behind name (macros ds []) this (v .known);
+          here = record { known = v .here .known; defined = v .here .defined; is = expand-before name xs (macros ds []) this (v .known) ∙ v .here .is };
+        }
+
+-- ---- the look-up
+module _ (name s places ways : List ℕ) (n : ℕ) where
+  -- the names of the rows are those at their places
+  at-row : {ms : List Macro} → Rows s places ways n ms → (j : ℕ) → j < n → row (both s []) places j ≡ nameAt s (getD places j 0)
+  unfolding row nameOf
+  at-row k j h = rw (source-place (getD places j 0) (k .right .sourced .low j h))
+
+  module _ {ms : List Macro} (k : Rows s places ways n ms) where
+    first-row : (j : ℕ) → j < n → eqName name (nameAt s (getD places j 0)) ≡ true → (rowOf ways name n ≤ j) × (row (both s []) places (rowOf ways name n) ≡ name)
+    first-row j h e = leads-first (k .right .table .leads) name j h (at-row k j h ∙ sym (eqName-true name (nameAt s (getD places j 0)) e))
+
+    -- none before the one to which the way leads
+    none-before : (j : ℕ) → j < rowOf ways name n → j < n → eqName name (nameAt s (getD places j 0)) ≡ false
+    none-before j h i = ⊎-elim
+        (λ (e : eqName name (nameAt s (getD places j 0)) ≡ true). absurd (let z = first-row j i e .0 in omega arith))
+        (λ (e : eqName name (nameAt s (getD places j 0)) ≡ false). e)
+        (yes-no (eqName name (nameAt s (getD places j 0))))
+
+    -- and none at all, where that one has another name
+    none-at-all : (rowOf ways name n < n → eqName name (nameAt s (getD places (rowOf ways name n) 0)) ≡ false) → (j : ℕ) → j < n → eqName name (nameAt s (getD places j 0)) ≡ false
+    none-at-all f j i = ⊎-elim
+        (λ (e : eqName name (nameAt s (getD places j 0)) ≡ true).
+        let z = first-row j i e in
+        let y : rowOf ways name n < n = let x = z .0 in omega arith in
+        absurd (not-both _ (eqName-refl name) (ap (eqName name) (sym (z .1) ∙ at-row k (rowOf ways name n) y) ∙ f y)))
+        (λ (e : eqName name (nameAt s (getD places j 0)) ≡ false). e)
+        (yes-no (eqName name (nameAt s (getD places j 0))))
+
+  unknown : ((ms : List Macro) → Rows s places ways n ms → rowOf ways name n < n → eqName name (nameAt s (getD places (rowOf ways name n) 0)) ≡ false) → FindsMacro name s places ways n Unknown
+  unknown f = record { says = λ ms k xs. none-known name xs ms (none ms k); known = λ ms k. sym (none ms k) }
     where
-      none : (ds : List Definition) (ms : List Macro) → Left s d ds → Rows s pl hs n ms → Rows s pl hs n (macros ds ms)
-      none [] ms w r = r
-      none (x ∷ ds) ms w r = absurd (no-more h w)
+      none : (ms : List Macro) → Rows s places ways n ms → isMacro ms name ≡ false
+      none ms k = rw (k .are) (no-row s places name n (k .of) (k .in-rows) (none-at-all k (f ms k)))
 
-  pub tabling-step : 0 < d .left → {kind n₁ : ℕ} {e : Definitions} {pl₁ hs₁ : List ℕ} → kind ≡ byteAt s (d .entry) → Taken s kind (d .at) pl hs n pl₁ hs₁ n₁ → e ≡ nextOf s d
-      → length pl₁ ≡ length pl → length hs₁ ≡ length hs → {pl′ hs′ : List ℕ} {r : ℕ} → Tabling s pl₁ hs₁ n₁ e pl′ hs′ r → Tabling s pl hs n d pl′ hs′ r
-  tabling-step k hk t he lp₁ lh₁ {pl′} {hs′} {r} next = record { says = λ ds ms l w q lp lh rs. step ds ms l w q lp lh rs }
-    where
-      step : (ds : List Definition) (ms : List Macro) → length s ≤ 16384 → Left s d ds → n + d .left ≤ 512 → length pl ≡ 512 → length hs ≡ 512
-          → Rows s pl hs n ms → Rows s pl′ hs′ r (macros ds ms)
-      step [] ms l w q lp lh rs = absurd (some-more k w)
-      step (x ∷ ds) ms l w q lp lh rs =
-          let v = next-left he w in
-          rw (macros-step x ds ms)
-          (next .says ds (macros (x ∷ []) ms) l v (omega (arith, t .one, w .count, v .count)) (lp₁ ∙ lp) (lh₁ ∙ lh)
-          (t .says x _ ms l (listed-body (w .listed)) (hk ∙ listed-kind (w .listed)) (listed-deep (w .listed)) (omega arith) (omega arith) rs))
+  module _ {x r : ℕ} (ex : x ≡ slotOf ways name n) (er : r ≡ rowAt ways x n) where
+    is-row : r ≡ rowOf ways name n
+    unfolding rowOf
+    is-row = er ∙ rw ex
 
-pub tabled : {s pl hs pl′ hs′ : List ℕ} {r : ℕ} {d : Definitions} → d ≡ allOf s → Tabling s pl hs 0 d pl′ hs′ r → Tabled s pl hs pl′ hs′ r
-unfolding sizeBook
-tabled e t = record {
-  says = λ ds h b lp lh. let w = all-left e ds h b in t .says ds [] (omega (arith, ap length h, b .short)) w (omega (arith, b .few, w .count)) lp lh refl;
+    pub finds-none : n ≤ r → FindsMacro name s places ways n Unknown
+    finds-none h = unknown (λ ms k i. absurd (let z = is-row in omega arith))
+
+    pub finds-far : r < n → length places ≤ r → FindsMacro name s places ways n Unknown
+    finds-far h l = unknown (λ ms k i. absurd (let z = k .right .table .places-long in omega arith))
+
+    module _ (h : r < n) {other : Name} (eo : other ≡ nameAt s (getD places r 0)) {same : Bool} (es : same ≡ eqName name other) where
+      pub finds-here : same ≡ true → FindsMacro name s places ways n (At (getD places r 0))
+      finds-here e = record {
+        says = λ ms k xs. let v = found ms k xs in rw (k .are) (v .here);
+        known = λ ms k. sym (rw (k .are) (found ms k no-inner .known));
+      }
+        where
+          found : (ms : List Macro) (k : Rows s places ways n ms) (xs : Inners) → First s places name xs (macros (k .of) []) r
+          found ms k xs = one-row s places name xs n (k .of) (k .in-rows) r h (sym (ap (eqName name) eo) ∙ sym es ∙ e) (λ j i. none-before k j (let z = is-row in omega arith) (omega arith))
+
+      pub finds-other : same ≡ false → FindsMacro name s places ways n Unknown
+      finds-other e = unknown (λ ms k i. rw (← is-row) (sym (ap (eqName name) eo) ∙ sym es ∙ e))
+
+-- ---- filling
+pub tabled : {s pl ws pl′ ws′ : List ℕ} {r : ℕ} → OfKinds s 4 4 pl ws pl′ ws′ r → Tabled s pl ws pl′ ws′ r
+tabled t = record {
+  says = λ ds e b lp lw c. record {
+    right = t .right c (omega arith);
+    of = ds;
+    in-rows = t .says ds e b (record { places-long = omega arith; ways-long = omega arith }) .0;
+    are = refl;
+  };
 }
-
--- the loop that fills: whoever goes on from here has gone from the start
-pub record Filling (s pl₀ hs₀ : List ℕ) (d₀ : Definitions) (n₀ : ℕ) (pl hs : List ℕ) (d : Definitions) (n : ℕ) : Type 0 where
-  pub places-long : length pl ≡ length pl₀
-  pub hashes-long : length hs ≡ length hs₀
-  pub goes : (pl′ hs′ : List ℕ) (r : ℕ) → Tabling s pl hs n d pl′ hs′ r → Tabling s pl₀ hs₀ n₀ d₀ pl′ hs′ r

@@ -47,18 +47,18 @@ unfolding fits
 fits-defns t h = rw (lt-leb (t .defns) 512 h, and-false (leb (t .bytes) 16384))
 
 -- ---- refusals
-module _ {s : List ℕ} {at end : ℕ} {n : Name} {ns : List Name} {env : List Bound} {made places rows params number : List ℕ} {w : Counts} {made′ places′ hashes′ hints′ rows′ params′ number′ : List ℕ} where
-  pub refused-binder : bindersOf env ns ≡ absent → Enters s at end n ns env made places rows params number w made′ places′ hashes′ hints′ rows′ params′ number′ (Refused 8)
+module _ {s : List ℕ} {at end : ℕ} {n : Name} {ns : List Name} {env : List Bound} {made places rows params number : List ℕ} {w : Counts} {made′ places′ ways′ hints′ rows′ params′ number′ : List ℕ} where
+  pub refused-binder : bindersOf env ns ≡ absent → Enters s at end n ns env made places rows params number w made′ places′ ways′ hints′ rows′ params′ number′ (Refused 8)
   unfolding Gives enterWith number
   refused-binder e = record { gives = λ finished. rw e refl }
 
   module _ (bs : List Bound) (all : bindersOf env ns ≡ just bs) where
     pub refused-bytes : 16384 < w .bytes + 6 + (length n + 3 + namesRoom ns + typesSize bs) + (length n + namesRoom ns + 5)
-        → Enters s at end n ns env made places rows params number w made′ places′ hashes′ hints′ rows′ params′ number′ (Refused 10)
+        → Enters s at end n ns env made places rows params number w made′ places′ ways′ hints′ rows′ params′ number′ (Refused 10)
     unfolding Gives enterWith number entered callSize headSize sheetOf
     refused-bytes h = record { gives = λ finished. rw (all, fits-bytes (entered at end n ns bs (sheetOf s made places rows params finished w)) h) refl }
 
-    pub refused-defns : 512 ≤ w .defns → Enters s at end n ns env made places rows params number w made′ places′ hashes′ hints′ rows′ params′ number′ (Refused 10)
+    pub refused-defns : 512 ≤ w .defns → Enters s at end n ns env made places rows params number w made′ places′ ways′ hints′ rows′ params′ number′ (Refused 10)
     unfolding Gives enterWith number entered sheetOf
     refused-defns h = record { gives = λ finished. rw (all, fits-defns (entered at end n ns bs (sheetOf s made places rows params finished w)) (omega arith)) refl }
 
@@ -69,15 +69,18 @@ sheet-is : {a a′ : List Name} {r r′ : List Row} {f : List ℕ} {b b′ d d�
     → _≡_ {A = Sheet} (record { taken = a; rows = r; finished = f; bytes = b; defns = d }) (record { taken = a′; rows = r′; finished = f; bytes = b′; defns = d′ })
 sheet-is p q r s = rw (p, q, r, s)
 
-module _ {s uses : List ℕ} {k : ℕ} {env : List Bound} {at end : ℕ} {n : Name} {made places hashes hints rows params number : List ℕ} {w : Counts} {params′ : List ℕ} {names types : ℕ}
-    (t : Tables s made places hashes hints rows params w) (f : Filled s uses k env params (w .params) params′ names types) (wi : Within k names types)
+module _ {s uses : List ℕ} {k : ℕ} {env : List Bound} {at end : ℕ} {n : Name} {made places ways hints rows params number : List ℕ} {w : Counts} {params′ : List ℕ} {names types : ℕ}
+    (t : Tables s made places ways hints rows params w) (f : Filled s uses k env params (w .params) params′ names types) (wi : Within k names types)
     (short : length n ≤ 255) (bytes : ℕ) (sum : bytes ≡ w .bytes + 6 + (length n + 3 + names + types) + (length n + names + 5)) (small : bytes ≤ 16384) (few : w .defns < 512)
-    {made′ places′ hashes′ hints′ rows′ number′ : List ℕ} {v : Counts} (a : Adds n at end k made places hashes hints rows number w bytes made′ places′ hashes′ hints′ rows′ number′ v) where
-  abbrev g : Took n made (w .end) places hashes hints (w .taken) made′ places′ hashes′ hints′ (v .end)
+    {made′ places′ ways′ hints′ rows′ number′ : List ℕ} {v : Counts} (a : Adds s n at end k made places ways hints rows number w bytes made′ places′ ways′ hints′ rows′ number′ v) where
+  abbrev g : Took n s made (w .end) places ways hints (w .taken) made′ places′ ways′ hints′ (v .end)
   g = a .took
 
-  grown : Grown n (both s made) places hashes hints (w .taken) (both s made′) places′ hashes′ hints′
-  grown = g .grown s (t .table) (t .hinted) (t .packed)
+  ways-fit : 256 + 2 * (w .taken + 1) ≤ length ways
+  ways-fit = omega (arith, t .ways-long, t .few .1)
+
+  grown : Grown n (both s made) places ways (w .taken) (both s made′) places′ ways′
+  grown = g .grown ways-fit (t .table) (t .packed)
 
   params-fit : 4 * (w .params + k) ≤ length params
   params-fit = omega (arith, t .room, t .params-long, wi .names-least, wi .types-least)
@@ -134,17 +137,17 @@ module _ {s uses : List ℕ} {k : ℕ} {env : List Bound} {at end : ℕ} {n : Na
             params = rw (rows-same (5 * i + 3) (omega arith), rows-same (5 * i + 4) (omega arith)) (omega (arith, a .counted .2));
           }
 
-  tables′ : Tables s made′ places′ hashes′ hints′ rows′ params′ v
+  tables′ : Tables s made′ places′ ways′ hints′ rows′ params′ v
   tables′ = record {
     source = t .source;
     made-long = rw (g .made-holds, length-put made (w .end) (nameBytes n)) (t .made-long);
     places-long = rw (g .places-hold) (simp length-set (t .places-long));
-    hashes-long = rw (g .hashes-hold) (simp length-set (t .hashes-long));
+    ways-long = rw (g .ways-long) (t .ways-long);
     hints-long = rw (g .hints-hold) (simp length-set (t .hints-long));
     rows-long = rw (a .row, row-length rows (w .lifts) at end (w .end) (w .params) k) (t .rows-long);
     params-long = rw (f .long) (t .params-long);
     table = rw (a .counted .0) (grown .table);
-    hinted = rw (a .counted .0) (grown .hinted);
+    hinted = rw (a .counted .0) (g .hinted ways-fit (t .table) (t .hinted) (t .packed));
     packed = rw (a .counted .0) (g .packed (t .packed));
     rows-in = row-in;
     room = omega (arith, t .room, g .next, a .counted .2, a .counted .3, wi .names-least, wi .types-least);
@@ -153,7 +156,7 @@ module _ {s uses : List ℕ} {k : ℕ} {env : List Bound} {at end : ℕ} {n : Na
     defns-most = omega (arith, a .counted .4);
   }
 
-  made-lift : Enters s at end n (namesIn s (take k uses)) env made places rows params number w made′ places′ hashes′ hints′ rows′ params′ number′ (Made (length n + names + 5) v)
+  made-lift : Enters s at end n (namesIn s (take k uses)) env made places rows params number w made′ places′ ways′ hints′ rows′ params′ number′ (Made (length n + names + 5) v)
   unfolding Gives enterWith entered callSize headSize sheetOf
   made-lift = record {
     gives = λ finished.
@@ -168,9 +171,9 @@ module _ {s uses : List ℕ} {k : ℕ} {env : List Bound} {at end : ℕ} {n : Na
   }
 
 -- the same where the parameters were put into their part of the sheet, then the row and the number into theirs
-pub made-in-parts : (t t₁ t₂ : List ℕ) {s uses : List ℕ} {k : ℕ} {env : List Bound} {at end : ℕ} {n : Name} {made places hashes hints : List ℕ} {w : Counts} {names types : ℕ}
-    → Parts t₁ (orderIn t) (rowsIn t) (paramsIn t₁) (numberIn t) → paramsIn t₂ ≡ paramsIn t₁ → Tables s made places hashes hints (rowsIn t) (paramsIn t) w → Filled s uses k env (paramsIn t) (w .params) (paramsIn t₁) names types → Within k names types
+pub made-in-parts : (t t₁ t₂ : List ℕ) {s uses : List ℕ} {k : ℕ} {env : List Bound} {at end : ℕ} {n : Name} {made places ways hints : List ℕ} {w : Counts} {names types : ℕ}
+    → Parts t₁ (orderIn t) (rowsIn t) (paramsIn t₁) (numberIn t) → paramsIn t₂ ≡ paramsIn t₁ → Tables s made places ways hints (rowsIn t) (paramsIn t) w → Filled s uses k env (paramsIn t) (w .params) (paramsIn t₁) names types → Within k names types
     → length n ≤ 255 → (bytes : ℕ) → bytes ≡ w .bytes + 6 + (length n + 3 + names + types) + (length n + names + 5) → bytes ≤ 16384 → w .defns < 512
-    → {made′ places′ hashes′ hints′ : List ℕ} {v : Counts} → Adds n at end k made places hashes hints (rowsIn t₁) (numberIn t₁) w bytes made′ places′ hashes′ hints′ (rowsIn t₂) (numberIn t₂) v
-    → Enters s at end n (namesIn s (take k uses)) env made places (rowsIn t) (paramsIn t) (numberIn t) w made′ places′ hashes′ hints′ (rowsIn t₂) (paramsIn t₂) (numberIn t₂) (Made (length n + names + 5) v)
+    → {made′ places′ ways′ hints′ : List ℕ} {v : Counts} → Adds s n at end k made places ways hints (rowsIn t₁) (numberIn t₁) w bytes made′ places′ ways′ hints′ (rowsIn t₂) (numberIn t₂) v
+    → Enters s at end n (namesIn s (take k uses)) env made places (rowsIn t) (paramsIn t) (numberIn t) w made′ places′ ways′ hints′ (rowsIn t₂) (paramsIn t₂) (numberIn t₂) (Made (length n + names + 5) v)
 made-in-parts t t₁ t₂ b e ts f wi short bytes sum small few a = rw e (made-lift ts f wi short bytes sum small few (rw (b .rows, b .number) at a))

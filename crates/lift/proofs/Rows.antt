@@ -116,10 +116,10 @@ module _ (s made rows params made′ rows′ params′ : List ℕ) (w : Counts) 
   rows-kept (suc n) h r = rw (rows-kept n (omega arith) r, row-kept n (omega arith) (r n (omega arith)))
 
 -- the name that was taken stands where its row says
-pub name-taken : (book : List ℕ) {n : Name} {made places hashes hints made′ places′ hashes′ hints′ : List ℕ} {end k r : ℕ} → Took n made end places hashes hints k made′ places′ hashes′ hints′ r → k < length places
+pub name-taken : (book : List ℕ) {n : Name} {made places ways hints made′ places′ ways′ hints′ : List ℕ} {end k r : ℕ} → Took n book made end places ways hints k made′ places′ ways′ hints′ r → k < length places
     → taken (both book made′) places′ (k + 1) ≡ n ∷ taken (both book made) places k → nameAt made′ end ≡ n
 unfolding taken row nameOf
-name-taken book {n} {made} {places} {hashes} {hints} {made′} {places′} {hashes′} {hints′} {end} {k} t l e =
+name-taken book {n} {made} {places} {ways} {hints} {made′} {places′} {ways′} {hints′} {end} {k} t l e =
     let q : getD places′ k 0 ≡ 32768 + end = rw (t .places-hold) (getD-set-same places k (32768 + end) 0 l) in
     let g : nameOf (placeOf (getD places′ k 0)) book made′ ∷ taken (both book made′) places′ k ≡ n ∷ taken (both book made) places k = (rw (add-one k) at e) in
     let f : nameOf (placeOf (getD places′ k 0)) book made′ ≡ n = cc in

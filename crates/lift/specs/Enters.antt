@@ -11,12 +11,12 @@ use Rattle.lift.specs.declared.Counts.{Counts}
 use Rattle.lift.specs.declared.Lifted.{Lifted}
 
 -- the row, the number at its place and the name of lift number `w .lifts`, which has k parameters
-pub record Adds (n : Name) (at end k : ℕ) (made places hashes hints rows number : List ℕ) (w : Counts) (bytes : ℕ) (made′ places′ hashes′ hints′ rows′ number′ : List ℕ) (v : Counts) : Type 0 where
+pub record Adds (s : List ℕ) (n : Name) (at end k : ℕ) (made places ways hints rows number : List ℕ) (w : Counts) (bytes : ℕ) (made′ places′ ways′ hints′ rows′ number′ : List ℕ) (v : Counts) : Type 0 where
   pub row : rows′ ≡ withRow rows (w .lifts) at end (w .end) (w .params) k
   pub numbered : number′ ≡ set number at (w .lifts + 1)
-  pub took : Took n made (w .end) places hashes hints (w .taken) made′ places′ hashes′ hints′ (v .end)
+  pub took : Took n s made (w .end) places ways hints (w .taken) made′ places′ ways′ hints′ (v .end)
   pub counted : (v .taken ≡ w .taken + 1) × (v .lifts ≡ w .lifts + 1) × (v .params ≡ w .params + k) × (v .bytes ≡ bytes) × (v .defns ≡ w .defns + 1)
 
-pub record Enters (s : List ℕ) (at end : ℕ) (n : Name) (ns : List Name) (env : List Bound) (made places rows params number : List ℕ) (w : Counts) (made′ places′ hashes′ hints′ rows′ params′ number′ : List ℕ) (r : Lifted) : Type 0 where
+pub record Enters (s : List ℕ) (at end : ℕ) (n : Name) (ns : List Name) (env : List Bound) (made places rows params number : List ℕ) (w : Counts) (made′ places′ ways′ hints′ rows′ params′ number′ : List ℕ) (r : Lifted) : Type 0 where
   pub gives : (finished : List ℕ) → Gives (enters at end n ns env (sheetOf s made places rows params finished w)) r (λ v. sheetOf s made′ places′ rows′ params′ finished v)
-      (λ v. Tables s made′ places′ hashes′ hints′ rows′ params′ v × (number′ ≡ set number at (w .lifts + 1)) × (v .lifts ≡ w .lifts + 1))
+      (λ v. Tables s made′ places′ ways′ hints′ rows′ params′ v × (number′ ≡ set number at (w .lifts + 1)) × (v .lifts ≡ w .lifts + 1))

@@ -71,15 +71,15 @@ pub record RowIn (made rows : List ℕ) (w : Counts) (i : ℕ) : Type 0 where
   pub params : getD rows (5 * i + 3) 0 + getD rows (5 * i + 4) 0 ≤ w .params
 
 -- the tables are long enough, and what they hold is right. Each lift adds at least 14 bytes, two for each of its name's and five for each parameter
-pub record Tables (s made places hashes hints rows params : List ℕ) (w : Counts) : Type 0 where
+pub record Tables (s made places ways hints rows params : List ℕ) (w : Counts) : Type 0 where
   pub source : length s ≤ 16384
   pub made-long : 8192 ≤ length made
   pub places-long : 512 ≤ length places
-  pub hashes-long : 512 ≤ length hashes
+  pub ways-long : 1280 ≤ length ways
   pub hints-long : 512 ≤ length hints
   pub rows-long : 2560 ≤ length rows
   pub params-long : 13108 ≤ length params
-  pub table : Table (both s made) places hashes (w .taken)
+  pub table : Table (both s made) places ways (w .taken)
   pub hinted : Hints (both s made) places hints (w .taken)
   pub packed : Packed made places (w .taken) (w .end)
   pub rows-in : (i : ℕ) → i < w .lifts → RowIn made rows w i

@@ -125,6 +125,7 @@ fn put_row(
 
 // The row of a lift, its number at its place, and its name, which stands in path's first n bytes.
 fn add_row(
+    s: &[u8],
     path: &[u8],
     n: usize,
     at: usize,
@@ -132,14 +133,14 @@ fn add_row(
     k: usize,
     made: &mut [u8],
     places: &mut [u16],
-    hashes: &mut [u16],
+    ways: &mut [u32],
     hints: &mut [u16],
     sheet: &mut [u16],
     w: Counts,
     bytes: usize,
 ) -> Counts
-    requires { ⌜ (n ≤ length (now path)) × (n ≤ 255) × (at ≤ 65535) × (end ≤ 65535) × (w .params + k ≤ 65535) × (w .end < 32768) × (w .end + 1 + n ≤ length (now made)) × (w .lifts < 512) × (w .defns < 512) × (w .taken < 512) × (512 ≤ length (now places)) × (512 ≤ length (now hashes)) × (512 ≤ length (now hints)) ⌝ }
-    ensures { λ r. ⌜ Adds (take n (now (path .entry))) at end k (now (made .entry)) (now (places .entry)) (now (hashes .entry)) (now (hints .entry)) (rowsIn (now (sheet .entry))) (numberIn (now (sheet .entry))) w bytes (now (made .exit)) (now (places .exit)) (now (hashes .exit)) (now (hints .exit)) (rowsIn (now (sheet .exit))) (numberIn (now (sheet .exit))) r × (orderIn (now (sheet .exit)) ≡ orderIn (now (sheet .entry))) × (paramsIn (now (sheet .exit)) ≡ paramsIn (now (sheet .entry))) ⌝ }
+    requires { ⌜ (n ≤ length (now path)) × (n ≤ 255) × (at ≤ 65535) × (end ≤ 65535) × (w .params + k ≤ 65535) × (w .end < 32768) × (w .end + 1 + n ≤ length (now made)) × (w .lifts < 512) × (w .defns < 512) × (w .taken < 512) × (512 ≤ length (now places)) × (512 ≤ length (now hints)) ⌝ }
+    ensures { λ r. ⌜ Adds (now (s .entry)) (take n (now (path .entry))) at end k (now (made .entry)) (now (places .entry)) (now (ways .entry)) (now (hints .entry)) (rowsIn (now (sheet .entry))) (numberIn (now (sheet .entry))) w bytes (now (made .exit)) (now (places .exit)) (now (ways .exit)) (now (hints .exit)) (rowsIn (now (sheet .exit))) (numberIn (now (sheet .exit))) r × (orderIn (now (sheet .exit)) ≡ orderIn (now (sheet .entry))) × (paramsIn (now (sheet .exit)) ≡ paramsIn (now (sheet .entry))) ⌝ }
 {
     let lifts = w.lifts;
     let place = w.end;
@@ -148,7 +149,7 @@ fn add_row(
     let defns = w.defns;
     put_row(sheet, lifts, at, end, place, first, k);
     store(sheet, 16180 + at, lifts + 1);
-    let next = take_name(&path[..n], made, place, places, hashes, hints, taken);
+    let next = take_name(&path[..n], s, made, place, places, ways, hints, taken);
     Counts {
         taken: taken + 1,
         end: next,
@@ -173,13 +174,13 @@ pub fn enter_lift(
     b: usize,
     made: &mut [u8],
     places: &mut [u16],
-    hashes: &mut [u16],
+    ways: &mut [u32],
     hints: &mut [u16],
     sheet: &mut [u16],
     w: Counts,
 ) -> Lifted
-    requires { ⌜ Tables (now s) (now made) (now places) (now hashes) (now hints) (rowsIn (now sheet)) (paramsIn (now sheet)) w × (at ≤ 65535) × (end ≤ 65535) × (n ≤ length (now path)) × (n ≤ 255) × (k ≤ length (now uses)) × (k ≤ 65536) × (b ≤ 65536) × Sized (now binders) b ⌝ }
-    ensures { λ r. ⌜ Enters (now (s .entry)) at end (take n (now (path .entry))) (namesIn (now (s .entry)) (take k (now (uses .entry)))) (boundFrom (now (s .entry)) (now (binders .entry)) 0 b) (now (made .entry)) (now (places .entry)) (rowsIn (now (sheet .entry))) (paramsIn (now (sheet .entry))) (numberIn (now (sheet .entry))) w (now (made .exit)) (now (places .exit)) (now (hashes .exit)) (now (hints .exit)) (rowsIn (now (sheet .exit))) (paramsIn (now (sheet .exit))) (numberIn (now (sheet .exit))) r × (orderIn (now (sheet .exit)) ≡ orderIn (now (sheet .entry))) ⌝ }
+    requires { ⌜ Tables (now s) (now made) (now places) (now ways) (now hints) (rowsIn (now sheet)) (paramsIn (now sheet)) w × (at ≤ 65535) × (end ≤ 65535) × (n ≤ length (now path)) × (n ≤ 255) × (k ≤ length (now uses)) × (k ≤ 65536) × (b ≤ 65536) × Sized (now binders) b ⌝ }
+    ensures { λ r. ⌜ Enters (now (s .entry)) at end (take n (now (path .entry))) (namesIn (now (s .entry)) (take k (now (uses .entry)))) (boundFrom (now (s .entry)) (now (binders .entry)) 0 b) (now (made .entry)) (now (places .entry)) (rowsIn (now (sheet .entry))) (paramsIn (now (sheet .entry))) (numberIn (now (sheet .entry))) w (now (made .exit)) (now (places .exit)) (now (ways .exit)) (now (hints .exit)) (rowsIn (now (sheet .exit))) (paramsIn (now (sheet .exit))) (numberIn (now (sheet .exit))) r × (orderIn (now (sheet .exit)) ≡ orderIn (now (sheet .entry))) ⌝ }
 {
     let first = w.params;
     let built = build_param_defns(s, uses, k, binders, b, sheet, first);
@@ -196,6 +197,7 @@ pub fn enter_lift(
                 return Lifted::Refused(10);
             }
             let grown = add_row(
+                s,
                 path,
                 n,
                 at,
@@ -203,7 +205,7 @@ pub fn enter_lift(
                 k,
                 made,
                 places,
-                hashes,
+                ways,
                 hints,
                 sheet,
                 w,

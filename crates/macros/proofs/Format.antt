@@ -11,10 +11,10 @@ use lib.Seq.{drop-at, length-take-le}
 use borrow.Author.Tests.{le-leb, lt-leb}
 use Rattle.definition.specs.Code.{macro-growth}
 use Rattle.definition.specs.Out.{Out, refused, done, _>>=_, given}
-use Rattle.definition.specs.Tree.{Name, Combinator, Param, format}
-use Rattle.definition.specs.Write.{wName, wParam, wList, wCombinator, wDefinition}
-use Rattle.definition.specs.Size.{size, levels, levelsP}
-use Rattle.definition.specs.Macros.{Macro, expand}
+use Rattle.definition.specs.Tree.{Name, Combinator, Param, Definition, format, constant, byte-order, macro}
+use Rattle.definition.specs.Write.{wName, wParam, wList, wCombinator, wDefinition, kindOf, kindByte}
+use Rattle.definition.specs.Size.{size, levels, levelsP, levelsBook}
+use Rattle.definition.specs.Macros.{Macro, macros as macrosOf, expand}
 use Rattle.laws.proofs.Splits.{s-list, s-param, s-name}
 use Rattle.seek.specs.At.{namePast}
 use Rattle.seek.specs.Here.{Here}
@@ -32,6 +32,7 @@ use Rattle.pieces.proofs.Written.{written-is}
 use Rattle.pieces.proofs.Expanded.{expansion}
 use Rattle.calls.proofs.Link.{walked}
 use Rattle.expansion.specs.Deep.{DeepM}
+use Rattle.kinds.specs.Rows.{keep, ofKinds, InRows}
 use Rattle.known.specs.Table.{Rows}
 use Rattle.contents.specs.Params.{ParamsPast}
 use Rattle.replaced.specs.Call.{Puts}
@@ -43,9 +44,16 @@ use Rattle.expansion.proofs.Depth.{expand-deep, pieces-deep}
 use Rattle.expansion.proofs.Next.{front-none}
 
 -- the table tells how deep the macros are
+in-rows-deep : (s pl : List ℕ) (n : ℕ) (ds : List Definition) → InRows s pl n (ofKinds 4 4 ds) → (ms : List Macro) → DeepM ms → DeepM (macrosOf ds ms)
+unfolding macrosOf ofKinds keep InRows kindByte kindOf levelsBook
+in-rows-deep s pl n [] r ms k = k
+in-rows-deep s pl n (format m ps c ∷ ds) r ms k = in-rows-deep s pl n ds r ms k
+in-rows-deep s pl n (constant m x ∷ ds) r ms k = in-rows-deep s pl n ds r ms k
+in-rows-deep s pl n (byte-order x ∷ ds) r ms k = in-rows-deep s pl n ds r ms k
+in-rows-deep s pl n (macro m ps c ∷ ds) r ms k = in-rows-deep s pl (n - 1) ds (r .2) (record { name = m; params = ps; body = c } ∷ ms) (let d = r .1 .deep in (omega arith, k))
+
 rows-deep : (s pl hs : List ℕ) (n : ℕ) (ms : List Macro) → Rows s pl hs n ms → DeepM ms
-rows-deep s pl hs n [] r = tt
-rows-deep s pl hs n (m ∷ ms) r = (r .1 .defined .deep, rows-deep s pl hs (n - 1) ms (r .2))
+rows-deep s pl hs n ms r = rw (r .are) (in-rows-deep s pl n (r .of) (r .in-rows) [] tt)
 
 -- what was written stands there
 pub wrote-here : {d d′ p : List ℕ} {at r : ℕ} → Wrote d at p d′ r → r ≤ length d → Here d′ at (p ++ drop (at + length p) d)

@@ -24,6 +24,7 @@ use Rattle.writer.specs.Buf.{put, Wrote}
 use Rattle.writer.proofs.Put.{put-put, put-fits}
 use Rattle.writer.proofs.Wrote.{same-length}
 use Rattle.macros.specs.declared.Expanded.the-variants.{Book, Grown}
+use Rattle.forks.specs.Leads.{Clear}
 use Rattle.known.specs.Table.{Tabled}
 use Rattle.macros.specs.Left.{shallow, expandOne, andOne, shallowAll, WritesBy, Writes, Booked}
 use Rattle.macros.specs.Pass.{pass, answerOf, leaves, Passed}
@@ -138,7 +139,7 @@ finished out out₂ n o end es e eo lo w k =
     let c : wBook es ≡ (wU16 n [] ++ E) ++ B = rw (← e, ← p) (book-apart es) in
     (w .0 ∙ z, w .1 ∙ t ∙ rw (c, z))
 
-module _ {lib book out out₁ out₂ pl hs pl₁ hs₁ areas marks row : List ℕ} {rows n o end q : ℕ} (tb : Tabled lib pl hs pl₁ hs₁ rows) (lp : length pl ≡ 512) (lh : length hs ≡ 512)
+module _ {lib book out out₁ out₂ pl hs pl₁ hs₁ areas marks row : List ℕ} {rows n o end q : ℕ} (tb : Tabled lib pl hs pl₁ hs₁ rows) (lp : length pl ≡ 512) (lh : length hs ≡ 1280) (cl : Clear hs)
     (lm : length marks ≡ 8192) (lr : length row ≡ 8192) {k : ℕ} (kp : KeptOf book k) (nk : n ≡ min k 512) (w : Wrote out 0 (wU16 n []) out₁ q) (eo : o ≡ 2 + 6 * n)
     (bk : Booked lib pl₁ hs₁ rows book areas marks row out₁ o out₂ end) (lo : length out₂ ≡ length out₁) where
   module _ (ms ds : List Definition) (el : lib ≡ wBook ms) (im : IsBook ms) (eb : book ≡ wBook ds) (id : IsBook ds) (al : length areas ≡ 32768) (ol : length out ≡ 16384) where
@@ -156,7 +157,7 @@ module _ {lib book out out₁ out₂ pl hs pl₁ hs₁ areas marks row : List �
           };
           marks-long = lm;
           out-long = same-length w ∙ ol;
-          table = tb .says ms el im lp lh;
+          table = tb .says ms el im lp lh cl;
         })
         ds eb id (omega (arith, kept)) (omega (arith, same-length w))
 

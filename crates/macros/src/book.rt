@@ -18,7 +18,7 @@ ghost use Rattle.macros.specs.Left.{Formatted, Kept, Booked};
 fn expand_format(
     macros: &[u8],
     places: &[u16],
-    hashes: &[u16],
+    ways: &[u32],
     rows: usize,
     book: &[u8],
     at: usize,
@@ -28,7 +28,7 @@ fn expand_format(
     out: &mut [u8],
     o: usize,
 ) -> usize
-    ensures { λ r. ⌜ Formatted (now (macros .entry)) (now (places .entry)) (now (hashes .entry)) rows (now (book .entry)) at (now (areas .entry)) (now (marks .entry)) (now (row .entry)) (now (out .entry)) o (now (out .exit)) r ⌝ }
+    ensures { λ r. ⌜ Formatted (now (macros .entry)) (now (places .entry)) (now (ways .entry)) rows (now (book .entry)) at (now (areas .entry)) (now (marks .entry)) (now (row .entry)) (now (out .entry)) o (now (out .exit)) r ⌝ }
 {
     let params = name_past(book, at);
     let body = params_past(book, params, marks);
@@ -39,7 +39,7 @@ fn expand_format(
     let r = expand_macros_in_combinator(
         macros,
         places,
-        hashes,
+        ways,
         rows,
         book,
         body,
@@ -67,7 +67,7 @@ fn expand_definition(
     size: usize,
     macros: &[u8],
     places: &[u16],
-    hashes: &[u16],
+    ways: &[u32],
     rows: usize,
     book: &[u8],
     at: usize,
@@ -77,13 +77,13 @@ fn expand_definition(
     out: &mut [u8],
     o: usize,
 ) -> usize
-    ensures { λ r. ⌜ Kept kind size (now (macros .entry)) (now (places .entry)) (now (hashes .entry)) rows (now (book .entry)) at (now (areas .entry)) (now (marks .entry)) (now (row .entry)) (now (out .entry)) o (now (out .exit)) r ⌝ }
+    ensures { λ r. ⌜ Kept kind size (now (macros .entry)) (now (places .entry)) (now (ways .entry)) rows (now (book .entry)) at (now (areas .entry)) (now (marks .entry)) (now (row .entry)) (now (out .entry)) o (now (out .exit)) r ⌝ }
 {
     if kind == 1 {
         return expand_format(
             macros,
             places,
-            hashes,
+            ways,
             rows,
             book,
             at,
@@ -102,7 +102,7 @@ fn expand_definition(
 pub fn expand_all(
     macros: &[u8],
     places: &[u16],
-    hashes: &[u16],
+    ways: &[u32],
     rows: usize,
     book: &[u8],
     areas: &mut [u8],
@@ -111,7 +111,7 @@ pub fn expand_all(
     out: &mut [u8],
     bodies: usize,
 ) -> usize
-    ensures { λ r. ⌜ Booked (now (macros .entry)) (now (places .entry)) (now (hashes .entry)) rows (now (book .entry)) (now (areas .entry)) (now (marks .entry)) (now (row .entry)) (now (out .entry)) bodies (now (out .exit)) r ⌝ }
+    ensures { λ r. ⌜ Booked (now (macros .entry)) (now (places .entry)) (now (ways .entry)) rows (now (book .entry)) (now (areas .entry)) (now (marks .entry)) (now (row .entry)) (now (out .entry)) bodies (now (out .exit)) r ⌝ }
 {
     let mut d = all_definitions(book);
     let mut e = 2;
@@ -129,7 +129,7 @@ pub fn expand_all(
             size,
             macros,
             places,
-            hashes,
+            ways,
             rows,
             book,
             at,

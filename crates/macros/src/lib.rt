@@ -20,17 +20,17 @@ fn expand_marked(macros: &[u8], book: &[u8], areas: &mut [u8], out: &mut [u8]) -
     ensures { λ r. ⌜ Passed (now (macros .entry)) (now (book .entry)) (now (areas .entry)) (now (out .entry)) (now (out .exit)) r ⌝ }
 {
     let mut places = [0u16; 512];
-    let mut hashes = [0u16; 512];
+    let mut ways = [0u32; 1280];
     let mut marks = [0u16; 8192];
     let mut row = [0u16; 8192];
-    let rows = table(macros, &mut places, &mut hashes);
+    let rows = table(macros, &mut places, &mut ways);
     let n = least(count_kept(book), 512);
     put_u16(n as u16, out, 0);
     let bodies = 2 + 6 * n;
     let end = book::expand_all(
         macros,
         &places,
-        &hashes,
+        &ways,
         rows,
         book,
         areas,

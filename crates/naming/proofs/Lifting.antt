@@ -95,13 +95,13 @@ answers n path′ (bad k t) (lifted.Made size v) name sheet good held h = h
 answers n path′ (ok k t) (lifted.Refused c) name sheet good held h = h
 
 -- the tables with other hints
-pub tables-hinted : {s made places hashes hints rows params : List ℕ} {w : Counts} {hints′ : List ℕ} → Tables s made places hashes hints rows params w → Hints (both s made) places hints′ (w .taken) → length hints′ ≡ length hints
-    → Tables s made places hashes hints′ rows params w
+pub tables-hinted : {s made places ways hints rows params : List ℕ} {w : Counts} {hints′ : List ℕ} → Tables s made places ways hints rows params w → Hints (both s made) places hints′ (w .taken) → length hints′ ≡ length hints
+    → Tables s made places ways hints′ rows params w
 tables-hinted t h e = record {
   source = t .source;
   made-long = t .made-long;
   places-long = t .places-long;
-  hashes-long = t .hashes-long;
+  ways-long = t .ways-long;
   hints-long = omega (arith, t .hints-long);
   rows-long = t .rows-long;
   params-long = t .params-long;
@@ -120,20 +120,20 @@ unfolding size
 whole-within {c = c} w = omega (arith, w .ends, here-length (w .is), adds (wCombinator c) (s-comb c) (w .after))
 
 -- ---- the three ways
-module _ {s : List ℕ} {at end : ℕ} {path : List ℕ} {len : ℕ} {env : List Bound} {made places rows params number : List ℕ} {w : Counts} {path′ made′ places′ hashes′ hints′ rows′ params′ number′ : List ℕ} {n : ℕ}
+module _ {s : List ℕ} {at end : ℕ} {path : List ℕ} {len : ℕ} {env : List Bound} {made places rows params number : List ℕ} {w : Counts} {path′ made′ places′ ways′ hints′ rows′ params′ number′ : List ℕ} {n : ℕ}
     (named : (base : Name) → Held path len base → Held path′ n (fresh base (taken (both s made) places (w .taken)))) (kept : take len path′ ≡ take len path) (long : length path′ ≡ 255) where
-  pub refused-name : 255 < n → Lifts s at end path len env made places rows params number w path′ made′ places′ hashes′ hints′ rows′ params′ number′ (Refused 9)
+  pub refused-name : 255 < n → Lifts s at end path len env made places rows params number w path′ made′ places′ ways′ hints′ rows′ params′ number′ (Refused 9)
   unfolding Answers starts sheetOf number
   refused-name h = record { kept = kept; lifts = λ c base finished o held. rw (lt-leb (length (fresh base (taken (both s made) places (w .taken)))) 255 (name-over (named base held) long h)) refl }
 
   module _ (short : n ≤ 255) where
-    pub refused-macro : ((c : Combinator) → Whole s at end c → leftover c ≡ true) → Lifts s at end path len env made places rows params number w path′ made′ places′ hashes′ hints′ rows′ params′ number′ (Refused 7)
+    pub refused-macro : ((c : Combinator) → Whole s at end c → leftover c ≡ true) → Lifts s at end path len env made places rows params number w path′ made′ places′ ways′ hints′ rows′ params′ number′ (Refused 7)
     unfolding Answers starts sheetOf number
     refused-macro h = record { kept = kept; lifts = λ c base finished o held. rw (le-leb (length (fresh base (taken (both s made) places (w .taken)))) 255 (name-short (named base held) long short), h c o) refl }
 
     pub entered-lift : (ns : List Name) (r : Lifted) → ((c : Combinator) → Whole s at end c → (leftover c ≡ false) × (ns ≡ sorted (free c)))
-        → Enters s at end (take n path′) ns env made places rows params number w made′ places′ hashes′ hints′ rows′ params′ number′ r
-        → Lifts s at end path len env made places rows params number w path′ made′ places′ hashes′ hints′ rows′ params′ number′ (namedOf n r)
+        → Enters s at end (take n path′) ns env made places rows params number w made′ places′ ways′ hints′ rows′ params′ number′ r
+        → Lifts s at end path len env made places rows params number w path′ made′ places′ ways′ hints′ rows′ params′ number′ (namedOf n r)
     unfolding starts sheetOf
     entered-lift ns r clear e = record {
       kept = kept;

@@ -49,8 +49,8 @@ Answers (ok b t) (Lift n call w) path sheet good = Held path n (b .name) × (cal
 Answers (bad k t) (Lift n call w) path sheet good = ⊥
 Answers (ok b t) (Refused c) path sheet good = ⊥
 
-pub record Lifts (s : List ℕ) (at end : ℕ) (path : List ℕ) (len : ℕ) (env : List Bound) (made places rows params number : List ℕ) (w : Counts) (path′ made′ places′ hashes′ hints′ rows′ params′ number′ : List ℕ) (r : Named) : Type 0 where
+pub record Lifts (s : List ℕ) (at end : ℕ) (path : List ℕ) (len : ℕ) (env : List Bound) (made places rows params number : List ℕ) (w : Counts) (path′ made′ places′ ways′ hints′ rows′ params′ number′ : List ℕ) (r : Named) : Type 0 where
   pub kept : take len path′ ≡ take len path
   pub lifts : (c : Combinator) (base : Name) (finished : List ℕ) → Whole s at end c → Held path len base
       → Answers (starts c at base env (sheetOf s made places rows params finished w)) r path′ (λ v. sheetOf s made′ places′ rows′ params′ finished v)
-      (λ v. Tables s made′ places′ hashes′ hints′ rows′ params′ v × (number′ ≡ set number at (w .lifts + 1)) × (v .lifts ≡ w .lifts + 1))
+      (λ v. Tables s made′ places′ ways′ hints′ rows′ params′ v × (number′ ≡ set number at (w .lifts + 1)) × (v .lifts ≡ w .lifts + 1))

@@ -43,13 +43,13 @@ pub fn lift_anonymous_combinator(
     spare: &mut [u32],
     made: &mut [u8],
     places: &mut [u16],
-    hashes: &mut [u16],
+    ways: &mut [u32],
     hints: &mut [u16],
     sheet: &mut [u16],
     w: Counts,
 ) -> Named
-    requires { ⌜ Tables (now s) (now made) (now places) (now hashes) (now hints) (rowsIn (now sheet)) (paramsIn (now sheet)) w × Some (now s) at end × Scratch (now s) (now bound) (now uses) (now spare) × (length (now path) ≡ 255) × (b ≤ 65536) × Sized (now binders) b ⌝ }
-    ensures { λ r. ⌜ Lifts (now (s .entry)) at end (now (path .entry)) len (boundFrom (now (s .entry)) (now (binders .entry)) 0 b) (now (made .entry)) (now (places .entry)) (rowsIn (now (sheet .entry))) (paramsIn (now (sheet .entry))) (numberIn (now (sheet .entry))) w (now (path .exit)) (now (made .exit)) (now (places .exit)) (now (hashes .exit)) (now (hints .exit)) (rowsIn (now (sheet .exit))) (paramsIn (now (sheet .exit))) (numberIn (now (sheet .exit))) r × (orderIn (now (sheet .exit)) ≡ orderIn (now (sheet .entry))) ⌝ }
+    requires { ⌜ Tables (now s) (now made) (now places) (now ways) (now hints) (rowsIn (now sheet)) (paramsIn (now sheet)) w × Some (now s) at end × Scratch (now s) (now bound) (now uses) (now spare) × (length (now path) ≡ 255) × (b ≤ 65536) × Sized (now binders) b ⌝ }
+    ensures { λ r. ⌜ Lifts (now (s .entry)) at end (now (path .entry)) len (boundFrom (now (s .entry)) (now (binders .entry)) 0 b) (now (made .entry)) (now (places .entry)) (rowsIn (now (sheet .entry))) (paramsIn (now (sheet .entry))) (numberIn (now (sheet .entry))) w (now (path .exit)) (now (made .exit)) (now (places .exit)) (now (ways .exit)) (now (hints .exit)) (rowsIn (now (sheet .exit))) (paramsIn (now (sheet .exit))) (numberIn (now (sheet .exit))) r × (orderIn (now (sheet .exit)) ≡ orderIn (now (sheet .entry))) ⌝ }
 {
     let taken = w.taken;
     let n = fresh_generated_name(
@@ -58,7 +58,7 @@ pub fn lift_anonymous_combinator(
         s,
         &made[..],
         &places[..],
-        &hashes[..],
+        &ways[..],
         hints,
         taken,
     );
@@ -81,7 +81,7 @@ pub fn lift_anonymous_combinator(
                 b,
                 made,
                 places,
-                hashes,
+                ways,
                 hints,
                 sheet,
                 w,

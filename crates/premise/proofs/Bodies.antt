@@ -1,6 +1,6 @@
 -- The test of a body, and of all.
 -- Assumes nothing.
-use mathlib.Core.Path.{_≡_, refl, sym, ap, _∙_, fun-ext}
+use mathlib.Core.Path.{_≡_, refl, sym, ap, _∙_}
 use mathlib.Core.List.{List, [], _∷_}
 use mathlib.Core.Bool.{Bool, true, false, _&&_}
 use Prim.Native.Nat.{ℕ}
@@ -17,7 +17,9 @@ use Rattle.calls.specs.Walk.{combinatorAt}
 use Rattle.pieces.specs.Marked.{everyPlace}
 use Rattle.pieces.proofs.Marked.{every-by}
 use Rattle.contents.specs.Params.{ParamsPast}
-use Rattle.callable.specs.Named.{rowNames, Named}
+use Rattle.forks.specs.Leads.{Clear}
+use Rattle.kinds.specs.Rows.{rowNames, OfKinds}
+use Rattle.kinds.proofs.Rows.{names-in}
 use Rattle.called.specs.Known.{knownAt}
 use Rattle.bodies.specs.Tested.{FormatTested, BodiesTested}
 use Rattle.bodies.proofs.Tested.{format-tested}
@@ -56,13 +58,13 @@ both-tests ns (constant n x ∷ ds) = both-tests ns ds
 both-tests ns (byte-order x ∷ ds) = both-tests ns ds
 both-tests ns (macro n ps c ∷ ds) = both-tests ns ds
 
-pub test-holds : {s pl hs hi pl′ hs′ hi′ : List ℕ} {n row : ℕ} {r : Bool} → Named s pl hs hi pl′ hs′ hi′ n → length pl ≡ 512 → length hs ≡ 512 → length hi ≡ 512 → row ≡ 8192
+pub test-holds : {s pl ws pl′ ws′ : List ℕ} {n row : ℕ} {r : Bool} → OfKinds s 1 2 pl ws pl′ ws′ n → length pl ≡ 512 → length ws ≡ 1280 → Clear ws → row ≡ 8192
     → BodiesTested s (passes (rowNames s pl′ n)) row r → Holds s r
 unfolding callsKnown chainsPlain
-test-holds {s} {pl′ = pl′} {n = n} t lp lh li lm v = record {
+test-holds {s} {pl′ = pl′} {n = n} t lp lw c lm v = record {
   says = λ ds e b.
       v .says ds e b lm
       ∙ both-tests (rowNames s pl′ n) ds
-      ∙ ap (λ (f : Name → Bool). everyBody (λ c. everyInvocation c f) ds && everyBody chainsOk ds)
-      (fun-ext (λ x. t .says ds e b (record { places-long = omega arith; hashes-long = omega arith; hints-long = omega arith }) x));
+      ∙ ap (λ (ns : List Name). everyBody (λ c. everyInvocation c (λ x. elem x ns)) ds && everyBody chainsOk ds)
+      (names-in (t .right c (omega arith)) ds (t .says ds e b (record { places-long = omega arith; ways-long = omega arith }) .0));
 }

@@ -1,16 +1,16 @@
 // The premise test over an expanded book, on validated bytes: document 01's "Premise test and listing".
-use callable::take_names;
 use called::all_known;
 use contents::all_definitions;
 use contents::next_definition;
 use contents::params_past;
+use kinds::take_kinds;
 use marks::first_marks;
 use seek::byte;
 use seek::name_past;
 use skip::walk_over;
 ghost use lib.ListN.{length};
 ghost use Rattle.bodies.specs.Tested.{FormatTested, DefinitionTested, BodiesTested};
-ghost use Rattle.callable.specs.Named.{Rows, rowNames};
+ghost use Rattle.kinds.specs.Rows.{Rows, rowNames};
 ghost use Rattle.premise.specs.Holds.{passes, Holds};
 
 // The format at a place: its body, behind its name and its parameters.
@@ -18,11 +18,11 @@ fn format_holds(
     s: &[u8],
     at: usize,
     places: &[u16],
-    hashes: &[u16],
+    ways: &[u32],
     n: usize,
     marks: &mut [u16],
 ) -> bool
-    requires { ⌜ Rows (now s) (now places) (now hashes) n ⌝ }
+    requires { ⌜ Rows (now s) (now places) (now ways) n ⌝ }
     ensures { λ r. ⌜ FormatTested (now (s .entry)) at (passes (rowNames (now (s .entry)) (now (places .entry)) n)) (length (now (marks .entry))) r ⌝ }
 {
     let params = name_past(s, at);
@@ -31,7 +31,7 @@ fn format_holds(
     let plain = w.plain;
     let count = w.n;
     if plain {
-        return all_known(s, first_marks(&marks[..], count), places, hashes, n);
+        return all_known(s, first_marks(&marks[..], count), places, ways, n);
     }
     false
 }
@@ -42,22 +42,22 @@ fn definition_holds(
     kind: u8,
     at: usize,
     places: &[u16],
-    hashes: &[u16],
+    ways: &[u32],
     n: usize,
     marks: &mut [u16],
 ) -> bool
-    requires { ⌜ Rows (now s) (now places) (now hashes) n ⌝ }
+    requires { ⌜ Rows (now s) (now places) (now ways) n ⌝ }
     ensures { λ r. ⌜ DefinitionTested (now (s .entry)) kind at (passes (rowNames (now (s .entry)) (now (places .entry)) n)) (length (now (marks .entry))) r ⌝ }
 {
     if kind == 1 {
-        return format_holds(s, at, places, hashes, n, marks);
+        return format_holds(s, at, places, ways, n, marks);
     }
     true
 }
 
 // Every format's body, with the names that may be called in a table.
-fn bodies_hold(s: &[u8], places: &[u16], hashes: &[u16], n: usize, marks: &mut [u16]) -> bool
-    requires { ⌜ Rows (now s) (now places) (now hashes) n ⌝ }
+fn bodies_hold(s: &[u8], places: &[u16], ways: &[u32], n: usize, marks: &mut [u16]) -> bool
+    requires { ⌜ Rows (now s) (now places) (now ways) n ⌝ }
     ensures { λ r. ⌜ BodiesTested (now (s .entry)) (passes (rowNames (now (s .entry)) (now (places .entry)) n)) (length (now (marks .entry))) r ⌝ }
 {
     let mut d = all_definitions(s);
@@ -65,7 +65,7 @@ fn bodies_hold(s: &[u8], places: &[u16], hashes: &[u16], n: usize, marks: &mut [
         let kind = byte(s, d.entry);
         let here = d.at;
         d = next_definition(s, d);
-        if !definition_holds(s, kind, here, places, hashes, n, marks) {
+        if !definition_holds(s, kind, here, places, ways, n, marks) {
             return false;
         }
     }
@@ -77,9 +77,8 @@ pub fn holds(s: &[u8]) -> bool
     ensures { λ r. ⌜ Holds (now (s .entry)) r ⌝ }
 {
     let mut places = [0u16; 512];
-    let mut hashes = [0u16; 512];
-    let mut hints = [0u16; 512];
+    let mut ways = [0u32; 1280];
     let mut marks = [0u16; 8192];
-    let n = take_names(s, &mut places, &mut hashes, &mut hints);
-    bodies_hold(s, &places, &hashes, n, &mut marks)
+    let n = take_kinds(s, 1, 2, &mut places, &mut ways);
+    bodies_hold(s, &places, &ways, n, &mut marks)
 }

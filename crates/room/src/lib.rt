@@ -9,7 +9,7 @@ ghost use lib.ListN.{length};
 ghost use Rattle.report.specs.Elaborates.{Expanded, Lifts};
 
 // The tables of a book of at most 512 bytes: for every byte an end, a number and a use; for every four bytes four numbers of a binder and of a
-// label, with 512 more for the labels' hashes. The numbers stand behind the sheet's other parts, which take 16,180.
+// label, with 512 more for the labels' ways. The numbers stand behind the sheet's other parts, which take 16,180.
 fn lift_small(s: &[u8], out: &mut [u8]) -> Elaborated
     requires { ⌜ Expanded (now s) × (length (now s) ≤ 512) ⌝ }
     ensures { λ r. ⌜ Lifts (now (s .entry)) (now (out .entry)) (now (out .exit)) r ⌝ }

@@ -13,6 +13,7 @@ use Rattle.walk.specs.Steps.{walk}
 use Rattle.calls.specs.Walk.{combinatorAt}
 use Rattle.contents.specs.Params.{ParamsPast}
 use Rattle.bodies.proofs.Tested.{format-tested, definition-format, definition-other}
+use Rattle.forks.specs.Leads.{Clear}
 use Rattle.known.specs.Table.{Tabled}
 use Rattle.unknown.specs.Calls.{AllUnknown}
 use Rattle.settled.specs.Settles.{calm, FormatSettles, DefinitionSettles, BodiesSettle, Settles}
@@ -32,7 +33,7 @@ module _ {lib pl hs : List ℕ} {rows : ℕ} {book : List ℕ} {kind at : ℕ} {
   pub other-settles : (kind ≡ 1 → ⊥) → DefinitionSettles lib pl hs rows book kind at row true
   other-settles q = record { says = λ ms t. definition-other q }
 
-pub book-settles : {lib pl hs pl′ hs′ marks book : List ℕ} {rows : ℕ} {r : Bool} → Tabled lib pl hs pl′ hs′ rows → length pl ≡ 512 → length hs ≡ 512 → length marks ≡ 8192
+pub book-settles : {lib pl hs pl′ hs′ marks book : List ℕ} {rows : ℕ} {r : Bool} → Tabled lib pl hs pl′ hs′ rows → length pl ≡ 512 → length hs ≡ 1280 → Clear hs → length marks ≡ 8192
     → BodiesSettle lib pl′ hs′ rows book marks r → Settles lib book r
 unfolding settled calm
-book-settles t lp lh lm v = record { says = λ ms ds el im eb id. v .says (macros ms []) (t .says ms el im lp lh) .says ds eb id lm }
+book-settles t lp lh cl lm v = record { says = λ ms ds el im eb id. v .says (macros ms []) (t .says ms el im lp lh cl) .says ds eb id lm }

@@ -14,43 +14,36 @@ ghost use Rattle.settled.specs.Settles.{FormatSettles, DefinitionSettles
 fn format_settled(
     macros: &[u8],
     places: &[u16],
-    hashes: &[u16],
+    ways: &[u32],
     rows: usize,
     book: &[u8],
     at: usize,
     marks: &mut [u16],
 ) -> bool
-    ensures { λ r. ⌜ FormatSettles (now (macros .entry)) (now (places .entry)) (now (hashes .entry)) rows (now (book .entry)) at (now (marks .entry)) r ⌝ }
+    ensures { λ r. ⌜ FormatSettles (now (macros .entry)) (now (places .entry)) (now (ways .entry)) rows (now (book .entry)) at (now (marks .entry)) r ⌝ }
 {
     let params = name_past(book, at);
     let body = params_past(book, params, marks);
     let w = walk_over(book, body, 64, marks);
     let n = w.n;
-    all_unknown(
-        macros,
-        places,
-        hashes,
-        rows,
-        book,
-        first_marks(&marks[..], n),
-    )
+    all_unknown(macros, places, ways, rows, book, first_marks(&marks[..], n))
 }
 
 // The definition at a place: the pass reaches only into formats.
 fn definition_settled(
     macros: &[u8],
     places: &[u16],
-    hashes: &[u16],
+    ways: &[u32],
     rows: usize,
     book: &[u8],
     kind: u8,
     at: usize,
     marks: &mut [u16],
 ) -> bool
-    ensures { λ r. ⌜ DefinitionSettles (now (macros .entry)) (now (places .entry)) (now (hashes .entry)) rows (now (book .entry)) kind at (now (marks .entry)) r ⌝ }
+    ensures { λ r. ⌜ DefinitionSettles (now (macros .entry)) (now (places .entry)) (now (ways .entry)) rows (now (book .entry)) kind at (now (marks .entry)) r ⌝ }
 {
     if kind == 1 {
-        return format_settled(macros, places, hashes, rows, book, at, marks);
+        return format_settled(macros, places, ways, rows, book, at, marks);
     }
     true
 }
@@ -59,19 +52,19 @@ fn definition_settled(
 fn bodies_settled(
     macros: &[u8],
     places: &[u16],
-    hashes: &[u16],
+    ways: &[u32],
     rows: usize,
     book: &[u8],
     marks: &mut [u16],
 ) -> bool
-    ensures { λ r. ⌜ BodiesSettle (now (macros .entry)) (now (places .entry)) (now (hashes .entry)) rows (now (book .entry)) (now (marks .entry)) r ⌝ }
+    ensures { λ r. ⌜ BodiesSettle (now (macros .entry)) (now (places .entry)) (now (ways .entry)) rows (now (book .entry)) (now (marks .entry)) r ⌝ }
 {
     let mut d = all_definitions(book);
     while 0 < d.left {
         let kind = byte(book, d.entry);
         let here = d.at;
         d = next_definition(book, d);
-        if !definition_settled(macros, places, hashes, rows, book, kind, here, marks) {
+        if !definition_settled(macros, places, ways, rows, book, kind, here, marks) {
             return false;
         }
     }
@@ -83,8 +76,8 @@ pub fn settled(macros: &[u8], book: &[u8]) -> bool
     ensures { λ r. ⌜ Settles (now (macros .entry)) (now (book .entry)) r ⌝ }
 {
     let mut places = [0u16; 512];
-    let mut hashes = [0u16; 512];
+    let mut ways = [0u32; 1280];
     let mut marks = [0u16; 8192];
-    let rows = table(macros, &mut places, &mut hashes);
-    bodies_settled(macros, &places, &hashes, rows, book, &mut marks)
+    let rows = table(macros, &mut places, &mut ways);
+    bodies_settled(macros, &places, &ways, rows, book, &mut marks)
 }

@@ -122,9 +122,9 @@ pub whole-of : {s : List ℕ} {at last : ℕ} (c : Combinator) → length s ≤ 
 whole-of c small st d e = record { after = st .after; is = st .is; deep = d; ends = e ∙ combinator-end (omega arith) c 64 (st .after) d (omega arith) (st .is) }
 
 -- ---- the three ways
-module _ {s : List ℕ} {at : ℕ} {path : List ℕ} {len : ℕ} {binders : List ℕ} {b : ℕ} {made places hashes hints rows params number : List ℕ} {w : Counts} (small : length s ≤ 16384) {last : ℕ} (ends : last ≡ combinatorEnd 64 s at) where
+module _ {s : List ℕ} {at : ℕ} {path : List ℕ} {len : ℕ} {binders : List ℕ} {b : ℕ} {made places ways hints rows params number : List ℕ} {w : Counts} (small : length s ≤ 16384) {last : ℕ} (ends : last ≡ combinatorEnd 64 s at) where
   pub child-walked : {g : Frame} → anonymousAt 64 s at ≡ false → g ≡ frameAt s at last len b 0 0
-      → Comes s at path len binders b made places hashes hints rows params number w path made places hashes hints rows params number (comes.Opened g w)
+      → Comes s at path len binders b made places ways hints rows params number w path made places ways hints rows params number (comes.Opened g w)
   unfolding ChildIs frameAt OwnIs
   child-walked {g} an e = record {
     kept = refl;
@@ -146,9 +146,9 @@ module _ {s : List ℕ} {at : ℕ} {path : List ℕ} {len : ℕ} {binders : List
         );
   }
 
-  module _ {path′ made′ places′ hashes′ hints′ rows′ params′ number′ : List ℕ} {r : Named} (an : anonymousAt 64 s at ≡ true)
-      (lift : Lifts s at last path len (boundFrom s binders 0 b) made places rows params number w path′ made′ places′ hashes′ hints′ rows′ params′ number′ r) where
-    pub child-refused : (x : ℕ) → r ≡ Refused x → Comes s at path len binders b made places hashes hints rows params number w path′ made′ places′ hashes′ hints′ rows′ params′ number′ (comes.Refused x)
+  module _ {path′ made′ places′ ways′ hints′ rows′ params′ number′ : List ℕ} {r : Named} (an : anonymousAt 64 s at ≡ true)
+      (lift : Lifts s at last path len (boundFrom s binders 0 b) made places rows params number w path′ made′ places′ ways′ hints′ rows′ params′ number′ r) where
+    pub child-refused : (x : ℕ) → r ≡ Refused x → Comes s at path len binders b made places ways hints rows params number w path′ made′ places′ ways′ hints′ rows′ params′ number′ (comes.Refused x)
     unfolding ChildIs
     child-refused x e = record {
       kept = lift .kept;
@@ -159,7 +159,7 @@ module _ {s : List ℕ} {at : ℕ} {path : List ℕ} {len : ℕ} {binders : List
     }
 
     pub child-lifted : {n call own : ℕ} {v : Counts} {g : Frame} → r ≡ Lift n call v → own ≡ w .lifts + 1 → g ≡ frameAt s at last n b own call → length path′ ≡ length path
-        → Comes s at path len binders b made places hashes hints rows params number w path′ made′ places′ hashes′ hints′ rows′ params′ number′ (comes.Opened g v)
+        → Comes s at path len binders b made places ways hints rows params number w path′ made′ places′ ways′ hints′ rows′ params′ number′ (comes.Opened g v)
     unfolding ChildIs frameAt OwnIs sheetOf
     child-lifted {n} {call} {own} {v} {g} e eo eg long = record {
       kept = lift .kept;

@@ -12,8 +12,8 @@ abbrev pub Numbered : List ℕ → List ℕ → List ℕ → List ℕ → List �
 Numbered s made rows params number lifts = (p : ℕ) → p < length s → getD number p 0 ≡ lastFrom (rowsOf s made rows params lifts) 0 p
 
 -- what holds between bodies
-pub record Good (s made places hashes hints rows params number order : List ℕ) (w : Counts) (n : ℕ) : Type 0 where
-  pub tables : Tables s made places hashes hints rows params w
+pub record Good (s made places ways hints rows params number order : List ℕ) (w : Counts) (n : ℕ) : Type 0 where
+  pub tables : Tables s made places ways hints rows params w
   pub number-long : length s ≤ length number
   pub numbered : Numbered s made rows params number (w .lifts)
   pub order-long : 512 ≤ length order

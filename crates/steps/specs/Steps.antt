@@ -58,9 +58,9 @@ unfoldable pub ChildIs : List ℕ → List ℕ → List ℕ → ℕ → ℕ → 
 ChildIs s path binders k at len b c n wait t lifts sheet good (comes.Refused x) = (ws : List Wait) → Refuses (run n ws t) x
 ChildIs s path binders k at len b c n wait t lifts sheet good (comes.Opened g v) = Opened s path binders k at len b c n wait t (sheet v) lifts g v × good v
 
-pub record Comes (s : List ℕ) (at : ℕ) (path : List ℕ) (len : ℕ) (binders : List ℕ) (b : ℕ) (made places hashes hints rows params number : List ℕ) (w : Counts) (path′ made′ places′ hashes′ hints′ rows′ params′ number′ : List ℕ) (r : Child) : Type 0 where
+pub record Comes (s : List ℕ) (at : ℕ) (path : List ℕ) (len : ℕ) (binders : List ℕ) (b : ℕ) (made places ways hints rows params number : List ℕ) (w : Counts) (path′ made′ places′ ways′ hints′ rows′ params′ number′ : List ℕ) (r : Child) : Type 0 where
   pub kept : take len path′ ≡ take len path
   pub comes : (c : Combinator) (base : Name) (k : ℕ) (n : Node) (wait : Wait) (order : List ℕ) (m : ℕ) → Stands s at c → levels c ≤ k + 1 → k < 64 → Held path len base
-      → Opens n c at base wait → boundFrom s binders 0 b ≡ n .env → 4 * b ≤ at → Good s made places hashes hints rows params number order w m
+      → Opens n c at base wait → boundFrom s binders 0 b ≡ n .env → 4 * b ≤ at → Good s made places ways hints rows params number order w m
       → ChildIs s path′ binders k at len b c n wait (sheetOf s made places rows params (take m order) w) (w .lifts) (λ v. sheetOf s made′ places′ rows′ params′ (take m order) v)
-      (λ v. Good s made′ places′ hashes′ hints′ rows′ params′ number′ order v m) r
+      (λ v. Good s made′ places′ ways′ hints′ rows′ params′ number′ order v m) r

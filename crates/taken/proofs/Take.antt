@@ -4,7 +4,7 @@ use mathlib.Core.Path.{_≡_, refl, sym, ap, _∙_}
 use mathlib.Core.Logic.{⊎-elim}
 use mathlib.Core.List.{List, [], _∷_}
 use mathlib.Core.Bool.{true, false}
-use Prim.Native.Nat.{ℕ, zero, suc, _+_, _-_, _%_, _≤_, _<_}
+use Prim.Native.Nat.{ℕ, zero, suc, _+_, _-_, _*_, _%_, _≤_, _<_}
 use native.Mathlib.Omega.{arith}
 use native.Mathlib.Nat.{eq-or-lt-of-le, le-refl}
 use native.Mathlib.Numerals.{add-one}
@@ -20,8 +20,10 @@ use Rattle.lookup.proofs.Names.{yes-no, length-name}
 use Rattle.writer.specs.Buf.{put, part, Wrote, nameBytes}
 use Rattle.writer.proofs.Wrote.{place-fits}
 use Rattle.writer.proofs.Put.{length-put, put-put, part-written, part-put-before, getD-put-before, getD-put-at}
-use Rattle.hash.specs.Hash.{hashOf}
-use Rattle.taken.specs.Taken.{Store, both, row, taken, Table, Hints, Inside, Packed, Grown, Took, Listed}
+use Rattle.forks.specs.Forks.{slotOf, rowAt, Apart, enteredAt}
+use Rattle.forks.specs.Leads.{rowOf, Clear}
+use Rattle.forks.proofs.Rows.{leads-none, leads-same, leads-more}
+use Rattle.taken.specs.Taken.{Store, both, row, taken, Table, Hints, Inside, Packed, Sourced, Entered, Grown, Took, Listed}
 
 -- a name in front makes no other name free
 elem-more : (x m : Name) (l : List Name) → elem x l ≡ true → elem x (m ∷ l) ≡ true
@@ -29,7 +31,7 @@ unfolding elem
 elem-more x m l e = ⊎-elim (λ (q : eqName x m ≡ true). rw q) (λ (q : eqName x m ≡ false). rw q e) (yes-no (eqName x m))
 
 -- ---- places in 16 bits
-source-place : (at : ℕ) → at < 32768 → placeOf at ≡ Source at
+pub source-place : (at : ℕ) → at < 32768 → placeOf at ≡ Source at
 unfolding placeOf
 source-place at h = rw (lt-ltb at 32768 h)
 
@@ -75,14 +77,21 @@ module _ (s : List ℕ) (end : ℕ) (name : Name) (h : length name ≤ 255) (k :
       ap (λ (i : ℕ). take i (drop (end + 1) (put d (end + 1) name))) (sym e) ∙ part-written d (end + 1) name (rw length-put k) in
       rw length-byte (ap (λ (l : List ℕ). take (length name) (drop (end + 1) l)) (sym (put-put s end (b ∷ []) name)) ∙ w)
 
+-- ---- the way of a name to row n, with what the steps gave
+pub entered : (name book made places ways : List ℕ) (n : ℕ) {x r : ℕ} {place : Place} {other ways′ : List ℕ} → x ≡ slotOf ways name n → r ≡ rowAt ways x n → place ≡ placeOf (getD places r 0) → other ≡ nameOf place book made
+    → (ways′ ≡ enteredAt ways name other x n) × Apart name other → Entered name (both book made) places n ways ways′
+unfolding row rowOf
+entered name book made places ways n {x} {r} {place} {other} {ways′} ex er ep eo w =
+    let o : other ≡ row (both book made) places (rowOf ways name n) = eo ∙ rw (ep, er, ex) in
+    record { holds = w .0 ∙ rw (o, ex); apart = rw o at (w .1) }
+
 -- ---- a row is the new one or one of those before
 old-or-new : {G : Type 0} (n i : ℕ) → i < n + 1 → (i ≡ n → G) → (i < n → G) → G
 old-or-new n i k f g = ⊎-elim f g (eq-or-lt-of-le (omega arith))
 
 -- rows whose names are as before, and one more
-module _ (name : Name) (names names′ : Store) (places hashes hints : List ℕ) (n q : ℕ) (t : Table names places hashes n) (h : Hints names places hints n)
-    (kept : (i : ℕ) → i < n → row names′ (set places n q) i ≡ row names places i) (new : row names′ (set places n q) n ≡ name)
-    (short : length name ≤ 255) (a : n < length places) (b : n < length hashes) (c : n < length hints) where
+module _ (name : Name) (names names′ : Store) (places : List ℕ) (n q : ℕ)
+    (kept : (i : ℕ) → i < n → row names′ (set places n q) i ≡ row names places i) (new : row names′ (set places n q) n ≡ name) where
   taken-kept : (m : ℕ) → m ≤ n → taken names′ (set places n q) m ≡ taken names places m
   unfolding taken
   taken-kept zero k = refl
@@ -92,40 +101,43 @@ module _ (name : Name) (names names′ : Store) (places hashes hints : List ℕ)
   unfolding taken
   taken-is = rw (add-one n, new, taken-kept n (le-refl n))
 
-  grown : Grown name names places hashes hints n names′ (set places n q) (set hashes n (hashOf name)) (set hints n 0)
-  grown = record {
-    taken-is = taken-is;
-    table = record {
-      places-long = rw length-set (omega arith);
-      hashes-long = rw length-set (omega arith);
-      hash = λ i k. old-or-new n i k
-          (λ (e : i ≡ n). rw (e, getD-set-same hashes n (hashOf name) 0 b, new))
-          (λ (e : i < n). rw (getD-set-other hashes n i (hashOf name) 0 (λ (z : i ≡ n). omega arith), kept i e) (t .hash i e));
-      short = λ i k. old-or-new n i k (λ (e : i ≡ n). rw (e, new) short) (λ (e : i < n). rw (kept i e) (t .short i e));
-    };
-    hinted = record {
-      hints-long = rw length-set (omega arith);
-      low = λ i k. old-or-new n i k
-          (λ (e : i ≡ n). rw (e, getD-set-same hints n 0 0 c) (omega arith))
-          (λ (e : i < n). rw (getD-set-other hints n i 0 0 (λ (z : i ≡ n). omega arith)) (let y = h .low i e in omega arith));
-      tried = λ i j k m. old-or-new n i k
-          (λ (e : i ≡ n). let z : j < 0 = rw (e, getD-set-same hints n 0 0 c) at m in absurd (omega arith))
-          (λ (e : i < n).
-          let z : j < getD hints i 0 = rw (getD-set-other hints n i 0 0 (λ (z : i ≡ n). omega arith)) at m in
-          rw (taken-is, kept i e) (elem-more _ _ _ (h .tried i j e z)));
-    };
+  module _ {ways ways′ : List ℕ} (w : Entered name names places n ways ways′) (short : length name ≤ 255) (a : n < length places) (few : n < 65535) where
+    pub grown : 256 + 2 * (n + 1) ≤ length ways → Table names places ways n → Grown name names places ways n names′ (set places n q) ways′
+    grown room t = record {
+      taken-is = taken-is;
+      table = record {
+        places-long = rw length-set (omega arith);
+        leads = rw (w .holds) (leads-more (t .leads) few room kept name new short (t .short) (row names places (rowOf ways name n)) (λ h. refl) (w .apart));
+        short = λ i k. old-or-new n i k (λ (e : i ≡ n). rw (e, new) short) (λ (e : i < n). rw (kept i e) (t .short i e));
+      };
+    }
+
+  hinted : (hints : List ℕ) → n < length hints → Hints names places hints n → Hints names′ (set places n q) (set hints n 0) (n + 1)
+  hinted hints c h = record {
+    hints-long = rw length-set (omega arith);
+    low = λ i k. old-or-new n i k
+        (λ (e : i ≡ n). rw (e, getD-set-same hints n 0 0 c) (omega arith))
+        (λ (e : i < n). rw (getD-set-other hints n i 0 0 (λ (z : i ≡ n). omega arith)) (let y = h .low i e in omega arith));
+    tried = λ i j k m. old-or-new n i k
+        (λ (e : i ≡ n). let z : j < 0 = rw (e, getD-set-same hints n 0 0 c) at m in absurd (omega arith))
+        (λ (e : i < n).
+        let z : j < getD hints i 0 = rw (getD-set-other hints n i 0 0 (λ (z : i ≡ n). omega arith)) at m in
+        rw (taken-is, kept i e) (elem-more _ _ _ (h .tried i j e z)));
   }
 
 place-kept : (places : List ℕ) (n q i : ℕ) → i < n → getD (set places n q) i 0 ≡ getD places i 0
 place-kept places n q i e = getD-set-other places n i q 0 (λ (z : i ≡ n). omega arith)
 
 -- ---- a generated name
-module _ (name : Name) (made : List ℕ) (end : ℕ) (places hashes hints : List ℕ) (n : ℕ)
-    (short : length name ≤ 255) (room : end + 1 + length name ≤ length made) (a : n < length places) (b : n < length hashes) (c : n < length hints) where
+module _ (name : Name) (book made : List ℕ) (end : ℕ) (places : List ℕ) (n : ℕ)
+    (short : length name ≤ 255) (room : end + 1 + length name ≤ length made) (a : n < length places) where
+  abbrev made′ : List ℕ
+  made′ = put made end (nameBytes name)
+
   new-place : placeOf (getD (set places n (32768 + end)) n 0) ≡ Made end
   new-place = rw (getD-set-same places n (32768 + end) 0 a) (made-place end)
 
-  made-packed : Packed made places n end → Packed (put made end (nameBytes name)) (set places n (32768 + end)) (n + 1) (end + 1 + length name)
+  made-packed : Packed made places n end → Packed made′ (set places n (32768 + end)) (n + 1) (end + 1 + length name)
   unfolding Inside
   made-packed p = record {
     room = rw length-put room;
@@ -134,54 +146,92 @@ module _ (name : Name) (made : List ℕ) (end : ℕ) (places hashes hints : List
         (λ (e : i < n). rw (place-kept places n (32768 + end) i e) (inside-kept (placeOf (getD places i 0)) made end (nameBytes name) (end + 1 + length name) (omega arith) (p .inside i e)));
   }
 
-  made-grown : (book : List ℕ) → Table (both book made) places hashes n → Hints (both book made) places hints n → Packed made places n end
-      → Grown name (both book made) places hashes hints n (both book (put made end (nameBytes name))) (set places n (32768 + end)) (set hashes n (hashOf name)) (set hints n 0)
+  rows-kept : Packed made places n end → (i : ℕ) → i < n → row (both book made′) (set places n (32768 + end)) i ≡ row (both book made) places i
   unfolding row nameOf
-  made-grown book t h p =
-      grown name (both book made) (both book (put made end (nameBytes name))) places hashes hints n (32768 + end) t h
-      (λ i e. rw (place-kept places n (32768 + end) i e) (name-kept (placeOf (getD places i 0)) book made end (nameBytes name) (p .inside i e)))
-      (rw new-place (name-here made end name short room))
-      short a b c
+  rows-kept p i e = rw (place-kept places n (32768 + end) i e) (name-kept (placeOf (getD places i 0)) book made end (nameBytes name) (p .inside i e))
+
+  new-row : row (both book made′) (set places n (32768 + end)) n ≡ name
+  unfolding row nameOf
+  new-row = rw new-place (name-here made end name short room)
 
   -- all of it, of buffers that hold what was written
-  pub took : {made′ l hs ks : List ℕ} {r : ℕ} → Wrote made end (nameBytes name) made′ r → l ≡ set places n (32768 + end) → hs ≡ set hashes n (hashOf name) → ks ≡ set hints n 0
-      → Took name made end places hashes hints n made′ l hs ks r
+  pub took : {ways ways′ hints : List ℕ} → Entered name (both book made) places n ways ways′ → length ways′ ≡ length ways → n < 65535 → n < length hints
+      → {made″ l ks : List ℕ} {r : ℕ} → Wrote made end (nameBytes name) made″ r → l ≡ set places n (32768 + end) → ks ≡ set hints n 0
+      → Took name book made end places ways hints n made″ l ways′ ks r
   unfolding nameBytes
-  took w el eh ek =
+  took {hints = hints} v long few c w el ek =
       let next = place-fits w (omega arith) in
       let m = next ∙ (let z : end + length (nameBytes name) ≡ end + 1 + length name = omega arith in z) in
-      rw (w .holds, m, el, eh, ek)
+      rw (w .holds, m, el, ek)
       (record {
         next = refl;
         made-holds = refl;
         places-hold = refl;
-        hashes-hold = refl;
+        ways-long = long;
         hints-hold = refl;
         packed = made-packed;
-        grown = made-grown;
+        grown = λ d t p. grown name (both book made) (both book made′) places n (32768 + end) (rows-kept p) new-row v short a few d t;
+        hinted = λ d t h p. hinted name (both book made) (both book made′) places n (32768 + end) (rows-kept p) new-row hints c h;
       })
 
 -- ---- a name of the book
-module _ (book : List ℕ) (at : ℕ) (places hashes hints : List ℕ) (n : ℕ) (small : at < 32768) (byte : getD book at 0 < 256) (a : n < length places) (b : n < length hashes) (c : n < length hints) where
+module _ (book : List ℕ) (at : ℕ) (places : List ℕ) (n : ℕ) (small : at < 32768) (byte : getD book at 0 < 256) (a : n < length places) (few : n < 65535) where
   source-new : placeOf (getD (set places n at) n 0) ≡ Source at
   source-new = rw (getD-set-same places n at 0 a) (source-place at small)
 
-  source-packed : (made : List ℕ) (end : ℕ) → Packed made places n end → Packed made (set places n at) (n + 1) end
-  unfolding Inside
-  source-packed made end p = record {
-    room = p .room;
-    inside = λ i k. old-or-new n i k (λ (e : i ≡ n). rw (e, source-new) tt) (λ (e : i < n). rw (place-kept places n at i e) (p .inside i e));
+  rows-stay : (i : ℕ) → i < n → row (both book []) (set places n at) i ≡ row (both book []) places i
+  unfolding row
+  rows-stay i e = rw (place-kept places n at i e)
+
+  listed-row : row (both book []) (set places n at) n ≡ nameAt book at
+  unfolding row nameOf
+  listed-row = rw source-new
+
+  pub name-short : length (nameAt book at) ≤ 255
+  name-short = let y = length-name book at in omega arith
+
+  pub listed : {ways ways′ : List ℕ} → Entered (nameAt book at) (both book []) places n ways ways′ → length ways′ ≡ length ways → {l : List ℕ} → l ≡ set places n at → Listed book at places ways n l ways′
+  listed v long el =
+      rw el
+      (record {
+        places-hold = refl;
+        ways-long = long;
+        grown = λ d t. grown (nameAt book at) (both book []) (both book []) places n at rows-stay listed-row v name-short a few d t;
+      })
+
+-- ---- names that stand in the book, whatever the generated names are
+module _ (book : List ℕ) {places : List ℕ} {n : ℕ} (z : Sourced places n) (made : List ℕ) where
+  anywhere : (i : ℕ) → i < n → row (both book made) places i ≡ row (both book []) places i
+  unfolding row nameOf
+  anywhere i h = rw (source-place (getD places i 0) (z .low i h))
+
+  pub table-anywhere : {ways : List ℕ} → Table (both book []) places ways n → Table (both book made) places ways n
+  table-anywhere t = record {
+    places-long = t .places-long;
+    leads = leads-same (t .leads) anywhere;
+    short = λ i h. rw (anywhere i h) (t .short i h);
   }
 
-  source-grown : (made : List ℕ) → Table (both book made) places hashes n → Hints (both book made) places hints n
-      → Grown (nameAt book at) (both book made) places hashes hints n (both book made) (set places n at) (set hashes n (hashOf (nameAt book at))) (set hints n 0)
-  unfolding row nameOf
-  source-grown made t h =
-      grown (nameAt book at) (both book made) (both book made) places hashes hints n at t h
-      (λ i e. rw (place-kept places n at i e))
-      (rw source-new)
-      (let y = length-name book at in omega arith) a b c
+  names-anywhere : (m : ℕ) → m ≤ n → taken (both book made) places m ≡ taken (both book []) places m
+  unfolding taken
+  names-anywhere zero h = refl
+  names-anywhere (suc m) h = rw (anywhere m h, names-anywhere m (omega arith))
 
-  pub listed : {l hs ks : List ℕ} → l ≡ set places n at → hs ≡ set hashes n (hashOf (nameAt book at)) → ks ≡ set hints n 0 → Listed book at places hashes hints n l hs ks
-  listed el eh ek =
-      rw (el, eh, ek) (record { places-hold = refl; hashes-hold = refl; hints-hold = refl; packed = source-packed; grown = source-grown })
+  pub taken-anywhere : taken (both book made) places n ≡ taken (both book []) places n
+  taken-anywhere = names-anywhere n (le-refl n)
+
+  pub packed-anywhere : Packed made places n 0
+  unfolding Inside
+  packed-anywhere = record { room = omega arith; inside = λ i h. rw (source-place (getD places i 0) (z .low i h)) tt }
+
+-- rows whose hints say nothing
+pub hints-none : (names : Store) (places hints : List ℕ) (n : ℕ) → n ≤ length hints → ((i : ℕ) → i < n → getD hints i 0 ≡ 0) → Hints names places hints n
+hints-none names places hints n long f = record {
+  hints-long = long;
+  low = λ i h. let z = f i h in omega arith;
+  tried = λ i j h k. absurd (let z = f i h in omega arith);
+}
+
+-- no row
+pub table-none : (names : Store) (places ways : List ℕ) → Clear ways → 256 ≤ length ways → Table names places ways 0
+table-none names places ways c h = record { places-long = omega arith; leads = leads-none (row names places) ways c h; short = λ i k. absurd (omega arith) }

@@ -1,9 +1,9 @@
--- The names taken so far. Each has a row that keeps its place, a hash, and a number below which all of its numbered names are known to be taken. A row only remembers: what it says is right.
+-- The names taken so far. Each has a row that keeps its place and a number below which all of its numbered names are known to be taken, and a way leads to it. A row only remembers: what it says is right.
 -- Assumes nothing.
 use mathlib.Core.Path.{_≡_}
 use mathlib.Core.List.{List, [], _∷_}
 use mathlib.Core.Bool.{true}
-use Prim.Native.Nat.{ℕ, zero, suc, _+_, _≤_, _<_}
+use Prim.Native.Nat.{ℕ, zero, suc, _+_, _*_, _≤_, _<_}
 use lib.ListN.{length, getD, set}
 use Rattle.definition.specs.Tree.{Name}
 use Rattle.definition.specs.Names.{elem, numbered}
@@ -11,7 +11,8 @@ use Rattle.lookup.specs.declared.Place.{Place}
 use Rattle.lookup.specs.declared.Place.the-variants.{Source, Made}
 use Rattle.lookup.specs.Name.{nameAt, nameOf, placeOf}
 use Rattle.writer.specs.Buf.{put, nameBytes}
-use Rattle.hash.specs.Hash.{hashOf}
+use Rattle.forks.specs.Forks.{slotOf, Apart, enteredAt}
+use Rattle.forks.specs.Leads.{rowOf, Leads}
 
 -- "source names from the book, generated names from the work area"
 pub record Store : Type 0 where
@@ -29,11 +30,10 @@ unfoldable pub taken : Store → List ℕ → ℕ → List Name
 taken names places zero = []
 taken names places (suc n) = row names places n ∷ taken names places n
 
--- each row has its hash, and no name is longer than 255 bytes
-pub record Table (names : Store) (places hashes : List ℕ) (n : ℕ) : Type 0 where
+-- each name's way leads to the first row of that name, and no name is longer than 255 bytes
+pub record Table (names : Store) (places ways : List ℕ) (n : ℕ) : Type 0 where
   pub places-long : n ≤ length places
-  pub hashes-long : n ≤ length hashes
-  pub hash : (i : ℕ) → i < n → getD hashes i 0 ≡ hashOf (row names places i)
+  pub leads : Leads (row names places) ways n
   pub short : (i : ℕ) → i < n → length (row names places i) ≤ 255
 
 -- of each name the numbered ones below its hint are taken
@@ -51,28 +51,33 @@ pub record Packed (made places : List ℕ) (n end : ℕ) : Type 0 where
   pub room : end ≤ length made
   pub inside : (i : ℕ) → i < n → Inside (placeOf (getD places i 0)) made end
 
+-- all of the first n names stand in the book
+pub record Sourced (places : List ℕ) (n : ℕ) : Type 0 where
+  pub low : (i : ℕ) → i < n → getD places i 0 < 32768
+
+-- the way of a name to row n
+pub record Entered (name : Name) (names : Store) (places : List ℕ) (n : ℕ) (ways ways′ : List ℕ) : Type 0 where
+  pub holds : ways′ ≡ enteredAt ways name (row names places (rowOf ways name n)) (slotOf ways name n) n
+  pub apart : Apart name (row names places (rowOf ways name n))
+
 -- a name more
-pub record Grown (name : Name) (names : Store) (places hashes hints : List ℕ) (n : ℕ) (names′ : Store) (places′ hashes′ hints′ : List ℕ) : Type 0 where
+pub record Grown (name : Name) (names : Store) (places ways : List ℕ) (n : ℕ) (names′ : Store) (places′ ways′ : List ℕ) : Type 0 where
   pub taken-is : taken names′ places′ (n + 1) ≡ name ∷ taken names places n
-  pub table : Table names′ places′ hashes′ (n + 1)
-  pub hinted : Hints names′ places′ hints′ (n + 1)
+  pub table : Table names′ places′ ways′ (n + 1)
 
 -- "A lifted name is taken": what the buffers hold then
-pub record Took (name : Name) (made : List ℕ) (end : ℕ) (places hashes hints : List ℕ) (n : ℕ) (made′ places′ hashes′ hints′ : List ℕ) (r : ℕ) : Type 0 where
+pub record Took (name : Name) (book made : List ℕ) (end : ℕ) (places ways hints : List ℕ) (n : ℕ) (made′ places′ ways′ hints′ : List ℕ) (r : ℕ) : Type 0 where
   pub next : r ≡ end + 1 + length name
   pub made-holds : made′ ≡ put made end (nameBytes name)
   pub places-hold : places′ ≡ set places n (32768 + end)
-  pub hashes-hold : hashes′ ≡ set hashes n (hashOf name)
+  pub ways-long : length ways′ ≡ length ways
   pub hints-hold : hints′ ≡ set hints n 0
   pub packed : Packed made places n end → Packed made′ places′ (n + 1) r
-  pub grown : (book : List ℕ) → Table (both book made) places hashes n → Hints (both book made) places hints n → Packed made places n end
-      → Grown name (both book made) places hashes hints n (both book made′) places′ hashes′ hints′
+  pub grown : 256 + 2 * (n + 1) ≤ length ways → Table (both book made) places ways n → Packed made places n end → Grown name (both book made) places ways n (both book made′) places′ ways′
+  pub hinted : 256 + 2 * (n + 1) ≤ length ways → Table (both book made) places ways n → Hints (both book made) places hints n → Packed made places n end → Hints (both book made′) places′ hints′ (n + 1)
 
--- "Taken at the start: all kind 1 and 2 names": one of them, where it stands in the book
-pub record Listed (book : List ℕ) (at : ℕ) (places hashes hints : List ℕ) (n : ℕ) (places′ hashes′ hints′ : List ℕ) : Type 0 where
+-- a name that stands in the book, where all that have a row stand
+pub record Listed (book : List ℕ) (at : ℕ) (places ways : List ℕ) (n : ℕ) (places′ ways′ : List ℕ) : Type 0 where
   pub places-hold : places′ ≡ set places n at
-  pub hashes-hold : hashes′ ≡ set hashes n (hashOf (nameAt book at))
-  pub hints-hold : hints′ ≡ set hints n 0
-  pub packed : (made : List ℕ) (end : ℕ) → Packed made places n end → Packed made places′ (n + 1) end
-  pub grown : (made : List ℕ) → Table (both book made) places hashes n → Hints (both book made) places hints n
-      → Grown (nameAt book at) (both book made) places hashes hints n (both book made) places′ hashes′ hints′
+  pub ways-long : length ways′ ≡ length ways
+  pub grown : 256 + 2 * (n + 1) ≤ length ways → Table (both book []) places ways n → Grown (nameAt book at) (both book []) places ways n (both book []) places′ ways′

@@ -10,17 +10,17 @@ ghost use Rattle.unknown.specs.Calls.{UnknownAt, AllUnknown};
 fn is_unknown(
     macros: &[u8],
     places: &[u16],
-    hashes: &[u16],
+    ways: &[u32],
     rows: usize,
     book: &[u8],
     call: usize,
 ) -> bool
-    ensures { λ r. ⌜ UnknownAt (now (macros .entry)) (now (places .entry)) (now (hashes .entry)) rows (now (book .entry)) call r ⌝ }
+    ensures { λ r. ⌜ UnknownAt (now (macros .entry)) (now (places .entry)) (now (ways .entry)) rows (now (book .entry)) call r ⌝ }
 {
     let tag = byte(book, call);
     let a = past(book, call, 1);
     if tag == 16 {
-        let found = find_macro(name_at(book, a), macros, places, hashes, rows);
+        let found = find_macro(name_at(book, a), macros, places, ways, rows);
         match found {
             Found::At { at } => {
                 return false;
@@ -37,18 +37,18 @@ fn is_unknown(
 pub fn all_unknown(
     macros: &[u8],
     places: &[u16],
-    hashes: &[u16],
+    ways: &[u32],
     rows: usize,
     book: &[u8],
     marks: &[u16],
 ) -> bool
-    ensures { λ r. ⌜ AllUnknown (now (macros .entry)) (now (places .entry)) (now (hashes .entry)) rows (now (book .entry)) (now (marks .entry)) r ⌝ }
+    ensures { λ r. ⌜ AllUnknown (now (macros .entry)) (now (places .entry)) (now (ways .entry)) rows (now (book .entry)) (now (marks .entry)) r ⌝ }
 {
     let mut i = 0;
     while i + 1 < marks.len() {
         let call = marks[i] as usize;
         i += 2;
-        if !is_unknown(macros, places, hashes, rows, book, call) {
+        if !is_unknown(macros, places, ways, rows, book, call) {
             return false;
         }
     }

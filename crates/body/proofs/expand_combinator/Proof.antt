@@ -10,12 +10,12 @@ use Rattle.body.proofs.expand_combinator.Statement.{statement}
 use Rattle.body.proofs.expand_combinator.Tie as tie
 
 abbrev Inv-loop : tie.InvT-loop
-Inv-loop s ends at path₀ len binders₀ b bound₀ uses₀ spare₀ made₀ places₀ hashes₀ hints₀ sheet₀ n end last frames₀ f₀ d₀ counts₀ finished₀ path binders bound uses spare made places hashes hints sheet frames f d counts finished =
-    Round s at path₀ len binders₀ b made₀ places₀ (rowsIn sheet₀) (paramsIn sheet₀) (orderIn sheet₀) counts₀ n path binders bound uses spare made places hashes hints (rowsIn sheet) (paramsIn sheet) (numberIn sheet) (orderIn sheet) frames f d counts finished
-    × Lengths path₀ binders₀ bound₀ uses₀ spare₀ made₀ places₀ hashes₀ hints₀ sheet₀ path binders bound uses spare made places hashes hints sheet
+Inv-loop s ends at path₀ len binders₀ b bound₀ uses₀ spare₀ made₀ places₀ ways₀ hints₀ sheet₀ n end last frames₀ f₀ d₀ counts₀ finished₀ path binders bound uses spare made places ways hints sheet frames f d counts finished =
+    Round s at path₀ len binders₀ b made₀ places₀ (rowsIn sheet₀) (paramsIn sheet₀) (orderIn sheet₀) counts₀ n path binders bound uses spare made places ways hints (rowsIn sheet) (paramsIn sheet) (numberIn sheet) (orderIn sheet) frames f d counts finished
+    × Lengths path₀ binders₀ bound₀ uses₀ spare₀ made₀ places₀ ways₀ hints₀ sheet₀ path binders bound uses spare made places ways hints sheet
 
 abbrev μ-loop : tie.MeasureT-loop
-μ-loop s ends at path₀ len binders₀ b bound₀ uses₀ spare₀ made₀ places₀ hashes₀ hints₀ sheet₀ n end last frames₀ f₀ d₀ counts₀ finished₀ path binders bound uses spare made places hashes hints sheet frames f d counts finished =
+μ-loop s ends at path₀ len binders₀ b bound₀ uses₀ spare₀ made₀ places₀ ways₀ hints₀ sheet₀ n end last frames₀ f₀ d₀ counts₀ finished₀ path binders bound uses spare made places ways hints sheet frames f d counts finished =
     left s frames f d
 
 end-of-requires : tie.Need-end-of-requires Inv-loop μ-loop
@@ -28,7 +28,7 @@ open-node-requires : tie.Need-open-node-requires Inv-loop μ-loop
 open-node-requires c κs = c .before .end-of .ensures
 
 loop-holds : tie.Need-loop-holds Inv-loop μ-loop
-loop-holds c = (round-start _ (c .before .before .before .before .before .before .before .before .before .before .before .before .before .before .before .pre .2) (c .before .before .before .before .before .before .before .before .before .before .before .before .before .before .before .pre .0) (c .before .before .before .before .before .before .before .before .before .before .before .before .before .before .before .pre .1) (c .open-node .ensures) refl, record { path = refl; binders = refl; bound = refl; uses = refl; spare = refl; made = refl; places = refl; hashes = refl; hints = refl; sheet = refl })
+loop-holds c = (round-start _ (c .before .before .before .before .before .before .before .before .before .before .before .before .before .before .before .pre .2) (c .before .before .before .before .before .before .before .before .before .before .before .before .before .before .before .pre .0) (c .before .before .before .before .before .before .before .before .before .before .before .before .before .before .before .pre .1) (c .open-node .ensures) refl, record { path = refl; binders = refl; bound = refl; uses = refl; spare = refl; made = refl; places = refl; ways = refl; hints = refl; sheet = refl })
 
 pass-requires : tie.Need-pass-requires Inv-loop μ-loop
 pass-requires c κs = pass-safe (c .before .before .before .before .before .before .before .loop .inv .0)
@@ -39,7 +39,7 @@ loop-less c = round-less-pass (c .before .before .before .before .before .before
 loop-again : tie.Need-loop-again Inv-loop μ-loop
 loop-again c = (
   round-pass (c .before .before .before .before .before .before .before .before .loop .inv .0) _ (c .before .before .before .before .before .before .next-step .ensures) (c .before .before .step .given .1) (c .pass .ensures),
-  lengths-on (c .before .before .before .before .before .before .before .before .loop .inv .1) (record { path = c .before .before .before .before .before .path .given; binders = refl; bound = refl; uses = refl; spare = refl; made = refl; places = refl; hashes = refl; hints = refl; sheet = refl }),
+  lengths-on (c .before .before .before .before .before .before .before .before .loop .inv .1) (record { path = c .before .before .before .before .before .path .given; binders = refl; bound = refl; uses = refl; spare = refl; made = refl; places = refl; ways = refl; hints = refl; sheet = refl }),
 )
 
 close-node-requires : tie.Need-close-node-requires Inv-loop μ-loop
@@ -67,7 +67,7 @@ same-length-7 : tie.Need-same-length-7 Inv-loop μ-loop
 same-length-7 c = c .before .before .before .before .before .before .before .before .before .before .before .loop .inv .1 .places
 
 same-length-8 : tie.Need-same-length-8 Inv-loop μ-loop
-same-length-8 c = c .before .before .before .before .before .before .before .before .before .before .before .loop .inv .1 .hashes
+same-length-8 c = c .before .before .before .before .before .before .before .before .before .before .before .loop .inv .1 .ways
 
 same-length-9 : tie.Need-same-length-9 Inv-loop μ-loop
 same-length-9 c = c .before .before .before .before .before .before .before .before .before .before .before .loop .inv .1 .hints
@@ -93,7 +93,7 @@ loop-less-2 c = round-less-back (c .before .before .before .before .before .befo
 loop-again-2 : tie.Need-loop-again-2 Inv-loop μ-loop
 loop-again-2 c = (
   round-back (c .before .before .before .before .before .before .before .before .before .before .before .before .before .before .before .before .loop .inv .0) _ (c .before .before .before .before .before .before .before .before .before .before .before .before .before .before .next-step .ensures) (c .before .before .before .before .before .before .before .before .before .before .enum-told .given .1) (c .before .before .before .before .before .before .before .before .close-node .ensures .0) (c .before .before .before .before .before .before .before .before .close-node .ensures .1) (some _ (c .before .before .before .before .before .if1 .left)) (c .before .before .resume-node .ensures .0) (c .before .before .resume-node .ensures .1),
-  lengths-on (c .before .before .before .before .before .before .before .before .before .before .before .before .before .before .before .before .loop .inv .1) (record { path = c .before .before .before .before .before .before .before .before .before .before .before .before .before .path .given; binders = c .before .binders .given; bound = refl; uses = refl; spare = refl; made = refl; places = refl; hashes = refl; hints = refl; sheet = c .before .before .before .before .before .before .before .sheet .given }),
+  lengths-on (c .before .before .before .before .before .before .before .before .before .before .before .before .before .before .before .before .loop .inv .1) (record { path = c .before .before .before .before .before .before .before .before .before .before .before .before .before .path .given; binders = c .before .binders .given; bound = refl; uses = refl; spare = refl; made = refl; places = refl; ways = refl; hints = refl; sheet = c .before .before .before .before .before .before .before .sheet .given }),
 )
 
 open-child-requires : tie.Need-open-child-requires Inv-loop μ-loop
@@ -121,7 +121,7 @@ same-length-17 : tie.Need-same-length-17 Inv-loop μ-loop
 same-length-17 c = c .before .before .before .before .before .before .before .before .before .before .places .given ∙ c .before .before .before .before .before .before .before .before .before .before .before .before .before .before .before .before .before .before .before .before .before .before .before .before .before .before .before .before .before .before .before .before .before .before .before .before .before .before .before .loop .inv .1 .places
 
 same-length-18 : tie.Need-same-length-18 Inv-loop μ-loop
-same-length-18 c = c .before .before .before .before .before .before .before .before .hashes .given ∙ c .before .before .before .before .before .before .before .before .before .before .before .before .before .before .before .before .before .before .before .before .before .before .before .before .before .before .before .before .before .before .before .before .before .before .before .before .before .before .before .loop .inv .1 .hashes
+same-length-18 c = c .before .before .before .before .before .before .before .before .ways .given ∙ c .before .before .before .before .before .before .before .before .before .before .before .before .before .before .before .before .before .before .before .before .before .before .before .before .before .before .before .before .before .before .before .before .before .before .before .before .before .before .before .loop .inv .1 .ways
 
 same-length-19 : tie.Need-same-length-19 Inv-loop μ-loop
 same-length-19 c = c .before .before .before .before .before .before .hints .given ∙ c .before .before .before .before .before .before .before .before .before .before .before .before .before .before .before .before .before .before .before .before .before .before .before .before .before .before .before .before .before .before .before .before .before .before .before .before .before .before .before .loop .inv .1 .hints
@@ -147,7 +147,7 @@ loop-less-3 c = round-less-open (c .before .before .before .before .before .befo
 loop-again-3 : tie.Need-loop-again-3 Inv-loop μ-loop
 loop-again-3 c = (
   round-open (c .before .before .before .before .before .before .before .before .before .before .before .before .before .before .before .before .before .before .before .before .before .before .before .before .before .before .before .before .before .before .before .before .before .before .before .before .before .before .before .loop .inv .0) _ (c .before .before .before .before .before .before .before .before .before .before .before .before .before .before .before .before .before .before .before .before .before .before .before .before .before .before .before .before .before .before .before .before .before .before .before .before .before .next-step .ensures) (c .before .before .before .before .before .before .before .before .before .before .before .before .before .before .before .before .before .before .before .before .before .before .before .before .before .before .before .before .before .before .before .before .before .step2 .given .1) (c .before .before .before .before .before .before .before .before .before .before .before .before .before .before .before .before .before .before .before .before .before .before .before .before .before .before .before .before .before .before .before .before .before .before .before .before .path .given) (c .before .before .before .before .before .before .before .before .before .before .before .before .before .before .before .before .before .before .before .before .before .open-child .ensures .0) (c .before .child2 .given .1) (c .before .before .before .before .before .before .before .before .before .before .before .before .before .before .before .before .before .before .before .before .before .open-child .ensures .1) (c .before .before .before .before .before .before .before .before .before .before .before .before .before .before .before .before .before .before .before .before .path2 .given) (c .before .before .before .before .before .before .before .before .before .before .before .before .before .before .before .before .before .before .bound .given) (c .before .before .before .before .before .before .before .before .before .before .before .before .before .before .before .before .uses .given) (c .before .before .before .before .before .before .before .before .before .before .before .before .before .before .spare .given),
-  lengths-on (c .before .before .before .before .before .before .before .before .before .before .before .before .before .before .before .before .before .before .before .before .before .before .before .before .before .before .before .before .before .before .before .before .before .before .before .before .before .before .before .loop .inv .1) (record { path = c .before .before .before .before .before .before .before .before .before .before .before .before .before .before .before .before .before .before .before .before .path2 .given ∙ c .before .before .before .before .before .before .before .before .before .before .before .before .before .before .before .before .before .before .before .before .before .before .before .before .before .before .before .before .before .before .before .before .before .before .before .before .path .given; binders = refl; bound = c .before .before .before .before .before .before .before .before .before .before .before .before .before .before .before .before .before .before .bound .given; uses = c .before .before .before .before .before .before .before .before .before .before .before .before .before .before .before .before .uses .given; spare = c .before .before .before .before .before .before .before .before .before .before .before .before .before .before .spare .given; made = c .before .before .before .before .before .before .before .before .before .before .before .before .made .given; places = c .before .before .before .before .before .before .before .before .before .before .places .given; hashes = c .before .before .before .before .before .before .before .before .hashes .given; hints = c .before .before .before .before .before .before .hints .given; sheet = c .before .before .before .before .sheet2 .given }),
+  lengths-on (c .before .before .before .before .before .before .before .before .before .before .before .before .before .before .before .before .before .before .before .before .before .before .before .before .before .before .before .before .before .before .before .before .before .before .before .before .before .before .before .loop .inv .1) (record { path = c .before .before .before .before .before .before .before .before .before .before .before .before .before .before .before .before .before .before .before .before .path2 .given ∙ c .before .before .before .before .before .before .before .before .before .before .before .before .before .before .before .before .before .before .before .before .before .before .before .before .before .before .before .before .before .before .before .before .before .before .before .before .path .given; binders = refl; bound = c .before .before .before .before .before .before .before .before .before .before .before .before .before .before .before .before .before .before .bound .given; uses = c .before .before .before .before .before .before .before .before .before .before .before .before .before .before .before .before .uses .given; spare = c .before .before .before .before .before .before .before .before .before .before .before .before .before .before .spare .given; made = c .before .before .before .before .before .before .before .before .before .before .before .before .made .given; places = c .before .before .before .before .before .before .before .before .before .before .places .given; ways = c .before .before .before .before .before .before .before .before .ways .given; hints = c .before .before .before .before .before .before .hints .given; sheet = c .before .before .before .before .sheet2 .given }),
 )
 
 pub expand-combinator-spec : {M : Type 1} → statement M

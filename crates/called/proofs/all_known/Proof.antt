@@ -13,10 +13,10 @@ use Rattle.called.proofs.all_known.Statement.{statement}
 use Rattle.called.proofs.all_known.Tie as tie
 
 abbrev Inv-loop : tie.InvT-loop
-Inv-loop s marks places hashes n i₀ i = (i ≤ length marks) × (everyPlace (knownAt s places n) marks ≡ everyPlace (knownAt s places n) (drop i marks))
+Inv-loop s marks places ways n i₀ i = (i ≤ length marks) × (everyPlace (knownAt s places n) marks ≡ everyPlace (knownAt s places n) (drop i marks))
 
 abbrev μ-loop : tie.MeasureT-loop
-μ-loop s marks places hashes n i₀ i = length marks - i
+μ-loop s marks places ways n i₀ i = length marks - i
 
 loop-holds : tie.Need-loop-holds Inv-loop μ-loop
 loop-holds c = (omega arith, refl)

@@ -18,7 +18,7 @@ slice-aggregate-find-name : tie.Need-slice-aggregate-find-name
 slice-aggregate-find-name c = search needs
 
 find-name-requires : tie.Need-find-name-requires
-find-name-requires c κs = c .before .before .before .before .before .before .before .before .pre .table _
+find-name-requires c κs = c .before .before .before .before .before .before .before .before .pre .table
 
 returns : tie.Need-returns
 returns c = found-known _ _ _ _ _ (c .before .before .before .before .before .byte .ensures) (c .before .before .before .if1 .taken) _ (c .before .before .before .before .past .ensures) _ (c .before .before .name-at .ensures) (c .find-name .ensures)

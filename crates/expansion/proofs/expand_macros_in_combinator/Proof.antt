@@ -10,11 +10,11 @@ use Rattle.expansion.proofs.expand_macros_in_combinator.Statement.{stat
 use Rattle.expansion.proofs.expand_macros_in_combinator.Tie as tie
 
 abbrev Inv-loop : tie.InvT-loop
-Inv-loop macros places hashes rows book from to marks areas₀ row₀ out₀ start copied₀ o₀ i₀ areas row out copied o i =
-    Going macros places hashes rows book to marks areas₀ row₀ out₀ copied₀ o₀ i₀ areas row out copied o i
+Inv-loop macros places ways rows book from to marks areas₀ row₀ out₀ start copied₀ o₀ i₀ areas row out copied o i =
+    Going macros places ways rows book to marks areas₀ row₀ out₀ copied₀ o₀ i₀ areas row out copied o i
 
 abbrev μ-loop : tie.MeasureT-loop
-μ-loop macros places hashes rows book from to marks areas₀ row₀ out₀ start copied₀ o₀ i₀ areas row out copied o i =
+μ-loop macros places ways rows book from to marks areas₀ row₀ out₀ start copied₀ o₀ i₀ areas row out copied o i =
     length marks - i
 
 loop-holds : tie.Need-loop-holds Inv-loop μ-loop

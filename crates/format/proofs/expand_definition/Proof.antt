@@ -45,8 +45,8 @@ same-made c = c .before .before .before .before .before .before .before .before 
 same-places : tie.Need-same-length-7
 same-places c = c .before .before .before .before .before .before .before .places .given
 
-same-hashes : tie.Need-same-length-8
-same-hashes c = c .before .before .before .before .before .hashes .given
+same-ways : tie.Need-same-length-8
+same-ways c = c .before .before .before .before .before .ways .given
 
 same-hints : tie.Need-same-length-9
 same-hints c = c .before .before .before .hints .given
@@ -78,7 +78,7 @@ expand-definition-spec =
     same-spare
     same-made
     same-places
-    same-hashes
+    same-ways
     same-hints
     same-sheet
     returns-2)

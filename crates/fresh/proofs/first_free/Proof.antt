@@ -11,10 +11,10 @@ use Rattle.fresh.proofs.first_free.Statement.{statement}
 use Rattle.fresh.proofs.first_free.Tie as tie
 
 abbrev Inv-loop : tie.InvT-loop
-Inv-loop path₀ at book made places hashes n first number₀ path number = Trying path₀ at (taken (both book made) places n) n first path number
+Inv-loop path₀ at book made places ways n first number₀ path number = Trying path₀ at (taken (both book made) places n) n first path number
 
 abbrev μ-loop : tie.MeasureT-loop
-μ-loop path₀ at book made places hashes n first number₀ path number = n - number
+μ-loop path₀ at book made places ways n first number₀ path number = n - number
 
 loop-holds : tie.Need-loop-holds Inv-loop μ-loop
 loop-holds c = trying-none _ _ _ _ _ (omega arith)

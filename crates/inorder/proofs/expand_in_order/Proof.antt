@@ -11,12 +11,12 @@ use Rattle.inorder.proofs.expand_in_order.Statement.{statement}
 use Rattle.inorder.proofs.expand_in_order.Tie as tie
 
 abbrev Inv-loop : tie.InvT-loop
-Inv-loop s ends path₀ binders₀ bound₀ uses₀ spare₀ made₀ places₀ hashes₀ hints₀ sheet₀ d₀ w₀ n₀ path binders bound uses spare made places hashes hints sheet d w n =
-    Going s made₀ places₀ (rowsIn sheet₀) (paramsIn sheet₀) (orderIn sheet₀) w₀ made places hashes hints (rowsIn sheet) (paramsIn sheet) (numberIn sheet) (orderIn sheet) w n d
-    × Lengths path₀ binders₀ bound₀ uses₀ spare₀ made₀ places₀ hashes₀ hints₀ sheet₀ path binders bound uses spare made places hashes hints sheet
+Inv-loop s ends path₀ binders₀ bound₀ uses₀ spare₀ made₀ places₀ ways₀ hints₀ sheet₀ d₀ w₀ n₀ path binders bound uses spare made places ways hints sheet d w n =
+    Going s made₀ places₀ (rowsIn sheet₀) (paramsIn sheet₀) (orderIn sheet₀) w₀ made places ways hints (rowsIn sheet) (paramsIn sheet) (numberIn sheet) (orderIn sheet) w n d
+    × Lengths path₀ binders₀ bound₀ uses₀ spare₀ made₀ places₀ ways₀ hints₀ sheet₀ path binders bound uses spare made places ways hints sheet
 
 abbrev μ-loop : tie.MeasureT-loop
-μ-loop s ends path₀ binders₀ bound₀ uses₀ spare₀ made₀ places₀ hashes₀ hints₀ sheet₀ d₀ w₀ n₀ path binders bound uses spare made places hashes hints sheet d w n =
+μ-loop s ends path₀ binders₀ bound₀ uses₀ spare₀ made₀ places₀ ways₀ hints₀ sheet₀ d₀ w₀ n₀ path binders bound uses spare made places ways hints sheet d w n =
     d .left
 
 loop-holds : tie.Need-loop-holds Inv-loop μ-loop
@@ -30,7 +30,7 @@ loop-holds c = (
     spare = refl;
     made = refl;
     places = refl;
-    hashes = refl;
+    ways = refl;
     hints = refl;
     sheet = refl;
   },
@@ -63,8 +63,8 @@ same-made c = c .before .before .before .before .before .before .before .before 
 same-places : tie.Need-same-length-7 Inv-loop μ-loop
 same-places c = c .before .before .before .before .before .before .before .before .before .before .places .given ∙ c .before .before .before .before .before .before .before .before .before .before .before .before .before .before .before .before .before .before .before .before .before .before .before .before .before .before .before .before .before .before .before .before .before .before .before .before .before .before .loop .inv .1 .places
 
-same-hashes : tie.Need-same-length-8 Inv-loop μ-loop
-same-hashes c = c .before .before .before .before .before .before .before .before .hashes .given ∙ c .before .before .before .before .before .before .before .before .before .before .before .before .before .before .before .before .before .before .before .before .before .before .before .before .before .before .before .before .before .before .before .before .before .before .before .before .before .before .loop .inv .1 .hashes
+same-ways : tie.Need-same-length-8 Inv-loop μ-loop
+same-ways c = c .before .before .before .before .before .before .before .before .ways .given ∙ c .before .before .before .before .before .before .before .before .before .before .before .before .before .before .before .before .before .before .before .before .before .before .before .before .before .before .before .before .before .before .before .before .before .before .before .before .before .before .loop .inv .1 .ways
 
 same-hints : tie.Need-same-length-9 Inv-loop μ-loop
 same-hints c = c .before .before .before .before .before .before .hints .given ∙ c .before .before .before .before .before .before .before .before .before .before .before .before .before .before .before .before .before .before .before .before .before .before .before .before .before .before .before .before .before .before .before .before .before .before .before .before .before .before .loop .inv .1 .hints
@@ -90,7 +90,7 @@ loop-again c =
         spare = c .before .before .before .before .before .before .before .before .before .before .before .before .before .before .spare .given ∙ i .1 .spare;
         made = c .before .before .before .before .before .before .before .before .before .before .before .before .made .given ∙ i .1 .made;
         places = c .before .before .before .before .before .before .before .before .before .before .places .given ∙ i .1 .places;
-        hashes = c .before .before .before .before .before .before .before .before .hashes .given ∙ i .1 .hashes;
+        ways = c .before .before .before .before .before .before .before .before .ways .given ∙ i .1 .ways;
         hints = c .before .before .before .before .before .before .hints .given ∙ i .1 .hints;
         sheet = c .before .before .before .before .sheet .given ∙ i .1 .sheet;
       },
@@ -117,8 +117,8 @@ end-made c = c .before .before .loop .inv .1 .made
 end-places : tie.Need-same-length-17 Inv-loop μ-loop
 end-places c = c .before .before .loop .inv .1 .places
 
-end-hashes : tie.Need-same-length-18 Inv-loop μ-loop
-end-hashes c = c .before .before .loop .inv .1 .hashes
+end-ways : tie.Need-same-length-18 Inv-loop μ-loop
+end-ways c = c .before .before .loop .inv .1 .ways
 
 end-hints : tie.Need-same-length-19 Inv-loop μ-loop
 end-hints c = c .before .before .loop .inv .1 .hints
@@ -148,7 +148,7 @@ expand-in-order-spec =
     same-spare
     same-made
     same-places
-    same-hashes
+    same-ways
     same-hints
     same-sheet
     returns
@@ -162,7 +162,7 @@ expand-in-order-spec =
     end-spare
     end-made
     end-places
-    end-hashes
+    end-ways
     end-hints
     end-sheet
     returns-2)

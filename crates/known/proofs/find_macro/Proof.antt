@@ -1,69 +1,38 @@
 -- `known::find_macro` meets its contract.
 -- Assumes nothing.
-use borrow.Author.Needs.{needs}
-use mathlib.Core.Path.{_≡_}
-use Prim.Native.Nat.{_≤_}
 use native.Mathlib.Omega.{arith}
-use Rattle.hash.specs.Hash.{hashOf}
-use Rattle.known.specs.declared.Found.{Found}
-use Rattle.known.specs.Table.{FindsMacro}
-use Rattle.known.proofs.Rows.{found-none, found-here, found-on}
+use Rattle.known.proofs.Rows.{finds-none, finds-far, finds-here, finds-other}
+use borrow.Author.Needs.{needs}
 use Rattle.known.proofs.find_macro.Statement.{statement}
 use Rattle.known.proofs.find_macro.Tie as tie
 
-abbrev Inv-loop : tie.InvT-loop
-Inv-loop name macros places hashes n hash i₀ i = (i ≤ n) × (hash ≡ hashOf name) × ((r : Found) → FindsMacro name macros places hashes i r → FindsMacro name macros places hashes n r)
+returns : tie.Need-returns
+returns c = finds-none _ _ _ _ _ (c .before .before .slot-of .ensures) (c .before .row-at .ensures .0) (c .if1 .taken)
 
-abbrev μ-loop : tie.MeasureT-loop
-μ-loop name macros places hashes n hash i₀ i = i
+returns-2 : tie.Need-returns-2
+returns-2 c = finds-far _ _ _ _ _ (c .before .before .before .slot-of .ensures) (c .before .before .row-at .ensures .0) (c .before .if1 .left) (c .if2 .taken)
 
-name-hash-requires : tie.Need-name-hash-requires Inv-loop μ-loop
-name-hash-requires c κs = search needs
+cast-at : tie.Need-cast-at
+cast-at c = omega (arith, c .shared-slice-known5 .given (c .before .before .before .row-at .result))
 
-loop-holds : tie.Need-loop-holds Inv-loop μ-loop
-loop-holds c = (omega arith, c .name-hash .ensures, λ r f. f)
+returns-3 : tie.Need-returns-3
+returns-3 c = finds-here _ _ _ _ _ (c .before .before .before .before .before .before .before .slot-of .ensures) (c .before .before .before .before .before .before .row-at .ensures .0) (c .before .before .before .before .before .if1 .left) (c .before .before .name-at .ensures) (c .before .same-name .ensures) (c .if3 .taken)
 
-sub-same-row : tie.Need-sub-same-row Inv-loop μ-loop
-sub-same-row c = search needs
-
-same-row-requires : tie.Need-same-row-requires Inv-loop μ-loop
-same-row-requires c κs = search needs
-
-enum-known-found : tie.Need-enum-known-found Inv-loop μ-loop
-enum-known-found c = search needs
-
-returns : tie.Need-returns Inv-loop μ-loop
-returns c = c .before .before .before .before .before .loop .inv .2 _ (found-here (c .before .before .before .before .loop-test .taken) (c .before .before .before .before .before .loop .inv .1) (rw (c .before .found .given .1) at (c .before .before .before .same-row .ensures)))
-
-enum-told : tie.Need-enum-told Inv-loop μ-loop
-enum-told c = search needs
-
-sub-i : tie.Need-sub-i Inv-loop μ-loop
-sub-i c = search needs
-
-loop-less : tie.Need-loop-less Inv-loop μ-loop
-loop-less c = search needs
-
-loop-again : tie.Need-loop-again Inv-loop μ-loop
-loop-again c = (omega arith, c .before .before .before .before .loop .inv .1, λ r f. c .before .before .before .before .loop .inv .2 r (found-on (c .before .before .before .loop-test .taken) (c .before .before .before .before .loop .inv .1) (rw (c .enum-told .given .1) at (c .before .before .same-row .ensures)) f))
-
-returns-2 : tie.Need-returns-2 Inv-loop μ-loop
-returns-2 c = c .before .loop .inv .2 _ (found-none (omega arith))
+returns-4 : tie.Need-returns-4
+returns-4 c = finds-other _ _ _ _ _ (c .before .before .before .before .before .before .before .slot-of .ensures) (c .before .before .before .before .before .before .row-at .ensures .0) (c .before .before .before .before .before .if1 .left) (c .before .before .name-at .ensures) (c .before .same-name .ensures) (c .if3 .left)
 
 pub find-macro-spec : {M : Type 1} → statement M
 find-macro-spec =
     tie.close
     (tie.spec
-    Inv-loop
-    μ-loop
-    name-hash-requires
-    loop-holds
-    sub-same-row
-    same-row-requires
-    enum-known-found
+    (λ c κs. search needs)
+    (λ c κs. search needs)
     returns
-    enum-told
-    sub-i
-    loop-less
-    loop-again
-    returns-2)
+    returns-2
+    (λ c. search needs)
+    (λ c. search needs)
+    cast-at
+    (λ c κs. search needs)
+    (λ c κs. search needs)
+    returns-3
+    returns-4)

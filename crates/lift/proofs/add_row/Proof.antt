@@ -10,14 +10,14 @@ use Rattle.lift.proofs.add_row.Statement.{statement}
 use Rattle.lift.proofs.add_row.Tie as tie
 
 put-row-requires : tie.Need-put-row-requires
-put-row-requires c κs = let p = c .before .before .before .before .before .before .before .pre in (omega arith, p .2, p .3, omega arith, omega arith, omega arith)
+put-row-requires c κs = let p = c .before .before .before .before .before .before .before .before .pre in (omega arith, p .2, p .3, omega arith, omega arith, omega arith)
 
 part-is : tie.Need-slice-aggregate-take-name
 part-is c = simp length-take (omega arith)
 
 take-name-requires : tie.Need-take-name-requires
 take-name-requires c κs =
-    let p = c .before .before .before .before .before .before .before .before .before .before .before .before .before .before .before .before .before .before .before .pre in
+    let p = c .before .before .before .before .before .before .before .before .before .before .before .before .before .before .before .before .before .before .before .before .pre in
     (simp length-take (omega arith), simp length-take (omega arith), p .5, omega arith, omega arith, omega arith)
 
 same : tie.Need-same-length
@@ -27,7 +27,7 @@ same-2 : tie.Need-same-length-2
 same-2 c = c .before .before .before .before .before .places .given
 
 same-3 : tie.Need-same-length-3
-same-3 c = c .before .before .before .hashes .given
+same-3 c = c .before .before .before .ways .given
 
 same-4 : tie.Need-same-length-4
 same-4 c = c .before .hints .given
@@ -37,7 +37,7 @@ same-5 c = c .before .before .before .before .before .before .before .before .be
 
 returns : tie.Need-returns
 returns c =
-    let s = c .before .before .before .before .before .before .before .before .before .before .before .before .before .before .before .before .before .before .before .before .before .before .before .before .before .before .before .before in
+    let s = c .before .before .before .before .before .before .before .before .before .before .before .before .before .before .before .before .before .before .before .before .before .before .before .before .before .before .before .before .before in
     let b = numbered-in (s .args .at) (s .args .w .lifts + 1) (omega arith) (c .before .before .before .before .before .before .before .before .before .before .before .before .before .before .before .before .before .before .before .before .put-row .ensures) (c .before .before .before .before .before .before .before .before .before .before .before .before .before .before .before .before .store .ensures) in (
       record {
         row = b .rows;

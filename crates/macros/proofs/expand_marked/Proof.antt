@@ -2,7 +2,9 @@
 -- Assumes nothing.
 use mathlib.Core.Path.{refl}
 use Prim.Native.Nat.{ℕ}
+use native.Mathlib.Omega.{arith}
 use lib.ListN.{length-replicate}
+use Rattle.forks.proofs.Rows.{clear-new}
 use Rattle.macros.proofs.Passing.{passed-grown, passed-book}
 use borrow.Author.Needs.{needs}
 use Rattle.macros.proofs.expand_marked.Statement.{statement}
@@ -58,7 +60,7 @@ same-length-2 c = search needs
 
 returns : tie.Need-returns
 returns c =
-    passed-grown (c .before .before .before .before .before .before .before .before .before .before .before .before .before .before .before .before .before .before .before .before .before .before .table .ensures) (length-replicate {0} {A = ℕ} 512 0) (length-replicate {0} {A = ℕ} 512 0) (length-replicate {0} {A = ℕ} 8192 0) (length-replicate {0} {A = ℕ} 8192 0)
+    passed-grown (c .before .before .before .before .before .before .before .before .before .before .before .before .before .before .before .before .before .before .before .before .before .before .table .ensures) (length-replicate {0} {A = ℕ} 512 0) (length-replicate {0} {A = ℕ} 1280 0) (clear-new 1280 (omega arith)) (length-replicate {0} {A = ℕ} 8192 0) (length-replicate {0} {A = ℕ} 8192 0)
     (c .before .before .before .before .before .before .before .before .before .before .before .before .before .before .before .before .before .before .before .count-kept .ensures) (c .before .before .before .before .before .before .before .before .before .before .before .before .before .before .before .before .before .before .least .ensures) (c .before .before .before .before .before .before .before .before .before .before .before .before .before .before .before .before .put-u16 .ensures) refl (c .before .before .before .before .before .before .before .expand-all .ensures) (c .before .before .out2 .given) (c .if1 .taken)
 
 same-length-3 : tie.Need-same-length-3
@@ -69,7 +71,7 @@ same-length-4 c = search needs
 
 returns-2 : tie.Need-returns-2
 returns-2 c =
-    passed-book (c .before .before .before .before .before .before .before .before .before .before .before .before .before .before .before .before .before .before .before .before .before .before .table .ensures) (length-replicate {0} {A = ℕ} 512 0) (length-replicate {0} {A = ℕ} 512 0) (length-replicate {0} {A = ℕ} 8192 0) (length-replicate {0} {A = ℕ} 8192 0)
+    passed-book (c .before .before .before .before .before .before .before .before .before .before .before .before .before .before .before .before .before .before .before .before .before .before .table .ensures) (length-replicate {0} {A = ℕ} 512 0) (length-replicate {0} {A = ℕ} 1280 0) (clear-new 1280 (omega arith)) (length-replicate {0} {A = ℕ} 8192 0) (length-replicate {0} {A = ℕ} 8192 0)
     (c .before .before .before .before .before .before .before .before .before .before .before .before .before .before .before .before .before .before .before .count-kept .ensures) (c .before .before .before .before .before .before .before .before .before .before .before .before .before .before .before .before .before .before .least .ensures) (c .before .before .before .before .before .before .before .before .before .before .before .before .before .before .before .before .put-u16 .ensures) refl (c .before .before .before .before .before .before .before .expand-all .ensures) (c .before .before .out2 .given) (c .if1 .left)
 
 pub expand-marked-spec : {M : Type 1} → statement M

@@ -97,7 +97,7 @@ same-19 : tie.Need-same-length-19
 same-19 c = c .before .before .before .before .before .before .before .before .places .given
 
 same-20 : tie.Need-same-length-20
-same-20 c = c .before .before .before .before .before .before .hashes .given
+same-20 c = c .before .before .before .before .before .before .ways .given
 
 same-21 : tie.Need-same-length-21
 same-21 c = c .before .before .before .before .hints2 .given ∙ c .before .before .before .before .before .before .before .before .before .before .before .before .before .before .before .before .before .before .before .before .before .before .before .before .before .before .before .before .before .before .before .before .before .before .hints .given

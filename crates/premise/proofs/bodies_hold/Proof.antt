@@ -4,7 +4,7 @@ use borrow.Author.Needs.{needs}
 use Rattle.contents.proofs.Listed.{next-less}
 use Rattle.bodies.specs.Tested.{BodiesLeft}
 use Rattle.bodies.proofs.Tested.{left-none, left-out, left-step, bodies-tested}
-use Rattle.callable.specs.Named.{rowNames}
+use Rattle.kinds.specs.Rows.{rowNames}
 use borrow.Author.Tests.{not-true, not-false}
 use Rattle.premise.specs.Holds.{passes}
 use lib.ListN.{length}
@@ -15,10 +15,10 @@ use Rattle.premise.proofs.bodies_hold.Statement.{statement}
 use Rattle.premise.proofs.bodies_hold.Tie as tie
 
 abbrev Inv-loop : tie.InvT-loop
-Inv-loop s places hashes n marks₀ d₀ marks d = (length marks ≡ length marks₀) × ((r : Bool) → BodiesLeft s (passes (rowNames s places n)) (length marks₀) d r → BodiesLeft s (passes (rowNames s places n)) (length marks₀) d₀ r)
+Inv-loop s places ways n marks₀ d₀ marks d = (length marks ≡ length marks₀) × ((r : Bool) → BodiesLeft s (passes (rowNames s places n)) (length marks₀) d r → BodiesLeft s (passes (rowNames s places n)) (length marks₀) d₀ r)
 
 abbrev μ-loop : tie.MeasureT-loop
-μ-loop s places hashes n marks₀ d₀ marks d = d .left
+μ-loop s places ways n marks₀ d₀ marks d = d .left
 
 loop-holds : tie.Need-loop-holds Inv-loop μ-loop
 loop-holds c = (refl, λ r t. t)

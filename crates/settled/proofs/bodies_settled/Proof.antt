@@ -17,10 +17,10 @@ use Rattle.settled.proofs.bodies_settled.Statement.{statement}
 use Rattle.settled.proofs.bodies_settled.Tie as tie
 
 abbrev Inv-loop : tie.InvT-loop
-Inv-loop macros places hashes rows book marks₀ d₀ marks d = (length marks ≡ length marks₀) × ((ms : List Macro) → Rows macros places hashes rows ms → (r : Bool) → BodiesLeft book (calm ms) (length marks₀) d r → BodiesLeft book (calm ms) (length marks₀) d₀ r)
+Inv-loop macros places ways rows book marks₀ d₀ marks d = (length marks ≡ length marks₀) × ((ms : List Macro) → Rows macros places ways rows ms → (r : Bool) → BodiesLeft book (calm ms) (length marks₀) d r → BodiesLeft book (calm ms) (length marks₀) d₀ r)
 
 abbrev μ-loop : tie.MeasureT-loop
-μ-loop macros places hashes rows book marks₀ d₀ marks d = d .left
+μ-loop macros places ways rows book marks₀ d₀ marks d = d .left
 
 loop-holds : tie.Need-loop-holds Inv-loop μ-loop
 loop-holds c = (refl, λ ms t r l. l)

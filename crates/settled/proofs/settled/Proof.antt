@@ -1,7 +1,9 @@
 -- `settled::settled` meets its contract.
 -- Assumes nothing.
 use Prim.Native.Nat.{ℕ}
+use native.Mathlib.Omega.{arith}
 use lib.ListN.{length-replicate}
+use Rattle.forks.proofs.Rows.{clear-new}
 use Rattle.settled.proofs.Settling.{book-settles}
 use borrow.Author.Needs.{needs}
 use Rattle.settled.proofs.settled.Statement.{statement}
@@ -29,7 +31,7 @@ bodies-settled-requires : tie.Need-bodies-settled-requires
 bodies-settled-requires c κs = search needs
 
 returns : tie.Need-returns
-returns c = book-settles (c .before .before .before .before .before .before .before .table .ensures) (length-replicate {0} {A = ℕ} 512 0) (length-replicate {0} {A = ℕ} 512 0) (length-replicate {0} {A = ℕ} 8192 0) (c .before .bodies-settled .ensures)
+returns c = book-settles (c .before .before .before .before .before .before .before .table .ensures) (length-replicate {0} {A = ℕ} 512 0) (length-replicate {0} {A = ℕ} 1280 0) (clear-new 1280 (omega arith)) (length-replicate {0} {A = ℕ} 8192 0) (c .before .bodies-settled .ensures)
 
 pub settled-spec : {M : Type 1} → statement M
 settled-spec =

@@ -39,7 +39,7 @@ same-6 : tie.Need-same-length-6
 same-6 c = c .before .before .before .before .before .before .before .before .before .before .places .given
 
 same-7 : tie.Need-same-length-7
-same-7 c = c .before .before .before .before .before .before .before .before .hashes .given
+same-7 c = c .before .before .before .before .before .before .before .before .ways .given
 
 same-8 : tie.Need-same-length-8
 same-8 c = c .before .before .before .before .before .before .hints .given
@@ -72,7 +72,7 @@ same-15 : tie.Need-same-length-15
 same-15 c = c .before .before .before .before .before .before .before .before .before .before .before .places .given
 
 same-16 : tie.Need-same-length-16
-same-16 c = c .before .before .before .before .before .before .before .before .before .hashes .given
+same-16 c = c .before .before .before .before .before .before .before .before .before .ways .given
 
 same-17 : tie.Need-same-length-17
 same-17 c = c .before .before .before .before .before .before .before .hints .given

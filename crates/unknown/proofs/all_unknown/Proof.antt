@@ -10,10 +10,10 @@ use Rattle.unknown.proofs.all_unknown.Statement.{statement}
 use Rattle.unknown.proofs.all_unknown.Tie as tie
 
 abbrev Inv-loop : tie.InvT-loop
-Inv-loop macros places hashes rows book marks i₀ i = (i ≤ length marks) × Marked macros places hashes rows book marks i
+Inv-loop macros places ways rows book marks i₀ i = (i ≤ length marks) × Marked macros places ways rows book marks i
 
 abbrev μ-loop : tie.MeasureT-loop
-μ-loop macros places hashes rows book marks i₀ i = length marks - i
+μ-loop macros places ways rows book marks i₀ i = length marks - i
 
 loop-holds : tie.Need-loop-holds Inv-loop μ-loop
 loop-holds c = (omega arith, marked-all)

@@ -9,11 +9,11 @@ use Rattle.macros.proofs.book.expand_all.Statement.{statement}
 use Rattle.macros.proofs.book.expand_all.Tie as tie
 
 abbrev Inv-loop : tie.InvT-loop
-Inv-loop macros places hashes rows book areas₀ marks₀ row₀ out₀ bodies d₀ e₀ o₀ areas marks row out d e o =
-    Going macros places hashes rows book areas₀ marks₀ row₀ out₀ d₀ e₀ o₀ areas marks row out d e o
+Inv-loop macros places ways rows book areas₀ marks₀ row₀ out₀ bodies d₀ e₀ o₀ areas marks row out d e o =
+    Going macros places ways rows book areas₀ marks₀ row₀ out₀ d₀ e₀ o₀ areas marks row out d e o
 
 abbrev μ-loop : tie.MeasureT-loop
-μ-loop macros places hashes rows book areas₀ marks₀ row₀ out₀ bodies d₀ e₀ o₀ areas marks row out d e o =
+μ-loop macros places ways rows book areas₀ marks₀ row₀ out₀ bodies d₀ e₀ o₀ areas marks row out d e o =
     d .left
 
 loop-holds : tie.Need-loop-holds Inv-loop μ-loop
