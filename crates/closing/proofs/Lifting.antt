@@ -43,7 +43,7 @@ use Rattle.report.specs.declared.Elaborated.the-variants.{Done, Refused}
 use Rattle.report.specs.Elaborates.{reported, Reports, lifted, Expanded, Lifts}
 use Rattle.closing.specs.Lent.{Lent}
 
-pub starts : {s ends made sheet binders bound uses spare : List ℕ} → Expanded s → Lent s ends sheet binders bound uses spare → length made ≡ 8192 → Starts s made (rowsIn sheet) (paramsIn sheet) (numberIn sheet) (orderIn sheet)
+pub starts : {s ends made sheet binders bound uses spare : List ℕ} → Expanded s → Lent s ends sheet binders bound uses spare → 8192 ≤ length made → Starts s made (rowsIn sheet) (paramsIn sheet) (numberIn sheet) (orderIn sheet)
 starts {sheet} x u a =
     let l = part-lengths sheet (omega (arith, u .long)) in
     record {

@@ -28,7 +28,7 @@ fn write_parts(s: &[u8], made: &[u8], sheet: &[u16], n: u16, out: &mut [u8]) -> 
     )
 }
 
-// Codes 7 to 11, with the tables lent whose length the book's gives. The generated names' is as long as code 10 lets it become.
+// Codes 7 to 11, with the tables lent whose length the book's gives, and room for as many generated names as code 10 lets there be.
 pub fn lift_with(
     s: &[u8],
     ends: &[u16],
@@ -37,13 +37,13 @@ pub fn lift_with(
     bound: &mut [u32],
     uses: &mut [u32],
     spare: &mut [u32],
+    made: &mut [u8],
     out: &mut [u8],
 ) -> Elaborated
-    requires { ⌜ Expanded (now s) × Lent (now s) (now ends) (now sheet) (now binders) (now bound) (now uses) (now spare) ⌝ }
+    requires { ⌜ Expanded (now s) × Lent (now s) (now ends) (now sheet) (now binders) (now bound) (now uses) (now spare) × (8192 ≤ length (now made)) ⌝ }
     ensures { λ r. ⌜ Lifts (now (s .entry)) (now (out .entry)) (now (out .exit)) r ⌝ }
 {
-    let mut made = [0u8; 8192];
-    let body = expand_definitions(s, ends, binders, bound, uses, spare, &mut made, sheet);
+    let body = expand_definitions(s, ends, binders, bound, uses, spare, made, sheet);
     match body {
         Body::Refused(code) => Elaborated::Refused { code },
         Body::Named(counts, n) => {
@@ -53,7 +53,7 @@ pub fn lift_with(
             let length = counts.bytes as u16;
             let definitions = counts.defns as u16;
             let lifted = n as u16;
-            write_parts(s, &made, &sheet[..], lifted, out);
+            write_parts(s, &made[..], &sheet[..], lifted, out);
             Elaborated::Done {
                 length,
                 definitions,

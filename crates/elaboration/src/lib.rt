@@ -5,6 +5,7 @@ use opening::Opened;
 use opening::expand_book;
 use report::Elaborated;
 use room::lift_book;
+use room::lift_expanded;
 use zeroing::zero_range;
 ghost use mathlib.Core.Path.{_≡_};
 ghost use lib.ListN.{length};
@@ -21,7 +22,7 @@ fn attempt_expanded(book: &[u8], out: &mut [u8], work: &mut [u8]) -> Elaborated
     let opened = expand_book(book, work, &mut expanded);
     match opened {
         Opened::Refused { code } => Elaborated::Refused { code },
-        Opened::Book { len } => lift_book(&expanded[..len], out),
+        Opened::Book { len } => lift_expanded(&expanded[..len], work, out),
     }
 }
 
@@ -32,7 +33,7 @@ fn attempt(book: &[u8], out: &mut [u8], work: &mut [u8]) -> Elaborated
     let begun = begin(book, work.len());
     match begun {
         Begun::Refused { code } => Elaborated::Refused { code },
-        Begun::Plain => lift_book(book, out),
+        Begun::Plain => lift_book(book, work, out),
         Begun::Macros => attempt_expanded(book, out, work),
     }
 }

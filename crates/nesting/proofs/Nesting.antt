@@ -26,7 +26,7 @@ use Rattle.report.specs.declared.Elaborated.the-variants.{Refused}
 use Rattle.report.specs.Elaborates.{reported, Reports, lifted, Expanded, Lifts}
 use Rattle.report.proofs.Reporting.{reports-refused, reports-lifted}
 use Rattle.nesting.specs.OpensNested.{openedNested, OpensNested}
-use Rattle.nesting.proofs.Source.{source-written, nested-refused, nested-more, opened-long}
+use Rattle.nesting.proofs.Source.{source-written, nested-refused, nested-more, opened-long, nested-long}
 
 module _ {b : List ℕ} {n m : ℕ} {area : List ℕ} (lm : m ≡ 16384) where
   -- codes 1 to 6
@@ -74,6 +74,9 @@ module _ {b : List ℕ} {n : ℕ} {book : List ℕ} where
   reports-code {out} o = rw (attempt-is b (length out) n) (reports-refused (o .by .is) (o .by .numbered))
 
   module _ {len : ℕ} (o : OpensNested b n book (Book len)) where
+    pub work-long : 65536 ≤ n
+    work-long = nested-long b n (o .by .is)
+
     pub opened-book : Expanded (take len book)
     opened-book = record { of = o .by .left; book = o .by .holds; isBook = o .by .isBook }
 

@@ -62,10 +62,18 @@ module _ (b : List ℕ) (n : ℕ) where
       go true g f = did-out (source b) (λ ds. expandBook ds) es g (λ ds i j. f ds i (rw (i, sym (expand-says ds) ∙ j)))
       go false g f = no-done g
 
-  pub opened-long : {es : List Definition} → opened b n ≡ done es → 65536 ≤ n
-  unfolding opened
-  opened-long {es} e = go (leb 65536 n) refl e
+  -- whichever list comes after code 1
+  long-by : (f : List ℕ → Out (List Definition)) {es : List Definition} → (given (leb 65536 n) work-short b >>= f) ≡ done es → 65536 ≤ n
+  long-by f {es} e = go (leb 65536 n) refl e
     where
-      go : (t : Bool) → leb 65536 n ≡ t → (given t work-short b >>= λ c. expanded c) ≡ done es → 65536 ≤ n
+      go : (t : Bool) → leb 65536 n ≡ t → (given t work-short b >>= f) ≡ done es → 65536 ≤ n
       go true l g = leb-true 65536 n l
       go false l g = no-done g
+
+  pub opened-long : {es : List Definition} → opened b n ≡ done es → 65536 ≤ n
+  unfolding opened
+  opened-long e = long-by expanded e
+
+  pub nested-long : {es : List Definition} → openedNested b n ≡ done es → 65536 ≤ n
+  unfolding openedNested
+  nested-long e = long-by expandedNested e

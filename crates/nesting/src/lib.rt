@@ -4,7 +4,7 @@ use opening::open_book;
 use passes::Passes;
 use passes::expand_again;
 use report::Elaborated;
-use room::lift_book;
+use room::lift_expanded;
 use zeroing::zero_range;
 ghost use mathlib.Core.Path.{_≡_};
 ghost use lib.ListN.{length};
@@ -41,7 +41,7 @@ fn attempt_nested(book: &[u8], out: &mut [u8], work: &mut [u8]) -> Elaborated
     let opened = open_nested(book, work, &mut expanded);
     match opened {
         Opened::Refused { code } => Elaborated::Refused { code },
-        Opened::Book { len } => lift_book(&expanded[..len], out),
+        Opened::Book { len } => lift_expanded(&expanded[..len], work, out),
     }
 }
 

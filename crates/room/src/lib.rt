@@ -8,10 +8,35 @@ ghost use Prim.Native.Nat.{_≤_};
 ghost use lib.ListN.{length};
 ghost use Rattle.report.specs.Elaborates.{Expanded, Lifts};
 
-// The tables of a book of at most 512 bytes: for every byte an end, a number and a use; for every four bytes four numbers of a binder and of a
-// label, with 512 more for the labels' ways. The numbers stand behind the sheet's other parts, which take 16,180.
-fn lift_small(s: &[u8], out: &mut [u8]) -> Elaborated
-    requires { ⌜ Expanded (now s) × (length (now s) ≤ 512) ⌝ }
+// The tables of a book of at most 128 bytes: for every byte an end, a number and a use; for every four bytes four numbers of a binder and of a
+// label, with 512 more for the labels' hashes. The numbers stand behind the sheet's other parts, which take 16,180.
+fn lift_tiny(s: &[u8], made: &mut [u8], out: &mut [u8]) -> Elaborated
+    requires { ⌜ Expanded (now s) × (length (now s) ≤ 128) × (8192 ≤ length (now made)) ⌝ }
+    ensures { λ r. ⌜ Lifts (now (s .entry)) (now (out .entry)) (now (out .exit)) r ⌝ }
+{
+    let mut ends = [0u16; 128];
+    let mut sheet = [0u16; 16308];
+    let mut binders = [0u16; 128];
+    let mut bound = [0u32; 640];
+    let mut uses = [0u32; 128];
+    let mut spare = [0u32; 128];
+    measure_book(s, &mut ends);
+    lift_with(
+        s,
+        &ends,
+        &mut sheet,
+        &mut binders,
+        &mut bound,
+        &mut uses,
+        &mut spare,
+        made,
+        out,
+    )
+}
+
+// Those of a book of at most 512 bytes.
+fn lift_small(s: &[u8], made: &mut [u8], out: &mut [u8]) -> Elaborated
+    requires { ⌜ Expanded (now s) × (length (now s) ≤ 512) × (8192 ≤ length (now made)) ⌝ }
     ensures { λ r. ⌜ Lifts (now (s .entry)) (now (out .entry)) (now (out .exit)) r ⌝ }
 {
     let mut ends = [0u16; 512];
@@ -29,13 +54,14 @@ fn lift_small(s: &[u8], out: &mut [u8]) -> Elaborated
         &mut bound,
         &mut uses,
         &mut spare,
+        made,
         out,
     )
 }
 
 // Those of a book of at most 2,048 bytes.
-fn lift_short(s: &[u8], out: &mut [u8]) -> Elaborated
-    requires { ⌜ Expanded (now s) × (length (now s) ≤ 2048) ⌝ }
+fn lift_short(s: &[u8], made: &mut [u8], out: &mut [u8]) -> Elaborated
+    requires { ⌜ Expanded (now s) × (length (now s) ≤ 2048) × (8192 ≤ length (now made)) ⌝ }
     ensures { λ r. ⌜ Lifts (now (s .entry)) (now (out .entry)) (now (out .exit)) r ⌝ }
 {
     let mut ends = [0u16; 2048];
@@ -53,13 +79,14 @@ fn lift_short(s: &[u8], out: &mut [u8]) -> Elaborated
         &mut bound,
         &mut uses,
         &mut spare,
+        made,
         out,
     )
 }
 
 // Those of a book of at most 4,096 bytes.
-fn lift_middle(s: &[u8], out: &mut [u8]) -> Elaborated
-    requires { ⌜ Expanded (now s) × (length (now s) ≤ 4096) ⌝ }
+fn lift_middle(s: &[u8], made: &mut [u8], out: &mut [u8]) -> Elaborated
+    requires { ⌜ Expanded (now s) × (length (now s) ≤ 4096) × (8192 ≤ length (now made)) ⌝ }
     ensures { λ r. ⌜ Lifts (now (s .entry)) (now (out .entry)) (now (out .exit)) r ⌝ }
 {
     let mut ends = [0u16; 4096];
@@ -77,13 +104,14 @@ fn lift_middle(s: &[u8], out: &mut [u8]) -> Elaborated
         &mut bound,
         &mut uses,
         &mut spare,
+        made,
         out,
     )
 }
 
 // Those of any other book.
-fn lift_long(s: &[u8], out: &mut [u8]) -> Elaborated
-    requires { ⌜ Expanded (now s) ⌝ }
+fn lift_long(s: &[u8], made: &mut [u8], out: &mut [u8]) -> Elaborated
+    requires { ⌜ Expanded (now s) × (8192 ≤ length (now made)) ⌝ }
     ensures { λ r. ⌜ Lifts (now (s .entry)) (now (out .entry)) (now (out .exit)) r ⌝ }
 {
     let mut ends = [0u16; 16384];
@@ -101,34 +129,52 @@ fn lift_long(s: &[u8], out: &mut [u8]) -> Elaborated
         &mut bound,
         &mut uses,
         &mut spare,
+        made,
         out,
     )
 }
 
-// A book of any length.
-fn lift_by_length(s: &[u8], out: &mut [u8]) -> Elaborated
-    requires { ⌜ Expanded (now s) ⌝ }
+// A book of more than 512 bytes. Two functions call it, so that its frame, with room for the longest tables, is none of a short book's.
+fn lift_longer(s: &[u8], made: &mut [u8], out: &mut [u8]) -> Elaborated
+    requires { ⌜ Expanded (now s) × (8192 ≤ length (now made)) ⌝ }
     ensures { λ r. ⌜ Lifts (now (s .entry)) (now (out .entry)) (now (out .exit)) r ⌝ }
 {
-    if s.len() <= 512 {
-        return lift_small(s, out);
-    }
     if s.len() <= 2048 {
-        return lift_short(s, out);
+        return lift_short(s, made, out);
     }
     if s.len() <= 4096 {
-        return lift_middle(s, out);
+        return lift_middle(s, made, out);
     }
-    lift_long(s, out)
+    lift_long(s, made, out)
 }
 
-// Codes 7 to 11.
-pub fn lift_book(s: &[u8], out: &mut [u8]) -> Elaborated
-    requires { ⌜ Expanded (now s) ⌝ }
+// Codes 7 to 11 of a book whose macros were expanded, with room for the generated names.
+pub fn lift_expanded(s: &[u8], made: &mut [u8], out: &mut [u8]) -> Elaborated
+    requires { ⌜ Expanded (now s) × (8192 ≤ length (now made)) ⌝ }
     ensures { λ r. ⌜ Lifts (now (s .entry)) (now (out .entry)) (now (out .exit)) r ⌝ }
 {
     if is_flat(s) {
         return lift_nothing(s, out);
     }
-    lift_by_length(s, out)
+    if s.len() <= 512 {
+        return lift_small(s, made, out);
+    }
+    lift_longer(s, made, out)
+}
+
+// Codes 7 to 11 of a book without macros, which may be very short.
+pub fn lift_book(s: &[u8], made: &mut [u8], out: &mut [u8]) -> Elaborated
+    requires { ⌜ Expanded (now s) × (8192 ≤ length (now made)) ⌝ }
+    ensures { λ r. ⌜ Lifts (now (s .entry)) (now (out .entry)) (now (out .exit)) r ⌝ }
+{
+    if is_flat(s) {
+        return lift_nothing(s, out);
+    }
+    if s.len() <= 128 {
+        return lift_tiny(s, made, out);
+    }
+    if s.len() <= 512 {
+        return lift_small(s, made, out);
+    }
+    lift_longer(s, made, out)
 }

@@ -1,12 +1,12 @@
 -- `room::lift_book` meets its contract.
 -- Assumes nothing.
-use borrow.Author.Needs.{needs}
 use Rattle.unlifted.proofs.Copying.{told-flat}
+use borrow.Author.Needs.{needs}
 use Rattle.room.proofs.lift_book.Statement.{statement}
 use Rattle.room.proofs.lift_book.Tie as tie
 
 lift-nothing-requires : tie.Need-lift-nothing-requires
-lift-nothing-requires c κs = (c .before .before .before .before .before .pre, told-flat (c .before .before .is-flat .ensures) (c .before .if1 .taken))
+lift-nothing-requires c κs = (c .before .before .before .before .before .before .pre .0, told-flat (c .before .before .is-flat .ensures) (c .before .if1 .taken))
 
 pub lift-book-spec : {M : Type 1} → statement M
 lift-book-spec =
@@ -15,7 +15,16 @@ lift-book-spec =
     (λ c κs. search needs)
     lift-nothing-requires
     (λ c. search needs)
-    (λ c. c .before .before .lift-nothing .ensures)
-    (λ c κs. c .before .before .before .before .before .pre)
     (λ c. search needs)
-    (λ c. c .before .before .lift-by-length .ensures))
+    (λ c κs. search needs)
+    (λ c. search needs)
+    (λ c. search needs)
+    (λ c. search needs)
+    (λ c κs. search needs)
+    (λ c. search needs)
+    (λ c. search needs)
+    (λ c. search needs)
+    (λ c κs. search needs)
+    (λ c. search needs)
+    (λ c. search needs)
+    (λ c. search needs))
