@@ -11,24 +11,8 @@ use lib.Dec.{eqb, eqb·suc-zero}
 use lib.ListN.{length, take, drop, getD, drop-of-length-le}
 use lib.Seq.{drop-cons}
 use borrow.Author.Tests.{eq-eqb, ne-eqb, eqb-false}
-use Rattle.ahead.specs.Next.{nextOf, nextLift, someIn, blockOf, pastEmpty}
-
--- entries put together are 0 where all of them are
-or-none : (a b : ℕ) → eqb (bitOr a b) 0 ≡ cond (eqb a 0) (eqb b 0) false
-or-none zero b = rw (or-zero-l b)
-or-none (suc a) b = rw eqb·suc-zero (ne-eqb (bitOr (suc a) b) 0 (λ e. omega (arith, or-add-and (suc a) b, and-le-r (suc a) b)))
-
-pub some-on : (l : List ℕ) (i a : ℕ) → i < length l → cond (eqb a 0) (someIn (drop i l)) true ≡ cond (eqb (bitOr a (getD l i 0)) 0) (someIn (drop (i + 1) l)) true
-unfolding someIn
-some-on l i a h = rw (add-one, drop-cons l i 0 h, or-none) (of (eqb a 0) (eqb (getD l i 0) 0))
-  where
-    of : (x y : Bool) → cond x (cond y (someIn (drop (suc i) l)) true) true ≡ cond (cond x y false) (someIn (drop (suc i) l)) true
-    of true y = refl
-    of false y = refl
-
-pub some-end : (l : List ℕ) (i a : ℕ) → length l ≤ i → cond (eqb a 0) (someIn (drop i l)) true ≡ cond (eqb a 0) false true
-unfolding someIn
-some-end l i a h = rw (drop-of-length-le l {i = i} h)
+use Rattle.zeroing.specs.Zeros.{someIn}
+use Rattle.ahead.specs.Next.{nextOf, nextLift, blockOf, pastEmpty}
 
 -- one place
 module _ (number : List ℕ) (to : ℕ) where

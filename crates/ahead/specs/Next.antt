@@ -1,9 +1,10 @@
 -- The next place at which a lift begins, by the table that has a number for each place, and how it is looked for.
-use mathlib.Core.Bool.{Bool, true, false, cond}
-use mathlib.Core.List.{List, [], _∷_}
+use mathlib.Core.Bool.{cond}
+use mathlib.Core.List.{List}
 use Prim.Native.Nat.{ℕ, zero, suc, _+_, _-_, _/_, min}
 use lib.Dec.{eqb}
 use lib.ListN.{length, take, drop, getD}
+use Rattle.zeroing.specs.Zeros.{someIn}
 
 -- the first of n places from `at` on whose entry is not 0, or the place behind them
 unfoldable pub nextOf : List ℕ → ℕ → ℕ → ℕ
@@ -13,11 +14,6 @@ nextOf number (suc n) at = cond (eqb (getD number at 0) 0) (nextOf number n (suc
 -- the first place from `from` on and below `to` whose entry is not 0, or the end of this range
 unfoldable pub nextLift : List ℕ → ℕ → ℕ → ℕ
 nextLift number from to = nextOf number (to - from) from
-
--- whether an entry is not 0
-unfoldable pub someIn : List ℕ → Bool
-someIn [] = false
-someIn (k ∷ ks) = cond (eqb k 0) (someIn ks) true
 
 -- the first of n blocks of 64 entries from `at` on that has one that is not 0, or the place behind them
 unfoldable pub blockOf : List ℕ → ℕ → ℕ → ℕ

@@ -2,7 +2,8 @@
 use numbers::least;
 use tables::entry;
 ghost use mathlib.Core.Path.{_≡_};
-ghost use Rattle.ahead.specs.Next.{someIn, pastEmpty, nextLift};
+ghost use Rattle.zeroing.specs.Zeros.{someIn};
+ghost use Rattle.ahead.specs.Next.{pastEmpty, nextLift};
 
 // Whether an entry is not 0. The loop has one way out, so that the machine takes several entries at a time.
 fn some_in(entries: &[u16]) -> bool

@@ -5,8 +5,8 @@ use mathlib.Core.Bool.{true, cond}
 use Prim.Native.Nat.{_-_}
 use lib.Dec.{eqb}
 use lib.ListN.{length, drop}
-use Rattle.ahead.specs.Next.{someIn}
-use Rattle.ahead.proofs.Next.{some-on, some-end}
+use Rattle.zeroing.specs.Zeros.{someIn}
+use Rattle.zeroing.proofs.Some.{some-on, some-end}
 use borrow.Author.Needs.{needs}
 use borrow.Author.Tests.{eq-eqb, ne-eqb}
 use Rattle.ahead.proofs.some_in.Statement.{statement}
