@@ -3,7 +3,8 @@
 use crate::Named;
 use driver::answer::{answer, Answer};
 use driver::build::{
-    book, bytes, dependent, enumeration, field, format, int, nothing, structure, vec,
+    book, bytes, dependent, enumeration, field, format, int, macro_call, macro_definition, nothing,
+    structure, vec,
 };
 use driver::cases::case;
 use driver::expand::Mode;
@@ -123,6 +124,24 @@ pub fn hurting() -> Vec<Named> {
             "230 uses of the last of 200 such labels of 31 bytes",
             lone(labelled(&of_one_hash(&"A".repeat(27), 200), 199, 230)),
         ),
+        (
+            "350 calls of the first of 170 macros",
+            called(&letters(4, 170), 0, 350),
+        ),
+        (
+            "700 calls of the first of 340 macros",
+            called(&letters(4, 340), 0, 700),
+        ),
+        (
+            "100 calls of the first of 90 macros of 31 bytes, each apart in a bit of its own",
+            called(&one_bit_each(31, 90), 0, 100),
+        ),
+        (
+            "200 calls of the first of 180 such macros",
+            called(&one_bit_each(31, 180), 0, 200),
+        ),
+        ("70 lifts beside 120 such names of 14 bytes", lifted_beside(120, 70)),
+        ("140 lifts beside 240 such names", lifted_beside(240, 140)),
     ]
     .map(|(name, definitions)| (name.to_string(), written(definitions).expect("a book")))
     .to_vec()
@@ -133,6 +152,48 @@ fn labelled(names: &[String], used: usize, uses: usize) -> Inner {
     let mut fields: Vec<_> = names.iter().map(|name| dependent(name, int())).collect();
     fields.push(field("z", bytes(&vec![names[used].as_str(); uses])));
     structure(fields)
+}
+
+/// Macros, and so many calls of one of them: each call is looked up among all of them.
+fn called(names: &[String], used: usize, calls: usize) -> Vec<Definition> {
+    let call = |_| field("", macro_call(&names[used], vec![]));
+    let root = format("m", structure((0..calls).map(call).collect()));
+    let defined = |name: &String| macro_definition(name, &[], nothing());
+    names
+        .iter()
+        .map(defined)
+        .chain(std::iter::once(root))
+        .collect()
+}
+
+/// Formats whose names are taken, and lifts under a base that is as long: each is looked up among all of them.
+fn lifted_beside(names: usize, lifts: usize) -> Vec<Definition> {
+    let fields = vec![field("a", enumeration()); lifts];
+    let base = "A".repeat(12);
+    let taken = one_bit_each(14, names);
+    let beside = taken.iter().map(|name| format(name, nothing()));
+    std::iter::once(format(&base, structure(fields)))
+        .chain(beside)
+        .collect()
+}
+
+/// Names of so many bytes: the first of 'A's alone, each other one with one bit in which no other differs from the first.
+fn one_bit_each(len: usize, count: usize) -> Vec<String> {
+    let bit = |number: usize| {
+        let mut name = vec![b'A'; len];
+        if 0 < number {
+            name[(number - 1) / 6 % len] ^= 1 << ((number - 1) % 6);
+        }
+        String::from_utf8(name).expect("ASCII")
+    };
+    (0..count).map(bit).collect()
+}
+
+/// So many names of so many letters.
+fn letters(len: u32, count: usize) -> Vec<String> {
+    let digit = |n: usize, place: u32| char::from(b'A' + (n / 58_usize.pow(place) % 58) as u8);
+    let name = |n: usize| (0..len).map(|place| digit(n, place)).collect();
+    (0..count).map(name).collect()
 }
 
 fn two_letters(count: usize) -> Vec<String> {
