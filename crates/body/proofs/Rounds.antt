@@ -1,19 +1,22 @@
 -- The loop over a body: for every tree that may stand there and every name that the path may hold.
 -- Assumes nothing.
-use mathlib.Core.Path.{_≡_, refl, sym, _∙_}
+use mathlib.Core.Path.{_≡_, refl, sym, ap, _∙_}
 use mathlib.Core.Logic.{⊎-elim}
-use mathlib.Core.List.{List, [], _∷_, _++_}
+use mathlib.Core.Bool.{false}
+use mathlib.Core.List.{List, [], _∷_, _++_, map}
 use Prim.Native.Nat.{ℕ, zero, suc, _+_, _-_, _≤_, _<_}
 use native.Mathlib.Omega.{arith}
-use lib.ListN.{length, take, getD, set, length-append}
+use lib.ListN.{length, take, getD, set, length-append, List·getD-map}
 use lib.Seq.{take-all, take-append-le}
 use Rattle.definition.specs.Tree.{Name, Combinator}
 use Rattle.definition.specs.Size.{levels}
 use Rattle.writer.proofs.Put.{within}
 use Rattle.names.specs.Name.{Held}
-use Rattle.ends.specs.Ends.{Right}
+use Rattle.ends.specs.Ends.{innerEnd, Right}
 use Rattle.frames.specs.declared.Frame.{Frame}
-use Rattle.frames.specs.Frames.{Stands, Standing, frameAt}
+use Rattle.frames.specs.declared.Waiting.{Waiting}
+use Rattle.frames.specs.Frames.{combinatorPast, Stands, Standing, frameAt, Narrow, narrowed, widened}
+use Rattle.frames.proofs.Ends.{end-past}
 use Rattle.children.specs.declared.Step.{Step}
 use Rattle.children.specs.declared.Step.the-variants as step
 use Rattle.children.specs.Next.{nextOf}
@@ -38,8 +41,8 @@ use Rattle.body.specs.declared.Body.the-variants.{Named, Refused}
 use Rattle.steps.specs.declared.Child.{Child}
 use Rattle.steps.specs.declared.Child.the-variants as comes
 use Rattle.steps.proofs.Named.{Reached, StepIs, step-is}
-use Rattle.steps.proofs.Children.{frame-sound}
-use Rattle.body.proofs.Stack.{waiter, Stack, waiting, lifting, Going}
+use Rattle.steps.proofs.Children.{whole-of, frame-sound}
+use Rattle.body.proofs.Stack.{no-frame, waiter, Stack, waiting, lifting, Going}
 use Rattle.body.proofs.Turns.{less-pass, goes-pass, child-levels, child-few, goes-open, less-open, ends-refused, good-closed, ends-last, goes-back, less-back}
 
 -- a tree that stands there, and a name that the path holds
@@ -79,10 +82,10 @@ left s frames f d = weight s f + waiting frames d (f .last)
 
 -- ---- the start
 module _ {s : List ℕ} {at : ℕ} {path : List ℕ} {len : ℕ} {binders : List ℕ} {b : ℕ} {bound uses spare made places ways hints rows params number order : List ℕ} {w : Counts} {n : ℕ} where
-  pub round-start : {frames : List Frame} {f : Frame} (last : ℕ) → len ≤ 256 → Good s made places ways hints rows params number order w n → Ready s at path binders b bound uses spare → f ≡ frameAt s at last len b 0 0 → length frames ≡ 64
+  pub round-start : {frames : List Frame} {f : Frame} {end last : ℕ} → end ≡ innerEnd s at → last ≡ combinatorPast s end → len ≤ 256 → Good s made places ways hints rows params number order w n → Ready s at path binders b bound uses spare → f ≡ frameAt s at last len b 0 0 → length frames ≡ 64
       → Round s at path len binders b made places rows params order w n path binders bound uses spare made places ways hints rows params number order frames f 0 w n
   unfolding frameAt OwnIs Stack lifting
-  round-start last h good r ef l = rw ef (record {
+  round-start {last = last} ee el h good r ef l = rw ef (record {
     root = let y = holds path len (r .path-long) h in record { tree = r .stands .what; name = y .name; stands = r .stands .stands; deep = r .stands .deep; held = y .held };
     goes = λ x.
         let c = x .tree in
@@ -100,7 +103,7 @@ module _ {s : List ℕ} {at : ℕ} {path : List ℕ} {len : ℕ} {binders : List
           binders-long = r .binders-long;
           frames-long = l;
           sized = r .sized;
-          sound = frame-sound small c (e .after) last len b 0 0 (x .deep) (e .is) (omega arith) (λ k. absurd (omega arith));
+          sound = frame-sound small c (e .after) last len b 0 0 (x .deep) (e .is) (whole-of c small e (x .deep) (end-past s at ee el) .ends) (omega arith) (λ k. absurd (omega arith)) (omega arith);
           deep = omega arith;
           open-lifts = omega (arith, good .finished);
         };
@@ -126,8 +129,28 @@ module _ {s : List ℕ} {at : ℕ} {path₀ : List ℕ} {len : ℕ} {binders₀ 
   resume-by [] h x = absurd (omega arith)
   resume-by (y ∷ ws) h x = let v = x .1 in let e = v .sound in let z = v .frame .ends in (omega (arith, v .frame .few, e .ends, source), omega (arith, e .child, e .ends, source))
 
-  pub resume-safe : 0 < d → (waiter frames d .bound ≤ 65535) × (waiter frames d .child ≤ 65536)
-  resume-safe h = let g = R .goes (R .root) in resume-by (g .waits) h (g .stack)
+  pub resume-safe : {p : Frame} → p ≡ waiter frames d → 0 < d → (p .bound ≤ 65535) × (p .child ≤ 65536)
+  resume-safe e h = let g = R .goes (R .root) in rw e (resume-by (g .waits) h (g .stack))
+
+  pub away-safe : Narrow f
+  away-safe =
+      let g = R .goes (R .root) in
+      let x = g .sound in
+      let h : f .here ≤ 65535 = omega (arith, source, x .ends, g .top .ends) in
+      record {
+        place = omega (arith, source, x .place-most);
+        last = omega (arith, source, x .last-most);
+        here = h;
+        end = omega (arith, source, x .ends);
+        left = x .left-most;
+        child = omega (arith, x .child);
+        len = omega (arith, g .top .name .place, g .path-long);
+        bound = omega (arith, g .top .few);
+        done = x .done-most;
+        link = x .link-most;
+        own = omega (arith, x .own);
+        call = omega (arith, x .call-most);
+      }
 
   module _ (path′ : List ℕ) {r : Step} (st : StepAt s f path path′ (nextOf s f) r) where
     -- ---- a Const field
@@ -165,12 +188,12 @@ module _ {s : List ℕ} {at : ℕ} {path₀ : List ℕ} {len : ℕ} {binders₀ 
             rw (← (ends-last (R .goes x) (closing x) e)) (refl, good-closed (R .goes x));
       })
 
-      module _ (some : 0 < d) {h : Frame} {binders′ : List ℕ} (eh : h ≡ delivered (waiter frames d) (f .place) (f .last) (z .whole) (boundAfter s (waiter frames d))) (eb : binders′ ≡ bindBy s (waiter frames d) (f .place) (z .inner) binders) where
+      module _ (some : 0 < d) {p h : Frame} {binders′ : List ℕ} (ep : p ≡ waiter frames d) (eh : h ≡ delivered p (f .place) (f .last) (z .whole) (boundAfter s p)) (eb : binders′ ≡ bindBy s p (f .place) (z .inner) binders) where
         pub round-back : Round s at path₀ len binders₀ b made₀ places₀ rows₀ params₀ order₀ w₀ n₀ path′ binders′ bound uses spare made places ways hints (rowsIn sheet) (paramsIn sheet) (numberIn sheet) (orderIn sheet) frames h (d - 1) w (z .finished)
-        round-back = rw (done-path, eb, es .order, es .rows, es .params, es .number, eh, ez) (record { root = R .root; goes = λ x. goes-back (R .goes x) (closing x) some })
+        round-back = rw (done-path, eb, es .order, es .rows, es .params, es .number, eh, ep, ez) (record { root = R .root; goes = λ x. goes-back (R .goes x) (closing x) some })
 
         pub round-less-back : left s frames h (d - 1) < left s frames f d
-        round-less-back = rw (eh, ez) (less-back (R .goes (R .root)) some)
+        round-less-back = rw (eh, ep, ez) (less-back (R .goes (R .root)) some)
 
     -- ---- a child
     module _ {place l : ℕ} (q : r ≡ step.Child place l) (long : length path′ ≡ length path) where
@@ -220,16 +243,36 @@ module _ {s : List ℕ} {at : ℕ} {path₀ : List ℕ} {len : ℕ} {binders₀ 
           unfolding ChildIs
           good-opened x = (rw et at (child-is x)) .1
 
-          pub round-open : {order′ : List ℕ} → order′ ≡ order → {bound′ uses′ spare′ : List ℕ} → length path₂ ≡ length path′ → length bound′ ≡ length bound → length uses′ ≡ length uses → length spare′ ≡ length spare
-              → Round s at path₀ len binders₀ b made₀ places₀ rows₀ params₀ order₀ w₀ n₀ path₂ binders bound′ uses′ spare′ made′ places′ ways′ hints′ rows′ params′ number′ order′ (set frames d f) h (d + 1) v n
-          round-open eo l₂ lb lu ls = rw eo (record { root = R .root; goes = λ x. goes-open (R .goes x) (reached x) (opened x) refl (good-opened x) long (l₂ ∙ long) step-kept (come .kept) lb lu ls })
+          pub round-open : {order′ : List ℕ} → order′ ≡ order → {frames′ : List Frame} → frames′ ≡ set frames d f → {bound′ uses′ spare′ : List ℕ} → length path₂ ≡ length path′ → length bound′ ≡ length bound → length uses′ ≡ length uses → length spare′ ≡ length spare
+              → Round s at path₀ len binders₀ b made₀ places₀ rows₀ params₀ order₀ w₀ n₀ path₂ binders bound′ uses′ spare′ made′ places′ ways′ hints′ rows′ params′ number′ order′ frames′ h (d + 1) v n
+          round-open eo ef l₂ lb lu ls = rw (eo, ef) (record { root = R .root; goes = λ x. goes-open (R .goes x) (reached x) (opened x) refl (good-opened x) long (l₂ ∙ long) step-kept (come .kept) lb lu ls })
 
-          pub round-less-open : left s (set frames d f) h (d + 1) < left s frames f d
-          round-less-open = less-open (R .goes (R .root)) (reached (R .root)) (opened (R .root))
+          pub round-less-open : {frames′ : List Frame} → frames′ ≡ set frames d f → left s frames′ h (d + 1) < left s frames f d
+          round-less-open ef = rw ef (less-open (R .goes (R .root)) (reached (R .root)) (opened (R .root)))
 
 pub some : (a : ℕ) → (a ≡ 0 → ⊥) → 0 < a
 some zero h = absurd (h refl)
 some (suc a) h = omega arith
+
+-- ---- the frames as the array holds them
+abbrev none : Waiting
+none = record { place = 0; last = 0; here = 0; end = 0; left = 0; child = 0; len = 0; bound = 0; done = 0; link = 0; own = 0; call = 0; kind = 0; chained = false }
+
+unfoldable pub wide : List Waiting → List Frame
+wide l = map widened l
+
+pub taken-up : (l : List Waiting) (i : ℕ) {p : Frame} → p ≡ widened (getD l i none) → p ≡ getD (wide l) i no-frame
+unfolding wide widened
+taken-up l i e = e ∙ sym (List·getD-map widened l i none)
+
+map-set : {A B : Type 0} (f : A → B) (l : List A) (i : ℕ) (x : A) → map f (set l i x) ≡ set (map f l) i (f x)
+map-set f [] i x = refl
+map-set f (y ∷ l) zero x = refl
+map-set {B = B} f (y ∷ l) (suc i) x = ap (λ (t : List B). f y ∷ t) (map-set f l i x)
+
+pub put-in : (l : List Waiting) (d : ℕ) (f : Frame) {w : Waiting} → w ≡ narrowed f → wide (set l d w) ≡ set (wide l) d f
+unfolding wide narrowed widened
+put-in l d f e = rw e (map-set widened l d (narrowed f))
 
 -- ---- what is lent keeps its length
 pub record Lengths (path₀ binders₀ bound₀ uses₀ spare₀ made₀ places₀ ways₀ hints₀ sheet₀ path₁ binders₁ bound₁ uses₁ spare₁ made₁ places₁ ways₁ hints₁ sheet₁ : List ℕ) : Type 0 where

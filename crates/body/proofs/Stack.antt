@@ -184,11 +184,11 @@ pub record Going (s path binders bound uses spare made places ways hints rows pa
   pub open-lifts : n + lifting frames d + min (f .own) 1 ≤ w .lifts
 
 -- ---- numbers of the end of a node
-pub closed-size : (s : List ℕ) (f : Frame) (n : ℕ) → Sound s f → (3 ≤ closedOf f n .inner) × (closedOf f n .inner ≤ 65535) × (3 ≤ closedOf f n .whole) × (closedOf f n .finished ≡ n + min (f .own) 1)
+pub closed-size : (s : List ℕ) (f : Frame) (n : ℕ) → Sound s f → (3 ≤ closedOf f n .inner) × (closedOf f n .inner ≤ 65535) × (3 ≤ closedOf f n .whole) × (closedOf f n .whole ≤ 65535) × (closedOf f n .finished ≡ n + min (f .own) 1)
 unfolding closedOf plus
 closed-size s f n x = by-test (eqb (f .own) 0)
-    (λ (e : eqb (f .own) 0 ≡ true). let z = eqb-true (f .own) 0 e in let l = x .least in rw e (omega arith, omega arith, omega arith, omega arith))
-    (λ (e : eqb (f .own) 0 ≡ false). let z = some (f .own) (eqb-false (f .own) 0 e) in let l = x .call z in rw e (omega (arith, l .0), omega (arith, l .1), omega (arith, l .0), omega arith))
+    (λ (e : eqb (f .own) 0 ≡ true). let z = eqb-true (f .own) 0 e in let l = x .least in rw e (omega arith, omega arith, omega arith, omega arith, omega arith))
+    (λ (e : eqb (f .own) 0 ≡ false). let z = some (f .own) (eqb-false (f .own) 0 e) in let l = x .call z in let m = x .call-most in rw e (omega arith, omega arith, omega arith, omega arith, omega arith))
   where
     some : (a : ℕ) → (a ≡ 0 → ⊥) → 0 < a
     some zero h = absurd (h refl)

@@ -43,7 +43,19 @@ use Rattle.body.proofs.Stack.{frame-kept, no-frame, waiter, Waits, Stac
 -- ---- a Const field is passed
 pass-sound : {s path binders : List ℕ} {k : ℕ} {f : Frame} {n : Node} {e : ℕ} → Sound s f → Passing s path binders k f n e → Sound s (passed f e)
 unfolding passed plus
-pass-sound x p = record { least = omega (arith, x .least); call = x .call; own = x .own; child = omega (arith, x .child, p .ahead); ends = x .ends }
+pass-sound x p = record {
+  least = omega (arith, x .least);
+  call = x .call;
+  own = x .own;
+  child = omega (arith, x .child, p .ahead);
+  ends = x .ends;
+  place-most = x .place-most;
+  last-most = x .last-most;
+  left-most = omega (arith, x .left-most);
+  done-most = omega arith;
+  link-most = x .link-most;
+  call-most = x .call-most;
+}
 
 pub less-pass : {s path binders : List ℕ} {k : ℕ} {f : Frame} {n : Node} {e : ℕ} → Passing s path binders k f n e → weight s (passed f e) < weight s f
 unfolding passed weight
@@ -178,11 +190,35 @@ delivered-weight s p at e whole b = by-test (p .chained)
     (λ (q : p .chained ≡ true). rw q (omega arith))
     (λ (q : p .chained ≡ false). rw q (omega arith))
 
-delivered-sound : (s : List ℕ) (p : Frame) (at e whole b : ℕ) → Sound s p → p .here ≤ at → at < e → 3 ≤ whole → Sound s (delivered p at e whole b)
+delivered-sound : (s : List ℕ) (p : Frame) (at e whole b : ℕ) → Sound s p → p .here ≤ at → at < e → 3 ≤ whole → whole ≤ 65535 → Sound s (delivered p at e whole b)
 unfolding delivered plus
-delivered-sound s p at e whole b x h l k = by-test (p .chained)
-    (λ (q : p .chained ≡ true). rw q (record { least = x .least; call = x .call; own = x .own; child = x .child; ends = x .ends }))
-    (λ (q : p .chained ≡ false). rw q (record { least = omega arith; call = x .call; own = x .own; child = omega (arith, x .child); ends = x .ends }))
+delivered-sound s p at e whole b x h l k m = by-test (p .chained)
+    (λ (q : p .chained ≡ true). rw q (record {
+      least = x .least;
+      call = x .call;
+      own = x .own;
+      child = x .child;
+      ends = x .ends;
+      place-most = x .place-most;
+      last-most = x .last-most;
+      left-most = x .left-most;
+      done-most = x .done-most;
+      link-most = m;
+      call-most = x .call-most;
+    }))
+    (λ (q : p .chained ≡ false). rw q (record {
+      least = omega arith;
+      call = x .call;
+      own = x .own;
+      child = omega (arith, x .child);
+      ends = x .ends;
+      place-most = x .place-most;
+      last-most = x .last-most;
+      left-most = omega (arith, x .left-most);
+      done-most = omega arith;
+      link-most = x .link-most;
+      call-most = x .call-most;
+    }))
 
 -- the binders then
 bind-length : (s : List ℕ) (p : Frame) (at inner : ℕ) (binders : List ℕ) → length (bindBy s p at inner binders) ≡ length binders
@@ -228,7 +264,7 @@ module _ {s path binders bound uses spare made places ways hints rows params num
     number-long = g .good .number-long;
     numbered = g .good .numbered;
     order-long = omega (arith, g .good .order-long, order-length f order n);
-    finished = omega (arith, closed-size s f n (g .sound) .3, g .open-lifts);
+    finished = omega (arith, closed-size s f n (g .sound) .4, g .open-lifts);
   }
 
   closes : Closing f (g .node) → goOn (g .node) (sheetOf s made places rows params (take n order) w) ≡ ok z sheet
@@ -278,9 +314,9 @@ module _ {s path binders bound uses spare made places ways hints rows params num
         binders-long = omega (arith, g .binders-long, bind-length s p (f .place) (closedOf f n .inner) binders);
         frames-long = g .frames-long;
         sized = delivered-sized s p (f .place) (f .last) (closedOf f n .whole) (closedOf f n .inner) binders (λ j l. g .sized j (omega (arith, v .fewer))) room (k .0);
-        sound = delivered-sound s p (f .place) (f .last) (closedOf f n .whole) (boundAfter s p) (v .sound) (v .opening .behind) (omega (arith, v .ends)) (k .2);
+        sound = delivered-sound s p (f .place) (f .last) (closedOf f n .whole) (boundAfter s p) (v .sound) (v .opening .behind) (omega (arith, v .ends)) (k .2) (k .3);
         deep = omega (arith, g .deep);
-        open-lifts = omega (arith, g .open-lifts, k .3, lifting-less frames d e, m .own);
+        open-lifts = omega (arith, g .open-lifts, k .4, lifting-less frames d e, m .own);
       }
 
   pub goes-back : Closing f (g .node) → 0 < d

@@ -1,12 +1,15 @@
-// The naming pass over one body: one frame for each level, in one local.
+// The naming pass over one body: the frame of the node that is walked, and one for each level above it that waits, in one local.
 use children::Step;
 use children::next_step;
 use done::close_node;
 use done::pass;
 use done::resume_node;
 use ends::end_of;
+use frames::Waiting;
 use frames::combinator_past;
 use frames::open_node;
+use frames::put_away;
+use frames::take_up;
 use lift::Counts;
 use steps::Child;
 use steps::open_child;
@@ -47,9 +50,24 @@ pub fn expand_combinator(
 {
     let end = end_of(s, ends, at);
     let last = combinator_past(s, ends, end);
-    let root = open_node(s, at, end, last, len, b, 0, 0);
-    let mut frames = [root; 64];
-    let mut f = root;
+    let mut f = open_node(s, at, end, last, len, b, 0, 0);
+    let none = Waiting {
+        place: 0,
+        last: 0,
+        here: 0,
+        end: 0,
+        left: 0,
+        child: 0,
+        len: 0,
+        bound: 0,
+        done: 0,
+        link: 0,
+        own: 0,
+        call: 0,
+        kind: 0,
+        chained: false,
+    };
+    let mut frames = [none; 64];
     let mut d = 0;
     let mut counts = w;
     let mut finished = n;
@@ -67,7 +85,8 @@ pub fn expand_combinator(
                     return Body::Named(counts, finished);
                 }
                 d -= 1;
-                let p = frames[d];
+                let waiting = frames[d];
+                let p = take_up(waiting);
                 f = resume_node(s, p, f, z, binders);
                 continue;
             }
@@ -96,7 +115,8 @@ pub fn expand_combinator(
                         return Body::Refused(c);
                     }
                     Child::Opened(g, v) => {
-                        frames[d] = f;
+                        let waiting = put_away(f);
+                        frames[d] = waiting;
                         d += 1;
                         f = g;
                         counts = v;

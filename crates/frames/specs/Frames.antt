@@ -12,6 +12,7 @@ use Rattle.seek.specs.Here.{Here}
 use Rattle.ends.specs.Ends.{innerEnd}
 use Rattle.frames.specs.declared.Frame.{Frame}
 use Rattle.frames.specs.declared.Begin.{Begin}
+use Rattle.frames.specs.declared.Waiting.{Waiting}
 
 -- a combinator stands at a place
 pub record Stands (s : List ℕ) (p : ℕ) (c : Combinator) : Type 0 where
@@ -87,3 +88,54 @@ frameAt s at last len bound own call =
       own = own;
       call = call;
     }
+
+-- a frame whose numbers have 16 bits, as it waits, and the frame again
+pub record Narrow (f : Frame) : Type 0 where
+  pub place : f .place ≤ 65535
+  pub last : f .last ≤ 65535
+  pub here : f .here ≤ 65535
+  pub end : f .end ≤ 65535
+  pub left : f .left ≤ 65535
+  pub child : f .child ≤ 65535
+  pub len : f .len ≤ 65535
+  pub bound : f .bound ≤ 65535
+  pub done : f .done ≤ 65535
+  pub link : f .link ≤ 65535
+  pub own : f .own ≤ 65535
+  pub call : f .call ≤ 65535
+
+unfoldable pub narrowed : Frame → Waiting
+narrowed f = record {
+  place = f .place;
+  last = f .last;
+  here = f .here;
+  end = f .end;
+  left = f .left;
+  child = f .child;
+  len = f .len;
+  bound = f .bound;
+  done = f .done;
+  link = f .link;
+  own = f .own;
+  call = f .call;
+  kind = f .kind;
+  chained = f .chained;
+}
+
+unfoldable pub widened : Waiting → Frame
+widened w = record {
+  place = w .place;
+  last = w .last;
+  here = w .here;
+  end = w .end;
+  left = w .left;
+  kind = w .kind;
+  child = w .child;
+  len = w .len;
+  bound = w .bound;
+  done = w .done;
+  chained = w .chained;
+  link = w .link;
+  own = w .own;
+  call = w .call;
+}

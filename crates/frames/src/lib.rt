@@ -9,7 +9,7 @@ ghost use mathlib.Core.Path.{_≡_};
 ghost use Prim.Native.Nat.{_≤_};
 ghost use lib.ListN.{length};
 ghost use Rattle.ends.specs.Ends.{innerEnd, Right};
-ghost use Rattle.frames.specs.Frames.{combinatorEnd, combinatorPast, casesBegin, beginAt, Standing, Follows, frameAt};
+ghost use Rattle.frames.specs.Frames.{combinatorEnd, combinatorPast, casesBegin, beginAt, Standing, Follows, frameAt, Narrow, narrowed, widened};
 
 // A node on the way: its combinator from `place` up to `last`; its inner's rest from `here` up to `end`; how many children are left, their
 // sort, and the number of the next; the name's length in the path; how many binders are in force; what the inner takes up to `here` after
@@ -29,6 +29,24 @@ pub struct Frame {
     pub link: usize,
     pub own: usize,
     pub call: usize,
+}
+
+// A frame that waits while a child of its node is walked: the same, with numbers of 16 bits.
+pub struct Waiting {
+    pub place: u16,
+    pub last: u16,
+    pub here: u16,
+    pub end: u16,
+    pub left: u16,
+    pub child: u16,
+    pub len: u16,
+    pub bound: u16,
+    pub done: u16,
+    pub link: u16,
+    pub own: u16,
+    pub call: u16,
+    pub kind: u8,
+    pub chained: bool,
 }
 
 // Where the children of an inner begin, their sort and how many there are.
@@ -179,5 +197,50 @@ pub fn open_node(
         link: 0,
         own,
         call,
+    }
+}
+
+// The frame as it waits.
+pub fn put_away(f: Frame) -> Waiting
+    requires { ⌜ Narrow f ⌝ }
+    ensures { λ r. ⌜ r ≡ narrowed f ⌝ }
+{
+    Waiting {
+        place: f.place as u16,
+        last: f.last as u16,
+        here: f.here as u16,
+        end: f.end as u16,
+        left: f.left as u16,
+        child: f.child as u16,
+        len: f.len as u16,
+        bound: f.bound as u16,
+        done: f.done as u16,
+        link: f.link as u16,
+        own: f.own as u16,
+        call: f.call as u16,
+        kind: f.kind,
+        chained: f.chained,
+    }
+}
+
+// The frame that waited.
+pub fn take_up(w: Waiting) -> Frame
+    ensures { λ r. ⌜ r ≡ widened w ⌝ }
+{
+    Frame {
+        place: w.place as usize,
+        last: w.last as usize,
+        here: w.here as usize,
+        end: w.end as usize,
+        left: w.left as usize,
+        kind: w.kind,
+        child: w.child as usize,
+        len: w.len as usize,
+        bound: w.bound as usize,
+        done: w.done as usize,
+        chained: w.chained,
+        link: w.link as usize,
+        own: w.own as usize,
+        call: w.call as usize,
     }
 }

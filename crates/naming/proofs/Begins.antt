@@ -2,13 +2,13 @@
 -- Assumes nothing.
 use mathlib.Core.Path.{_≡_, refl}
 use mathlib.Core.List.{List, [], _∷_}
-use Prim.Native.Nat.{ℕ, _+_}
+use Prim.Native.Nat.{ℕ, _+_, _≤_}
 use native.Mathlib.Omega.{arith}
 use lib.Dec.{eqb}
 use lib.ListN.{length}
-use Rattle.definition.specs.Tree.{Leaf, constraint-int, constraint-enum, bits, enum, tail, nothing, never, Shell, wrap, vec, option, array, CaseKind, enums, ints, arrays, Selector, none, by, Combinator, Inner, leaf, struct, choice, shell, bytes, invocation, macro-invocation, Cases}
+use Rattle.definition.specs.Tree.{Leaf, constraint-int, constraint-enum, bits, enum, tail, nothing, never, Shell, wrap, vec, option, array, CaseKind, enums, ints, arrays, Selector, none, by, Combinator, Inner, leaf, struct, choice, shell, bytes, invocation, macro-invocation, Fields, no-field, field, const, Cases, no-case, case}
 use Rattle.definition.specs.Write.{wU16, wName, wText, wSelector, wLen, wList, wOpen, wShut, leafTag, caseByte, countF, countC, countA, wInner, wCombinator, wFields, wCases, wInners}
-use Rattle.laws.proofs.Sizes.{adds}
+use Rattle.laws.proofs.Sizes.{adds, size-some, sizeI-some, sizeF, sizeC, size-struct, size-choice, size-field, size-constant, size-case}
 use Rattle.laws.proofs.Splits.{s-selector}
 use Rattle.seek.specs.At.{byteAt, pastAt, numberAt, selectorPast, pick}
 use Rattle.seek.specs.Here.{Here}
@@ -80,16 +80,28 @@ before-cases : (x : Selector) (b n : ℕ) (z : List ℕ) → length (7 ∷ wSele
 unfolding wU16
 before-cases x b n z = omega (arith, adds (wSelector x) (s-selector x) (b ∷ wU16 n z))
 
+-- each child takes a byte at least
+fields-few : (f : Fields) → countF f ≤ sizeF f
+unfolding countF
+fields-few no-field = omega arith
+fields-few (field k l c f) = omega (arith, size-field k l c f, fields-few f)
+fields-few (const l x f) = omega (arith, size-constant l x f, fields-few f)
+
+cases-few : (f : Cases) (k : CaseKind) → countC f ≤ sizeC f k
+unfolding countC
+cases-few no-case k = omega arith
+cases-few (case l c f) k = omega (arith, size-case l c f k, size-some c, cases-few f k)
+
 pub begins : (i : Inner) (z : List ℕ) {s : List ℕ} {p : ℕ} → Here s p (wInner i z) → Begins s z p i (beginAt s p)
 unfolding RestIs restOf skip wCombinator
-begins (leaf k x) z {s} {p} h = rw (begin-leaf k x z h) (record { here = omega arith; rest = refl })
+begins (leaf k x) z {s} {p} h = rw (begin-leaf k x z h) (record { here = omega arith; rest = refl; few = omega arith })
 begins (struct f) z {s} {p} h =
     let b = number-past (countF f) (next-here h) in
-    rw (begin-struct (countF f) (wFields f z) h) (record { here = omega (arith, here-length h, here-length b, before-fields (countF f) (wFields f z)); rest = (b, refl, refl) })
+    rw (begin-struct (countF f) (wFields f z) h) (record { here = omega (arith, here-length h, here-length b, before-fields (countF f) (wFields f z)); rest = (b, refl, refl); few = omega (arith, size-struct f, fields-few f) })
 begins (choice x k f) z {s} {p} h =
     let d = number-past (countC f) (next-here (selector-is x (next-here h))) in
-    rw (begin-choice x k f z h) (record { here = omega (arith, here-length h, here-length d, before-cases x (caseByte k) (countC f) (wCases f k z)); rest = (d, refl, refl, refl) })
-begins (shell x c) z {s} {p} h = rw (begin-shell x c (wShut x z) h) (record { here = omega arith; rest = (h, refl, refl) })
-begins (bytes l) z {s} {p} h = rw (begin-bytes (wLen l z) h) (record { here = omega arith; rest = refl })
-begins (invocation n a) z {s} {p} h = rw (begin-call (wName n (wList wName a z)) h) (record { here = omega arith; rest = refl })
-begins (macro-invocation n a) z {s} {p} h = rw (begin-macro (wName n (wU16 (countA a) (wInners a z))) h) (record { here = omega arith; rest = refl })
+    rw (begin-choice x k f z h) (record { here = omega (arith, here-length h, here-length d, before-cases x (caseByte k) (countC f) (wCases f k z)); rest = (d, refl, refl, refl); few = omega (arith, size-choice x k f, cases-few f k) })
+begins (shell x c) z {s} {p} h = rw (begin-shell x c (wShut x z) h) (record { here = omega arith; rest = (h, refl, refl); few = omega (arith, sizeI-some (shell x c)) })
+begins (bytes l) z {s} {p} h = rw (begin-bytes (wLen l z) h) (record { here = omega arith; rest = refl; few = omega arith })
+begins (invocation n a) z {s} {p} h = rw (begin-call (wName n (wList wName a z)) h) (record { here = omega arith; rest = refl; few = omega arith })
+begins (macro-invocation n a) z {s} {p} h = rw (begin-macro (wName n (wU16 (countA a) (wInners a z))) h) (record { here = omega arith; rest = refl; few = omega arith })

@@ -36,7 +36,7 @@ use Rattle.naming.proofs.Begins.{begins}
 use Rattle.naming.proofs.Back.{past-one, node, back-chain, back-field, back-case, back-one}
 use Rattle.naming.proofs.Machine.{opens-chain, opens-field, opens-case, opens-one, passes-const, ends-fields, ends-cases, ends-tail}
 
-size-rest : (i : Inner) → skip i + sizeRest (restOf i) ≡ sizeI i
+pub size-rest : (i : Inner) → skip i + sizeRest (restOf i) ≡ sizeI i
 unfolding skip sizeRest restOf
 size-rest (leaf k x) = omega arith
 size-rest (struct f) = omega (arith, size-struct f)

@@ -51,6 +51,8 @@ levelsLink (behind l) = 0
 pub record Begins (s z : List ℕ) (at : ℕ) (i : Inner) (r : Begin) : Type 0 where
   pub here : r .here ≡ at + skip i
   pub rest : RestIs s z (r .here) (r .kind) (r .left) 0 (restOf i)
+  -- each child takes a byte at least
+  pub few : r .left ≤ sizeI i
 
 -- the chain of an inner that ends at a place
 unfoldable pub LinkIs : List ℕ → ℕ → Bool → ℕ → Link → Type 0

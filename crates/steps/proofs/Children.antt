@@ -12,7 +12,7 @@ use Rattle.definition.specs.Tree.{Combinator, plain, chained, Inner, leaf, stru
 use Rattle.definition.specs.Write.{wU16, wName, wText, wLen, wList, countA, wInner, wCombinator, wInners}
 use Rattle.definition.specs.Size.{size, levels}
 use Rattle.laws.proofs.Sizes.{adds, open-some, sizeI, size-struct, size-choice, size-shell, size-plain, size-chained}
-use Rattle.laws.proofs.Splits.{s-inner}
+use Rattle.laws.proofs.Splits.{s-comb, s-inner}
 use Rattle.lifting.proofs.Ranges.{sizeI-some}
 use Rattle.seek.specs.Here.{Here}
 use Rattle.seek.proofs.Here.{here-length, byte-here, next-here}
@@ -34,7 +34,7 @@ use Rattle.naming.specs.Nodes.{walked, lifted, nodeOf, run}
 use Rattle.naming.specs.Frames.{OwnIs}
 use Rattle.naming.specs.Lifts.{Whole, Answers, Lifts}
 use Rattle.naming.proofs.Begins.{begins}
-use Rattle.naming.proofs.Opened.{frame-opens}
+use Rattle.naming.proofs.Opened.{size-rest, frame-opens}
 use Rattle.naming.proofs.Machine.{steps-walked, steps-lifted, steps-refused}
 use Rattle.steps.specs.Steps.{Sound, weight, Opened, ChildIs, Comes}
 use Rattle.steps.specs.declared.Child.the-variants as comes
@@ -66,17 +66,35 @@ levels-some (chained i c) = omega arith
 
 -- ---- the frame of a node that is opened
 module _ {s : List ℕ} {at : ℕ} (small : length s ≤ 16384) where
-  inner-frame : (i : Inner) (z : List ℕ) (last len bound own call : ℕ) → levels (plain i) ≤ 64 → Here s at (wInner i z) → own ≤ 512 → (0 < own → (5 ≤ call) × (call ≤ 16384)) → Sound s (frameAt s at last len bound own call)
+  inner-frame : (i : Inner) (z : List ℕ) (last len bound own call : ℕ) → levels (plain i) ≤ 64 → Here s at (wInner i z) → last ≤ length s → own ≤ 512 → (0 < own → 5 ≤ call) → call ≤ 16384 → Sound s (frameAt s at last len bound own call)
   unfolding frameAt levels sizeI
-  inner-frame i z last len bound own call d h small-own calls =
+  inner-frame i z last len bound own call d h in-book small-own least most =
       let e = inner-end (omega arith) i z h in
       let l = inner-least i in
-      record { least = omega arith; call = calls; own = small-own; child = omega arith; ends = omega (arith, here-length h, adds (wInner i) (s-inner i) z) }
+      let b = begins i z h in
+      let r = size-rest i in
+      record {
+        least = omega arith;
+        call = least;
+        own = small-own;
+        child = omega arith;
+        ends = omega (arith, here-length h, adds (wInner i) (s-inner i) z);
+        place-most = h .reach;
+        last-most = in-book;
+        left-most = omega (arith, b .few, here-length h, adds (wInner i) (s-inner i) z);
+        done-most = omega (arith, b .here, r, here-length h, adds (wInner i) (s-inner i) z);
+        link-most = omega arith;
+        call-most = most;
+      }
 
-  pub frame-sound : (c : Combinator) (z : List ℕ) (last len bound own call : ℕ) → levels c ≤ 64 → Here s at (wCombinator c z) → own ≤ 512 → (0 < own → (5 ≤ call) × (call ≤ 16384)) → Sound s (frameAt s at last len bound own call)
+  in-book : (c : Combinator) (z : List ℕ) {last : ℕ} → Here s at (wCombinator c z) → last ≡ at + size c → last ≤ length s
+  unfolding size
+  in-book c z h e = omega (arith, here-length h, adds (wCombinator c) (s-comb c) z)
+
+  pub frame-sound : (c : Combinator) (z : List ℕ) (last len bound own call : ℕ) → levels c ≤ 64 → Here s at (wCombinator c z) → last ≡ at + size c → own ≤ 512 → (0 < own → 5 ≤ call) → call ≤ 16384 → Sound s (frameAt s at last len bound own call)
   unfolding wCombinator levels
-  frame-sound (plain i) z last len bound own call d h o k = inner-frame i (0 ∷ z) last len bound own call (omega arith) h o k
-  frame-sound (chained i c) z last len bound own call d h o k = inner-frame i (1 ∷ wCombinator c z) last len bound own call (omega arith) h o k
+  frame-sound (plain i) z last len bound own call d h e o l m = inner-frame i (0 ∷ z) last len bound own call (omega arith) h (in-book (plain i) z h e) o l m
+  frame-sound (chained i c) z last len bound own call d h e o l m = inner-frame i (1 ∷ wCombinator c z) last len bound own call (omega arith) h (in-book (chained i c) z h e) o l m
 
   pub frame-light : (c : Combinator) (z : List ℕ) (last len bound own call : ℕ) → levels c ≤ 64 → Here s at (wCombinator c z) → weight s (frameAt s at last len bound own call) + 2 ≤ 3 * size c
   unfolding wCombinator levels weight frameAt
@@ -138,7 +156,7 @@ module _ {s : List ℕ} {at : ℕ} {path : List ℕ} {len : ℕ} {binders : List
             last = wh .ends;
             longer = omega arith;
             bound = refl;
-            sound = frame-sound small c (st .after) last len b 0 0 (omega arith) (st .is) (omega arith) (λ h. absurd (omega arith));
+            sound = frame-sound small c (st .after) last len b 0 0 (omega arith) (st .is) (wh .ends) (omega arith) (λ h. absurd (omega arith)) (omega arith);
             counted = omega arith;
             light = frame-light small c (st .after) last len b 0 0 (omega arith) (st .is);
           }),
@@ -172,7 +190,6 @@ module _ {s : List ℕ} {at : ℕ} {path : List ℕ} {len : ℕ} {binders : List
           let after-rows : rowsOf s made′ rows′ params′ (v .lifts) ≡ rowsOf s made rows params (w .lifts) ++ (q .row ∷ []) = sym (ap (λ (z : Sheet). z .rows) (y .says)) ∙ q .rows in
           let tb = y .right .0 in
           let len-rows = rows-length s made rows params (w .lifts) in
-          let calls : (5 ≤ call) × (call ≤ 16384) = (omega (arith, y .size, q .least), omega (arith, y .size, q .most, tb .bytes-most)) in
           let own-few : own ≤ 512 = omega (arith, y .right .2, tb .few .0, tb .defns-most) in (
             rw eg (record {
               node = nodeOf c at (y .start .name) (nd .env) (lifted (length (t .rows)) (y .start .call));
@@ -182,7 +199,7 @@ module _ {s : List ℕ} {at : ℕ} {path : List ℕ} {len : ℕ} {binders : List
               last = wh .ends;
               longer = omega (arith, held .place, y .held .place, q .longer);
               bound = refl;
-              sound = frame-sound small c (st .after) last n b own call (omega arith) (st .is) own-few (λ h. calls);
+              sound = frame-sound small c (st .after) last n b own call (omega arith) (st .is) (wh .ends) own-few (λ h. omega (arith, y .size, q .least)) (omega (arith, y .size, q .most, tb .bytes-most));
               counted = omega (arith, y .right .2);
               light = frame-light small c (st .after) last n b own call (omega arith) (st .is);
             }),

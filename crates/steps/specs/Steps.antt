@@ -25,10 +25,17 @@ use Rattle.steps.specs.declared.Child.the-variants as comes
 pub record Sound (s : List ℕ) (f : Frame) : Type 0 where
   -- no inner has fewer than three bytes after lifting, and no call fewer than five
   pub least : 3 ≤ f .done + (f .end - f .here)
-  pub call : 0 < f .own → (5 ≤ f .call) × (f .call ≤ 16384)
+  pub call : 0 < f .own → 5 ≤ f .call
   pub own : f .own ≤ 512
   pub child : f .child ≤ f .here
   pub ends : f .end ≤ length s
+  -- its numbers have 16 bits
+  pub place-most : f .place ≤ length s
+  pub last-most : f .last ≤ length s
+  pub left-most : f .left ≤ 65535
+  pub done-most : f .done ≤ 65535
+  pub link-most : f .link ≤ 65535
+  pub call-most : f .call ≤ 16384
 
 -- what is left to walk for a frame: its rest, and its chain if that is still to be walked
 unfoldable pub weight : List ℕ → Frame → ℕ

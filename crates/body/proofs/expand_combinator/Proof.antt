@@ -5,18 +5,18 @@ use native.Mathlib.Omega.{arith}
 use borrow.Author.Needs.{needs}
 use Rattle.tables.specs.Parts.{orderIn, rowsIn, paramsIn, numberIn}
 use Rattle.frames.proofs.Ends.{stood, follows}
-use Rattle.body.proofs.Rounds.{Round, left, round-start, round-deep, pass-safe, close-safe, resume-safe, round-pass, round-less-pass, walks-last, round-back, round-less-back, open-safe, walks-refused, round-open, round-less-open, some, Lengths, lengths-on}
+use Rattle.body.proofs.Rounds.{Round, left, round-start, round-deep, pass-safe, close-safe, resume-safe, round-pass, round-less-pass, walks-last, round-back, round-less-back, open-safe, away-safe, walks-refused, round-open, round-less-open, some, wide, taken-up, put-in, Lengths, lengths-on}
 use Rattle.body.proofs.expand_combinator.Statement.{statement}
 use Rattle.body.proofs.expand_combinator.Tie as tie
 
 abbrev Inv-loop : tie.InvT-loop
-Inv-loop s ends at path₀ len binders₀ b bound₀ uses₀ spare₀ made₀ places₀ ways₀ hints₀ sheet₀ n end last frames₀ f₀ d₀ counts₀ finished₀ path binders bound uses spare made places ways hints sheet frames f d counts finished =
-    Round s at path₀ len binders₀ b made₀ places₀ (rowsIn sheet₀) (paramsIn sheet₀) (orderIn sheet₀) counts₀ n path binders bound uses spare made places ways hints (rowsIn sheet) (paramsIn sheet) (numberIn sheet) (orderIn sheet) frames f d counts finished
+Inv-loop s ends at path₀ len binders₀ b bound₀ uses₀ spare₀ made₀ places₀ ways₀ hints₀ sheet₀ n end last f₀ frames₀ d₀ counts₀ finished₀ path binders bound uses spare made places ways hints sheet f frames d counts finished =
+    Round s at path₀ len binders₀ b made₀ places₀ (rowsIn sheet₀) (paramsIn sheet₀) (orderIn sheet₀) counts₀ n path binders bound uses spare made places ways hints (rowsIn sheet) (paramsIn sheet) (numberIn sheet) (orderIn sheet) (wide frames) f d counts finished
     × Lengths path₀ binders₀ bound₀ uses₀ spare₀ made₀ places₀ ways₀ hints₀ sheet₀ path binders bound uses spare made places ways hints sheet
 
 abbrev μ-loop : tie.MeasureT-loop
-μ-loop s ends at path₀ len binders₀ b bound₀ uses₀ spare₀ made₀ places₀ ways₀ hints₀ sheet₀ n end last frames₀ f₀ d₀ counts₀ finished₀ path binders bound uses spare made places ways hints sheet frames f d counts finished =
-    left s frames f d
+μ-loop s ends at path₀ len binders₀ b bound₀ uses₀ spare₀ made₀ places₀ ways₀ hints₀ sheet₀ n end last f₀ frames₀ d₀ counts₀ finished₀ path binders bound uses spare made places ways hints sheet f frames d counts finished =
+    left s (wide frames) f d
 
 end-of-requires : tie.Need-end-of-requires Inv-loop μ-loop
 end-of-requires c κs = let p = c .before .before .before .before .before .before .before .before .before .before .before .before .pre in (p .3, stood (omega (arith, p .0 .tables .source)) (p .1 .stands))
@@ -28,7 +28,8 @@ open-node-requires : tie.Need-open-node-requires Inv-loop μ-loop
 open-node-requires c κs = c .before .end-of .ensures
 
 loop-holds : tie.Need-loop-holds Inv-loop μ-loop
-loop-holds c = (round-start _ (c .before .before .before .before .before .before .before .before .before .before .before .before .before .before .before .pre .2) (c .before .before .before .before .before .before .before .before .before .before .before .before .before .before .before .pre .0) (c .before .before .before .before .before .before .before .before .before .before .before .before .before .before .before .pre .1) (c .open-node .ensures) refl, record { path = refl; binders = refl; bound = refl; uses = refl; spare = refl; made = refl; places = refl; ways = refl; hints = refl; sheet = refl })
+unfolding wide
+loop-holds c = (round-start (c .before .before .end-of .ensures) (c .before .combinator-past .ensures) (c .before .before .before .before .before .before .before .before .before .before .before .before .before .before .before .pre .2) (c .before .before .before .before .before .before .before .before .before .before .before .before .before .before .before .pre .0) (c .before .before .before .before .before .before .before .before .before .before .before .before .before .before .before .pre .1) (c .open-node .ensures) refl, record { path = refl; binders = refl; bound = refl; uses = refl; spare = refl; made = refl; places = refl; ways = refl; hints = refl; sheet = refl })
 
 pass-requires : tie.Need-pass-requires Inv-loop μ-loop
 pass-requires c κs = pass-safe (c .before .before .before .before .before .before .before .loop .inv .0)
@@ -78,22 +79,22 @@ same-length-10 c = c .before .before .sheet .given ∙ c .before .before .before
 returns : tie.Need-returns Inv-loop μ-loop
 returns c = walks-last (c .before .before .before .before .before .before .before .before .before .before .before .loop .inv .0) _ (c .before .before .before .before .before .before .before .before .before .next-step .ensures) (c .before .before .before .before .before .enum-told .given .1) (c .before .before .before .close-node .ensures .0) (c .before .before .before .close-node .ensures .1) (c .if1 .taken)
 
-mul-p : tie.Need-mul-p Inv-loop μ-loop
-mul-p c = omega (arith, round-deep (c .before .before .before .before .before .before .before .before .before .before .before .loop .inv .0))
+mul-waiting : tie.Need-mul-waiting Inv-loop μ-loop
+mul-waiting c = omega (arith, round-deep (c .before .before .before .before .before .before .before .before .before .before .before .loop .inv .0))
 
-array-copy-out-p : tie.Need-array-copy-out-p Inv-loop μ-loop
-array-copy-out-p c = omega (arith, round-deep (c .before .before .before .before .before .before .before .before .before .before .before .loop .inv .0))
+array-copy-out-waiting : tie.Need-array-copy-out-waiting Inv-loop μ-loop
+array-copy-out-waiting c = omega (arith, round-deep (c .before .before .before .before .before .before .before .before .before .before .before .loop .inv .0))
 
 resume-node-requires : tie.Need-resume-node-requires Inv-loop μ-loop
-resume-node-requires c κs = resume-safe (c .before .before .before .before .before .before .before .before .before .before .before .before .before .loop .inv .0) (some _ (c .before .before .if1 .left))
+resume-node-requires c κs = resume-safe (c .before .before .before .before .before .before .before .before .before .before .before .before .before .before .loop .inv .0) (taken-up _ _ (c .before .take-up .ensures)) (some _ (c .before .before .before .if1 .left))
 
 loop-less-2 : tie.Need-loop-less-2 Inv-loop μ-loop
-loop-less-2 c = round-less-back (c .before .before .before .before .before .before .before .before .before .before .before .before .before .before .before .before .loop .inv .0) _ (c .before .before .before .before .before .before .before .before .before .before .before .before .before .before .next-step .ensures) (c .before .before .before .before .before .before .before .before .before .before .enum-told .given .1) (c .before .before .before .before .before .before .before .before .close-node .ensures .0) (c .before .before .before .before .before .before .before .before .close-node .ensures .1) (some _ (c .before .before .before .before .before .if1 .left)) (c .before .before .resume-node .ensures .0) (c .before .before .resume-node .ensures .1)
+loop-less-2 c = round-less-back (c .before .before .before .before .before .before .before .before .before .before .before .before .before .before .before .before .before .loop .inv .0) _ (c .before .before .before .before .before .before .before .before .before .before .before .before .before .before .before .next-step .ensures) (c .before .before .before .before .before .before .before .before .before .before .before .enum-told .given .1) (c .before .before .before .before .before .before .before .before .before .close-node .ensures .0) (c .before .before .before .before .before .before .before .before .before .close-node .ensures .1) (some _ (c .before .before .before .before .before .before .if1 .left)) (taken-up _ _ (c .before .before .before .before .take-up .ensures)) (c .before .before .resume-node .ensures .0) (c .before .before .resume-node .ensures .1)
 
 loop-again-2 : tie.Need-loop-again-2 Inv-loop μ-loop
 loop-again-2 c = (
-  round-back (c .before .before .before .before .before .before .before .before .before .before .before .before .before .before .before .before .loop .inv .0) _ (c .before .before .before .before .before .before .before .before .before .before .before .before .before .before .next-step .ensures) (c .before .before .before .before .before .before .before .before .before .before .enum-told .given .1) (c .before .before .before .before .before .before .before .before .close-node .ensures .0) (c .before .before .before .before .before .before .before .before .close-node .ensures .1) (some _ (c .before .before .before .before .before .if1 .left)) (c .before .before .resume-node .ensures .0) (c .before .before .resume-node .ensures .1),
-  lengths-on (c .before .before .before .before .before .before .before .before .before .before .before .before .before .before .before .before .loop .inv .1) (record { path = c .before .before .before .before .before .before .before .before .before .before .before .before .before .path .given; binders = c .before .binders .given; bound = refl; uses = refl; spare = refl; made = refl; places = refl; ways = refl; hints = refl; sheet = c .before .before .before .before .before .before .before .sheet .given }),
+  round-back (c .before .before .before .before .before .before .before .before .before .before .before .before .before .before .before .before .before .loop .inv .0) _ (c .before .before .before .before .before .before .before .before .before .before .before .before .before .before .before .next-step .ensures) (c .before .before .before .before .before .before .before .before .before .before .before .enum-told .given .1) (c .before .before .before .before .before .before .before .before .before .close-node .ensures .0) (c .before .before .before .before .before .before .before .before .before .close-node .ensures .1) (some _ (c .before .before .before .before .before .before .if1 .left)) (taken-up _ _ (c .before .before .before .before .take-up .ensures)) (c .before .before .resume-node .ensures .0) (c .before .before .resume-node .ensures .1),
+  lengths-on (c .before .before .before .before .before .before .before .before .before .before .before .before .before .before .before .before .before .loop .inv .1) (record { path = c .before .before .before .before .before .before .before .before .before .before .before .before .before .before .path .given; binders = c .before .binders .given; bound = refl; uses = refl; spare = refl; made = refl; places = refl; ways = refl; hints = refl; sheet = c .before .before .before .before .before .before .before .before .sheet .given }),
 )
 
 open-child-requires : tie.Need-open-child-requires Inv-loop μ-loop
@@ -132,22 +133,25 @@ same-length-20 c = c .before .before .before .before .sheet2 .given ∙ c .befor
 returns-2 : tie.Need-returns-2 Inv-loop μ-loop
 returns-2 c = walks-refused (c .before .before .before .before .before .before .before .before .before .before .before .before .before .before .before .before .before .before .before .before .before .before .before .before .before .before .before .before .before .before .before .before .before .before .before .before .before .before .before .loop .inv .0) _ (c .before .before .before .before .before .before .before .before .before .before .before .before .before .before .before .before .before .before .before .before .before .before .before .before .before .before .before .before .before .before .before .before .before .before .before .before .before .next-step .ensures) (c .before .before .before .before .before .before .before .before .before .before .before .before .before .before .before .before .before .before .before .before .before .before .before .before .before .before .before .before .before .before .before .before .before .step2 .given .1) (c .before .before .before .before .before .before .before .before .before .before .before .before .before .before .before .before .before .before .before .before .before .before .before .before .before .before .before .before .before .before .before .before .before .before .before .before .path .given) (c .before .before .before .before .before .before .before .before .before .before .before .before .before .before .before .before .before .before .before .before .before .open-child .ensures .0) (c .before .child .given .1) (c .before .before .before .before .before .before .before .before .before .before .before .before .before .before .before .before .before .before .before .before .before .open-child .ensures .1)
 
+put-away-requires : tie.Need-put-away-requires Inv-loop μ-loop
+put-away-requires c κs = away-safe (c .before .before .before .before .before .before .before .before .before .before .before .before .before .before .before .before .before .before .before .before .before .before .before .before .before .before .before .before .before .before .before .before .before .before .before .before .before .before .before .loop .inv .0)
+
 mul-frames : tie.Need-mul-frames Inv-loop μ-loop
-mul-frames c = omega (arith, round-deep (c .before .before .before .before .before .before .before .before .before .before .before .before .before .before .before .before .before .before .before .before .before .before .before .before .before .before .before .before .before .before .before .before .before .before .before .before .before .before .before .loop .inv .0))
+mul-frames c = omega (arith, round-deep (c .before .before .before .before .before .before .before .before .before .before .before .before .before .before .before .before .before .before .before .before .before .before .before .before .before .before .before .before .before .before .before .before .before .before .before .before .before .before .before .before .loop .inv .0))
 
 add-d : tie.Need-add-d Inv-loop μ-loop
-add-d c = omega (arith, round-deep (c .before .before .before .before .before .before .before .before .before .before .before .before .before .before .before .before .before .before .before .before .before .before .before .before .before .before .before .before .before .before .before .before .before .before .before .before .before .before .before .loop .inv .0))
+add-d c = omega (arith, round-deep (c .before .before .before .before .before .before .before .before .before .before .before .before .before .before .before .before .before .before .before .before .before .before .before .before .before .before .before .before .before .before .before .before .before .before .before .before .before .before .before .before .loop .inv .0))
 
 array-set-from-frames : tie.Need-array-set-from-frames Inv-loop μ-loop
-array-set-from-frames c = omega (arith, round-deep (c .before .before .before .before .before .before .before .before .before .before .before .before .before .before .before .before .before .before .before .before .before .before .before .before .before .before .before .before .before .before .before .before .before .before .before .before .before .before .before .loop .inv .0))
+array-set-from-frames c = omega (arith, round-deep (c .before .before .before .before .before .before .before .before .before .before .before .before .before .before .before .before .before .before .before .before .before .before .before .before .before .before .before .before .before .before .before .before .before .before .before .before .before .before .before .before .loop .inv .0))
 
 loop-less-3 : tie.Need-loop-less-3 Inv-loop μ-loop
-loop-less-3 c = round-less-open (c .before .before .before .before .before .before .before .before .before .before .before .before .before .before .before .before .before .before .before .before .before .before .before .before .before .before .before .before .before .before .before .before .before .before .before .before .before .before .before .loop .inv .0) _ (c .before .before .before .before .before .before .before .before .before .before .before .before .before .before .before .before .before .before .before .before .before .before .before .before .before .before .before .before .before .before .before .before .before .before .before .before .before .next-step .ensures) (c .before .before .before .before .before .before .before .before .before .before .before .before .before .before .before .before .before .before .before .before .before .before .before .before .before .before .before .before .before .before .before .before .before .step2 .given .1) (c .before .before .before .before .before .before .before .before .before .before .before .before .before .before .before .before .before .before .before .before .before .before .before .before .before .before .before .before .before .before .before .before .before .before .before .before .path .given) (c .before .before .before .before .before .before .before .before .before .before .before .before .before .before .before .before .before .before .before .before .before .open-child .ensures .0) (c .before .child2 .given .1)
+loop-less-3 c = round-less-open (c .before .before .before .before .before .before .before .before .before .before .before .before .before .before .before .before .before .before .before .before .before .before .before .before .before .before .before .before .before .before .before .before .before .before .before .before .before .before .before .before .loop .inv .0) _ (c .before .before .before .before .before .before .before .before .before .before .before .before .before .before .before .before .before .before .before .before .before .before .before .before .before .before .before .before .before .before .before .before .before .before .before .before .before .before .next-step .ensures) (c .before .before .before .before .before .before .before .before .before .before .before .before .before .before .before .before .before .before .before .before .before .before .before .before .before .before .before .before .before .before .before .before .before .before .step2 .given .1) (c .before .before .before .before .before .before .before .before .before .before .before .before .before .before .before .before .before .before .before .before .before .before .before .before .before .before .before .before .before .before .before .before .before .before .before .before .before .path .given) (c .before .before .before .before .before .before .before .before .before .before .before .before .before .before .before .before .before .before .before .before .before .before .open-child .ensures .0) (c .before .before .child2 .given .1) (put-in _ _ _ (c .put-away .ensures))
 
 loop-again-3 : tie.Need-loop-again-3 Inv-loop μ-loop
 loop-again-3 c = (
-  round-open (c .before .before .before .before .before .before .before .before .before .before .before .before .before .before .before .before .before .before .before .before .before .before .before .before .before .before .before .before .before .before .before .before .before .before .before .before .before .before .before .loop .inv .0) _ (c .before .before .before .before .before .before .before .before .before .before .before .before .before .before .before .before .before .before .before .before .before .before .before .before .before .before .before .before .before .before .before .before .before .before .before .before .before .next-step .ensures) (c .before .before .before .before .before .before .before .before .before .before .before .before .before .before .before .before .before .before .before .before .before .before .before .before .before .before .before .before .before .before .before .before .before .step2 .given .1) (c .before .before .before .before .before .before .before .before .before .before .before .before .before .before .before .before .before .before .before .before .before .before .before .before .before .before .before .before .before .before .before .before .before .before .before .before .path .given) (c .before .before .before .before .before .before .before .before .before .before .before .before .before .before .before .before .before .before .before .before .before .open-child .ensures .0) (c .before .child2 .given .1) (c .before .before .before .before .before .before .before .before .before .before .before .before .before .before .before .before .before .before .before .before .before .open-child .ensures .1) (c .before .before .before .before .before .before .before .before .before .before .before .before .before .before .before .before .before .before .before .before .path2 .given) (c .before .before .before .before .before .before .before .before .before .before .before .before .before .before .before .before .before .before .bound .given) (c .before .before .before .before .before .before .before .before .before .before .before .before .before .before .before .before .uses .given) (c .before .before .before .before .before .before .before .before .before .before .before .before .before .before .spare .given),
-  lengths-on (c .before .before .before .before .before .before .before .before .before .before .before .before .before .before .before .before .before .before .before .before .before .before .before .before .before .before .before .before .before .before .before .before .before .before .before .before .before .before .before .loop .inv .1) (record { path = c .before .before .before .before .before .before .before .before .before .before .before .before .before .before .before .before .before .before .before .before .path2 .given ∙ c .before .before .before .before .before .before .before .before .before .before .before .before .before .before .before .before .before .before .before .before .before .before .before .before .before .before .before .before .before .before .before .before .before .before .before .before .path .given; binders = refl; bound = c .before .before .before .before .before .before .before .before .before .before .before .before .before .before .before .before .before .before .bound .given; uses = c .before .before .before .before .before .before .before .before .before .before .before .before .before .before .before .before .uses .given; spare = c .before .before .before .before .before .before .before .before .before .before .before .before .before .before .spare .given; made = c .before .before .before .before .before .before .before .before .before .before .before .before .made .given; places = c .before .before .before .before .before .before .before .before .before .before .places .given; ways = c .before .before .before .before .before .before .before .before .ways .given; hints = c .before .before .before .before .before .before .hints .given; sheet = c .before .before .before .before .sheet2 .given }),
+  round-open (c .before .before .before .before .before .before .before .before .before .before .before .before .before .before .before .before .before .before .before .before .before .before .before .before .before .before .before .before .before .before .before .before .before .before .before .before .before .before .before .before .loop .inv .0) _ (c .before .before .before .before .before .before .before .before .before .before .before .before .before .before .before .before .before .before .before .before .before .before .before .before .before .before .before .before .before .before .before .before .before .before .before .before .before .before .next-step .ensures) (c .before .before .before .before .before .before .before .before .before .before .before .before .before .before .before .before .before .before .before .before .before .before .before .before .before .before .before .before .before .before .before .before .before .before .step2 .given .1) (c .before .before .before .before .before .before .before .before .before .before .before .before .before .before .before .before .before .before .before .before .before .before .before .before .before .before .before .before .before .before .before .before .before .before .before .before .before .path .given) (c .before .before .before .before .before .before .before .before .before .before .before .before .before .before .before .before .before .before .before .before .before .before .open-child .ensures .0) (c .before .before .child2 .given .1) (c .before .before .before .before .before .before .before .before .before .before .before .before .before .before .before .before .before .before .before .before .before .before .open-child .ensures .1) (put-in _ _ _ (c .put-away .ensures)) (c .before .before .before .before .before .before .before .before .before .before .before .before .before .before .before .before .before .before .before .before .before .path2 .given) (c .before .before .before .before .before .before .before .before .before .before .before .before .before .before .before .before .before .before .before .bound .given) (c .before .before .before .before .before .before .before .before .before .before .before .before .before .before .before .before .before .uses .given) (c .before .before .before .before .before .before .before .before .before .before .before .before .before .before .before .spare .given),
+  lengths-on (c .before .before .before .before .before .before .before .before .before .before .before .before .before .before .before .before .before .before .before .before .before .before .before .before .before .before .before .before .before .before .before .before .before .before .before .before .before .before .before .before .loop .inv .1) (record { path = c .before .before .before .before .before .before .before .before .before .before .before .before .before .before .before .before .before .before .before .before .before .path2 .given ∙ c .before .before .before .before .before .before .before .before .before .before .before .before .before .before .before .before .before .before .before .before .before .before .before .before .before .before .before .before .before .before .before .before .before .before .before .before .before .path .given; binders = refl; bound = c .before .before .before .before .before .before .before .before .before .before .before .before .before .before .before .before .before .before .before .bound .given; uses = c .before .before .before .before .before .before .before .before .before .before .before .before .before .before .before .before .before .uses .given; spare = c .before .before .before .before .before .before .before .before .before .before .before .before .before .before .before .spare .given; made = c .before .before .before .before .before .before .before .before .before .before .before .before .before .made .given; places = c .before .before .before .before .before .before .before .before .before .before .before .places .given; ways = c .before .before .before .before .before .before .before .before .before .ways .given; hints = c .before .before .before .before .before .before .before .hints .given; sheet = c .before .before .before .before .before .sheet2 .given }),
 )
 
 pub expand-combinator-spec : {M : Type 1} → statement M
@@ -179,8 +183,9 @@ expand-combinator-spec =
     same-length-10
     returns
     (λ c. search needs)
-    mul-p
-    array-copy-out-p
+    mul-waiting
+    array-copy-out-waiting
+    (λ c κs. search needs)
     resume-node-requires
     loop-less-2
     loop-again-2
@@ -199,6 +204,7 @@ expand-combinator-spec =
     same-length-20
     returns-2
     (λ c. search needs)
+    put-away-requires
     mul-frames
     array-set-from-frames
     add-d
