@@ -10,7 +10,7 @@ use native.Mathlib.Numerals.{add-one}
 use lib.ListN.{length, getD, set, replicate, length-set, getD-replicate}
 use lib.Seq.{getD-set-same, getD-set-other}
 use Rattle.definition.specs.Tree.{Name}
-use Rattle.forks.specs.Forks.{bitAt, forkAt, slotFrom, slotOf, rowAt, apartAt, Apart, enteredAt}
+use Rattle.forks.specs.Forks.{bitAt, forkAt, slotOf, apartAt, Apart, enteredAt}
 use Rattle.forks.specs.Leads.{rowOf, Ends, Leads, Clear}
 use Rattle.forks.proofs.Steps.{bit-small, row-none, row-is, entered-none, entered-same, entered-fork}
 use Rattle.forks.proofs.Ways.{same-or-not, le-or-lt, stops, end-low, end-row, kept, moved}

@@ -10,14 +10,13 @@ use native.Mathlib.Numerals.{add-one}
 use lib.ListN.{length, drop, getD, drop-of-length-le}
 use lib.Seq.{drop-cons, getD-set-same, getD-set-other}
 use borrow.Author.Tests.{le-leb, lt-leb}
-use Rattle.definition.specs.Tree.{Name, Definition, format, constant, byte-order, macro}
-use Rattle.definition.specs.Write.{wU16, wText, wList, wParam, wCombinator, wAll, wDefinition, kindOf, kindByte, sizeOf, wEntries, entryOf, wBook}
+use Rattle.definition.specs.Tree.{Definition, format, constant, byte-order, macro}
+use Rattle.definition.specs.Write.{wU16, wText, wList, wParam, wCombinator, wDefinition, kindOf, kindByte, sizeOf, wEntries, entryOf, wBook}
 use Rattle.definition.specs.Size.{sizeBook}
 use Rattle.definition.specs.Lift.{names}
 use Rattle.laws.specs.Book.{IsBook}
 use Rattle.laws.proofs.Sizes.{size-book}
 use Rattle.seek.specs.At.{byteAt, pastAt, numberAt}
-use Rattle.seek.specs.Here.{Here}
 use Rattle.seek.proofs.Here.{past-here, number-here}
 use Rattle.lookup.specs.Name.{nameAt, nameOf}
 use Rattle.lookup.proofs.Names.{stands}
@@ -26,7 +25,7 @@ use Rattle.taken.specs.Taken.{both, row, taken, Listed as Row}
 use Rattle.taken.proofs.Take.{source-place, table-none}
 use Rattle.contents.specs.Listed.{Listed}
 use Rattle.contents.proofs.Listed.{past-is, listed-kind, listed-body, listed-deep, listed-next, book-listed}
-use Rattle.kinds.specs.Rows.{keep, ofKinds, Stands, InRows, Rows, rowNames, Room, Takes, OfKinds}
+use Rattle.kinds.specs.Rows.{keep, ofKinds, InRows, Rows, rowNames, Room, Takes, OfKinds}
 
 -- ---- an entry of the contents
 module _ {s : List ℕ} {entry at : ℕ} {d : Definition} {ds : List Definition} (l : Listed s entry at (d ∷ ds)) where

@@ -3,8 +3,8 @@
 use mathlib.Core.Path.{_≡_, refl, sym, ap, _∙_}
 use mathlib.Core.Logic.{⊎-elim}
 use mathlib.Core.List.{List, [], _∷_, _++_, append-assoc}
-use mathlib.Core.Bool.{Bool, true, false, _||_}
-use Prim.Native.Nat.{ℕ, suc, _+_, _-_, _≤_, _<_}
+use mathlib.Core.Bool.{Bool, true, false}
+use Prim.Native.Nat.{ℕ, _+_, _-_, _≤_, _<_}
 use native.Mathlib.Omega.{arith}
 use native.Mathlib.Nat.{eq-or-lt-of-le}
 use lib.ListN.{length, getD}
@@ -18,15 +18,13 @@ use Rattle.nested.specs.Nested.{isMacro}
 use Rattle.lookup.specs.Name.{nameAt, nameOf}
 use Rattle.lookup.proofs.Names.{stands, yes-no, not-both, ne-name, eqName-true, eqName-refl}
 use Rattle.forks.specs.Forks.{slotOf, rowAt}
-use Rattle.forks.specs.Leads.{rowOf, Clear}
+use Rattle.forks.specs.Leads.{rowOf}
 use Rattle.forks.proofs.Rows.{leads-first}
 use Rattle.taken.specs.Taken.{both, row}
 use Rattle.taken.proofs.Take.{source-place}
-use Rattle.kinds.specs.Rows.{keep, ofKinds, Stands, InRows, OfKinds, Rows as Right}
-use Rattle.instance.specs.Paired.{Defined}
-use Rattle.known.specs.declared.Found.{Found}
+use Rattle.kinds.specs.Rows.{keep, ofKinds, Stands, InRows, OfKinds}
 use Rattle.known.specs.declared.Found.the-variants.{At, Unknown}
-use Rattle.known.specs.Table.{Rows, Known, Finds, isFound, FindsMacro, Tabled}
+use Rattle.known.specs.Table.{Rows, Known, FindsMacro, Tabled}
 
 -- ---- two lists of macros, one behind the other
 macros-behind : (ds : List Definition) (ms : List Macro) → macros ds ms ≡ macros ds [] ++ ms

@@ -1,7 +1,6 @@
 -- `forks::enter` meets its contract.
 -- Assumes nothing.
 use mathlib.Core.Path.{sym, _∙_}
-use native.Mathlib.Omega.{arith}
 use Rattle.forks.proofs.Steps.{entered-none, entered-same, entered-fork}
 use borrow.Author.Needs.{needs}
 use Rattle.forks.proofs.enter.Statement.{statement}
