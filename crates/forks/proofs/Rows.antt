@@ -10,9 +10,11 @@ use native.Mathlib.Numerals.{add-one}
 use lib.ListN.{length, getD, set, replicate, length-set, getD-replicate}
 use lib.Seq.{getD-set-same, getD-set-other}
 use Rattle.definition.specs.Tree.{Name}
-use Rattle.forks.specs.Forks.{bitAt, forkAt, slotOf, apartAt, Apart, enteredAt}
+use Rattle.hash.specs.Hash.{bitAt}
+use Rattle.hash.proofs.Hash.{bit-small}
+use Rattle.forks.specs.Forks.{forkAt, slotOf, apartAt, Apart, enteredAt}
 use Rattle.forks.specs.Leads.{rowOf, Ends, Leads, Clear}
-use Rattle.forks.proofs.Steps.{bit-small, row-none, row-is, entered-none, entered-same, entered-fork}
+use Rattle.forks.proofs.Steps.{row-none, row-is, entered-none, entered-same, entered-fork}
 use Rattle.forks.proofs.Ways.{same-or-not, le-or-lt, stops, end-low, end-row, kept, moved}
 
 -- no row
@@ -92,7 +94,7 @@ module _ (t u : List ℕ) (n p : ℕ) (few : n < 65535) (same : (x : ℕ) → x 
         ends-row u m (n + 1) (omega arith) stays-ends ∙ rw (stays-slot, g) (sym (ends-row t m n (omega arith) e))
 
   -- ways that end there go on by a fork
-  module _ (q : slotOf t m n ≡ p) (w : ℕ) (fork : getD u p 0 ≡ 65536 + w) (own : w / 2048 ≡ n) (low : forkAt m w < 256 + 2 * (n + 1)) (some : 0 < getD u (forkAt m w) 0) (row : getD u (forkAt m w) 0 ≤ n + 1) where
+  module _ (q : slotOf t m n ≡ p) (w : ℕ) (fork : getD u p 0 ≡ 65536 + w) (own : w / 4096 ≡ n) (low : forkAt m w < 256 + 2 * (n + 1)) (some : 0 < getD u (forkAt m w) 0) (row : getD u (forkAt m w) 0 ≤ n + 1) where
     moves-ends : Ends u m (n + 1) (n + 1) (length m % 256)
     unfolding slotOf
     moves-ends = one-more u m (n + 1) n (length m % 256) (moved t u n p (omega arith) same stop m w fork own low some row (omega arith) n (length m % 256) e q .0)
@@ -232,7 +234,7 @@ module _ {f g : ℕ → Name} {t : List ℕ} {n : ℕ} (l : Leads f t n) (few : 
         stay m z = stays-row t t n (256 + 2 * n) few (λ x h q. refl) (λ h. absurd (omega arith)) m z (far m z)
 
     -- that has another name, from which a bit tells it apart
-    module _ (d : ℕ) (small : d < 2048) (differ : bitAt name d ≡ bitAt (f r) d → ⊥) where
+    module _ (d : ℕ) (small : d < 4096) (differ : bitAt name d ≡ bitAt (f r) d → ⊥) where
       abbrev side : ℕ
       side = bitAt name d
 
@@ -246,13 +248,13 @@ module _ {f g : ℕ → Name} {t : List ℕ} {n : ℕ} (l : Leads f t n) (few : 
       t₂ = set t₁ (257 + 2 * n - side) v
 
       abbrev fork : ℕ
-      fork = 65536 + 2048 * n + d
+      fork = 65536 + 4096 * n + d
 
       abbrev fu : List ℕ
       fu = set t₂ p fork
 
       abbrev w : ℕ
-      w = 2048 * n + d
+      w = 4096 * n + d
 
       side-small : side ≤ 1
       side-small = bit-small name d
@@ -272,14 +274,14 @@ module _ {f g : ℕ → Name} {t : List ℕ} {n : ℕ} (l : Leads f t n) (few : 
           getD-set-other t₂ p x fork 0 q ∙ getD-set-other t₁ (257 + 2 * n - side) x v 0 (λ (z : x ≡ 257 + 2 * n - side). omega arith) ∙ getD-set-other t (256 + 2 * n + side) x (n + 1) 0 (λ (z : x ≡ 256 + 2 * n + side). omega arith)
 
       at-p : getD fu p 0 ≡ 65536 + w
-      at-p = let a = p-low in getD-set-same t₂ p fork 0 (rw (length-set, length-set) (omega arith)) ∙ (let z : 65536 + 2048 * n + d ≡ 65536 + (2048 * n + d) = omega arith in z)
+      at-p = let a = p-low in getD-set-same t₂ p fork 0 (rw (length-set, length-set) (omega arith)) ∙ (let z : 65536 + 4096 * n + d ≡ 65536 + (4096 * n + d) = omega arith in z)
 
-      own-row : w / 2048 ≡ n
+      own-row : w / 4096 ≡ n
       own-row = omega arith
 
       fork-is : (m : Name) → forkAt m w ≡ 256 + 2 * n + bitAt m d
       unfolding forkAt
-      fork-is m = let z : w % 2048 ≡ d = omega arith in rw (own-row, z)
+      fork-is m = let z : w % 4096 ≡ d = omega arith in rw (own-row, z)
 
       new-side : (m : Name) → bitAt m d ≡ side → getD fu (forkAt m w) 0 ≡ n + 1
       new-side m q =
@@ -377,14 +379,14 @@ module _ {f g : ℕ → Name} {t : List ℕ} {n : ℕ} (l : Leads f t n) (few : 
               goes-old (f i) z q (λ (x : bitAt (f i) d ≡ side). differ (rw k (sym x))) ∙ sym c
 
   -- the row behind the others gets the name, where other is that of the row to which its way led
-  pub leads-more : length name ≤ 255 → ((i : ℕ) → i < n → length (f i) ≤ 255) → (other : Name) → (r < n → other ≡ f r) → Apart name other → Leads g (enteredAt t name other p n) (n + 1)
+  pub leads-more : length name ≤ 255 → ((i : ℕ) → i < n → length (f i) ≤ 255) → (other : Name) → (r < n → other ≡ f r) → ((getD t p 0 ≡ 0 → ⊥) → Apart name other) → Leads g (enteredAt t name other p n) (n + 1)
   leads-more short shorts other is apart = ⊎-elim
       (λ (e : getD t p 0 ≡ 0). rw (entered-none t name other p n {d = apartAt name other} refl refl e) (more _ (none-more e)))
       (λ (e : getD t p 0 ≡ 0 → ⊥). ⊎-elim
-      (λ (k : 8 * length name ≤ apartAt name other). rw (entered-same t name other p n refl refl e k) (more _ (same-more e (sym (is (led e)) ∙ sym (apart .same k (lengths e))))))
-      (λ (k : apartAt name other < 8 * length name). rw (← (entered-fork t name other p n refl refl e k refl refl refl refl))
-      (more _ (fork-more e (apartAt name other) (omega arith) (λ (z : bitAt name (apartAt name other) ≡ bitAt (f r) (apartAt name other)). apart .differ k (z ∙ ap (λ (m : Name). bitAt m (apartAt name other)) (sym (is (led e))))))))
-      (le-or-lt (8 * length name) (apartAt name other)))
+      (λ (k : 32 + 8 * length name ≤ apartAt name other). rw (entered-same t name other p n refl refl e k) (more _ (same-more e (sym (is (led e)) ∙ sym (apart e .same k (lengths e))))))
+      (λ (k : apartAt name other < 32 + 8 * length name). rw (← (entered-fork t name other p n refl refl e k refl refl refl refl))
+      (more _ (fork-more e (apartAt name other) (omega arith) (λ (z : bitAt name (apartAt name other) ≡ bitAt (f r) (apartAt name other)). apart e .differ k (z ∙ ap (λ (m : Name). bitAt m (apartAt name other)) (sym (is (led e))))))))
+      (le-or-lt (32 + 8 * length name) (apartAt name other)))
       (same-or-not (getD t p 0) 0)
     where
       lengths : (getD t p 0 ≡ 0 → ⊥) → length name ≡ length other

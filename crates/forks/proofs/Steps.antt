@@ -1,4 +1,4 @@
--- Ways, bits and what tells two names apart, in the code's own terms.
+-- Ways, bits and what tells two names apart.
 -- Assumes nothing.
 use mathlib.Core.Path.{_≡_, refl, sym, ap, _∙_}
 use mathlib.Core.Logic.{⊎-elim}
@@ -12,8 +12,11 @@ use lib.ListN.{length, getD, set, drop}
 use borrow.Author.Tests.{lt-ltb, le-ltb, le-leb, lt-leb, eq-eqb, ne-eqb, eqb-true, eqb-false}
 use Rattle.definition.specs.Tree.{Name}
 use Rattle.definition.specs.Names.{eqName}
+use Rattle.forks.proofs.Ways.{le-or-lt}
 use Rattle.lookup.proofs.Names.{yes-no, same-on, same-end, eqName-true}
-use Rattle.forks.specs.Forks.{bitAt, forkAt, slotFrom, slotOf, rowAt, byteFrom, byteApart, bitFrom, apartAt, Apart, enteredAt}
+use Rattle.hash.specs.Hash.{bitAt}
+use Rattle.hash.proofs.Hash.{bit-own}
+use Rattle.forks.specs.Forks.{forkAt, slotFrom, slotOf, rowAt, byteFrom, byteApart, bitFrom, apartAt, Apart, enteredAt}
 
 -- ---- the way
 module _ (t : List ℕ) (m : Name) where
@@ -28,6 +31,10 @@ module _ (t : List ℕ) (m : Name) where
       let z : rows - k ≡ suc (rows - (k + 1)) = omega arith in
       rw (z, ← e, le-ltb v 65536 h, ← ey)
 
+  pub way-head : (rows : ℕ) {v : ℕ} → v ≡ getD t (length m % 256) 0 → v < 65536 → slotOf t m rows ≡ length m % 256
+  unfolding slotOf
+  way-head rows e h = way-end rows (length m % 256) e h
+
   pub way-start : (rows : ℕ) → slotOf t m rows ≡ slotFrom t m (rows - 0) (length m % 256)
   unfolding slotOf
   way-start rows = let z : rows - 0 ≡ rows = omega arith in rw z
@@ -38,10 +45,6 @@ module _ (t : List ℕ) (m : Name) where
   way-done (suc k) x e = absurd (omega arith)
 
 -- ---- bits
-pub bit-small : (m : Name) (d : ℕ) → bitAt m d ≤ 1
-unfolding bitAt
-bit-small m d = omega arith
-
 half-bit : (a k : ℕ) → a / 2 / 2 ^ k ≡ a / 2 ^ suc k
 half-bit a k = div-div-eq-div-mul a 2 (2 ^ k) ∙ ap (λ (x : ℕ). a / x) (mul-comm 2 (2 ^ k) ∙ sym (pow-suc 2 k))
 
@@ -107,64 +110,92 @@ module _ (a b : Name) where
   names-same h k l = eqName-true a b (same-from (length a) 0 (omega arith) l (omega arith))
 
 -- ---- the first bit
-bit-of : (m : Name) (i j : ℕ) → j < 8 → bitAt m (8 * i + j) ≡ getD m i 0 / 2 ^ j % 2
-unfolding bitAt
+bit-of : (m : Name) (i j : ℕ) → j < 8 → bitAt m (32 + 8 * i + j) ≡ getD m i 0 / 2 ^ j % 2
 bit-of m i j h =
-    let q : (8 * i + j) / 8 ≡ i = omega arith in
-    let r : (8 * i + j) % 8 ≡ j = omega arith in
-    rw (q, r)
+    let q : (32 + 8 * i + j - 32) / 8 ≡ i = omega arith in
+    let r : (32 + 8 * i + j - 32) % 8 ≡ j = omega arith in
+    bit-own m (32 + 8 * i + j) (omega arith) ∙ rw (q, r)
 
 module _ (a b : Name) where
-  pub bit-start : (i : ℕ) → i ≡ byteApart a b → apartAt a b ≡ bitFrom a b (8 - 0) (8 * i + 0)
-  unfolding apartAt
-  bit-start i e =
-      let z : 8 * i + 0 ≡ 8 * i = omega arith in
-      rw (z, e)
+  -- in the code's own terms
+  pub bits-start : (count first : ℕ) → bitFrom a b count first ≡ bitFrom a b (count - 0) (first + 0)
+  bits-start count first =
+      let y : count - 0 ≡ count = omega arith in
+      let z : first + 0 ≡ first = omega arith in
+      rw (y, z)
 
-  pub bit-on : (d k : ℕ) {x y : ℕ} → x ≡ bitAt a (d + k) → y ≡ bitAt b (d + k) → x ≡ y → k < 8 → bitFrom a b (8 - k) (d + k) ≡ bitFrom a b (8 - (k + 1)) (d + (k + 1))
+  pub bits-on : (count first k : ℕ) {x y : ℕ} → x ≡ bitAt a (first + k) → y ≡ bitAt b (first + k) → x ≡ y → k < count → bitFrom a b (count - k) (first + k) ≡ bitFrom a b (count - (k + 1)) (first + (k + 1))
   unfolding bitFrom
-  bit-on d k {x} {y} ex ey e h =
-      let z : 8 - k ≡ suc (8 - (k + 1)) = omega arith in
-      let w : d + k + 1 ≡ d + (k + 1) = omega arith in
+  bits-on count first k {x} {y} ex ey e h =
+      let z : count - k ≡ suc (count - (k + 1)) = omega arith in
+      let w : first + k + 1 ≡ first + (k + 1) = omega arith in
       rw (z, ← ex, ← ey, eq-eqb x y e, w)
 
-  pub bit-more : (d k : ℕ) → ((j : ℕ) → j < k → bitAt a (d + j) ≡ bitAt b (d + j)) → bitAt a (d + k) ≡ bitAt b (d + k) → (j : ℕ) → j < k + 1 → bitAt a (d + j) ≡ bitAt b (d + j)
-  bit-more d k f e j h = ⊎-elim (λ (z : j ≡ k). rw z e) (λ (z : j < k). f j z) (eq-or-lt-of-le (omega arith))
-
-  bit-here : (k d : ℕ) {x y : ℕ} → x ≡ bitAt a d → y ≡ bitAt b d → (x ≡ y → ⊥) → bitFrom a b k d ≡ d
+  pub bits-here : (k d : ℕ) {x y : ℕ} → x ≡ bitAt a d → y ≡ bitAt b d → (x ≡ y → ⊥) → bitFrom a b k d ≡ d
   unfolding bitFrom
-  bit-here zero d ex ey h = refl
-  bit-here (suc k) d {x} {y} ex ey h = rw (← ex, ← ey, ne-eqb x y h)
+  bits-here zero d ex ey h = refl
+  bits-here (suc k) d {x} {y} ex ey h = rw (← ex, ← ey, ne-eqb x y h)
 
-  bit-done : (k d : ℕ) → k ≡ 0 → bitFrom a b k d ≡ d
+  pub bits-done : (k d : ℕ) → k ≡ 0 → bitFrom a b k d ≡ d
   unfolding bitFrom
-  bit-done zero d e = refl
-  bit-done (suc k) d e = absurd (omega arith)
+  bits-done zero d e = refl
+  bits-done (suc k) d e = absurd (omega arith)
 
-  module _ (li : byteApart a b ≤ length a) where
-    -- a bit in which they differ
-    pub apart-here : (d k : ℕ) → k < 8 → d ≡ 8 * byteApart a b → (j : ℕ) → apartAt a b ≡ bitFrom a b j (d + k) → {x y : ℕ} → x ≡ bitAt a (d + k) → y ≡ bitAt b (d + k) → (x ≡ y → ⊥) → (d + k ≡ apartAt a b) × Apart a b
-    apart-here d k h ed j e {x} {y} ex ey q =
-        let w : apartAt a b ≡ d + k = e ∙ bit-here j (d + k) ex ey q in (
+  -- one in which they differ, or all are the same
+  found-apart : (k d : ℕ) → bitFrom a b k d < d + k → bitAt a (bitFrom a b k d) ≡ bitAt b (bitFrom a b k d) → ⊥
+  unfolding bitFrom
+  found-apart zero d h e = absurd (omega arith)
+  found-apart (suc k) d h e = ⊎-elim
+      (λ (q : eqb (bitAt a d) (bitAt b d) ≡ true). found-apart k (d + 1) (let z : bitFrom a b k (d + 1) < d + suc k = rw q at h in omega arith) (rw q at e))
+      (λ (q : eqb (bitAt a d) (bitAt b d) ≡ false). eqb-false _ _ q (rw q at e))
+      (yes-no (eqb (bitAt a d) (bitAt b d)))
+
+  none-apart : (k d : ℕ) → d + k ≤ bitFrom a b k d → (j : ℕ) → j < k → bitAt a (d + j) ≡ bitAt b (d + j)
+  unfolding bitFrom
+  none-apart zero d h j l = absurd (omega arith)
+  none-apart (suc k) d h j l = ⊎-elim
+      (λ (q : eqb (bitAt a d) (bitAt b d) ≡ true). ⊎-elim
+      (λ (z : 0 ≡ j). let y : d + j ≡ d = omega arith in rw y (eqb-true _ _ q))
+      (λ (z : 0 < j). let y : d + 1 + (j - 1) ≡ d + j = omega arith in let w : d + suc k ≤ bitFrom a b k (d + 1) = rw q at h in rw y at (none-apart k (d + 1) (omega arith) (j - 1) (omega arith)))
+      (eq-or-lt-of-le {n = 0} {m = j} (omega arith)))
+      (λ (q : eqb (bitAt a d) (bitAt b d) ≡ false). absurd (let z : d + suc k ≤ d = rw q at h in omega arith))
+      (yes-no (eqb (bitAt a d) (bitAt b d)))
+
+  -- a bit of the hashes
+  module _ {d : ℕ} (ed : d ≡ bitFrom a b 32 0) where
+    pub apart-mixed : d < 32 → (d ≡ apartAt a b) × Apart a b
+    unfolding apartAt
+    apart-mixed h =
+        let w : apartAt a b ≡ d = rw (← ed, lt-ltb d 32 h) in (
           sym w,
           record {
-            differ = λ l z. q (ex ∙ (rw w at z) ∙ sym ey);
-            same = λ l z. names-same a b (omega arith) li z;
+            differ = λ l z. found-apart 32 0 (omega arith) (rw (w, ed) at z);
+            same = λ l z. absurd (omega arith);
           },
         )
 
-    -- none of eight
-    pub apart-none : ((j : ℕ) → getD a j 0 < 256) → ((j : ℕ) → getD b j 0 < 256) → (d k : ℕ) → d ≡ 8 * byteApart a b → k ≡ 8 → ((j : ℕ) → j < k → bitAt a (d + j) ≡ bitAt b (d + j)) → apartAt a b ≡ bitFrom a b (8 - k) (d + k) → (d + 8 ≡ apartAt a b) × Apart a b
-    apart-none la lb d k ed ek f e =
-        let i : ℕ = byteApart a b in
-        let w : apartAt a b ≡ d + 8 = e ∙ bit-done (8 - k) (d + k) (omega arith) ∙ rw ek in
-        let eq : getD a i 0 ≡ getD b i 0 = bits-same 8 _ _ (la i) (lb i) (λ j h. sym (bit-of a i j h) ∙ (rw ed at (f j (omega arith))) ∙ bit-of b i j h) in (
-          sym w,
+    -- one of their own
+    pub apart-own : 32 ≤ d → byteApart a b ≤ length a → ((j : ℕ) → getD a j 0 < 256) → ((j : ℕ) → getD b j 0 < 256) → {i first r : ℕ} → i ≡ byteApart a b → first ≡ 32 + 8 * i → r ≡ bitFrom a b 8 first → (r ≡ apartAt a b) × Apart a b
+    unfolding apartAt
+    apart-own h li la lb {i} {first} {r} ei ef er =
+        let o : ℕ = bitFrom a b 8 (32 + 8 * byteApart a b) in
+        let w : apartAt a b ≡ o = rw (← ed, le-ltb d 32 h) in
+        let q : r ≡ o = er ∙ rw (ef, ei) in (
+          q ∙ sym w,
           record {
-            differ = λ l z. byte-differs a b (omega arith) eq;
-            same = λ l z. ⊎-elim (λ (h : i ≡ length a). names-same a b (omega arith) li z) (λ (h : i < length a). absurd (byte-differs a b h eq)) (eq-or-lt-of-le li);
+            differ = λ l z. ⊎-elim
+                (λ (k : 32 + 8 * byteApart a b + 8 ≤ o). different (omega arith) k)
+                (λ (k : o < 32 + 8 * byteApart a b + 8). found-apart 8 (32 + 8 * byteApart a b) k (rw w at z))
+                (le-or-lt (32 + 8 * byteApart a b + 8) o);
+            same = λ l z. ⊎-elim
+                (λ (k : byteApart a b ≡ length a). names-same a b (omega arith) li z)
+                (λ (k : byteApart a b < length a). absurd (different k (omega arith)))
+                (eq-or-lt-of-le li);
           },
         )
+      where
+        different : byteApart a b < length a → 32 + 8 * byteApart a b + 8 ≤ bitFrom a b 8 (32 + 8 * byteApart a b) → ⊥
+        different k l = byte-differs a b k (bits-same 8 _ _ (la (byteApart a b)) (lb (byteApart a b)) (λ j m. sym (bit-of a (byteApart a b) j m) ∙ none-apart 8 (32 + 8 * byteApart a b) l j m ∙ bit-of b (byteApart a b) j m))
 
 -- ---- the row at an end
 module _ (t : List ℕ) (x n : ℕ) {v : ℕ} (e : v ≡ getD t x 0) where
@@ -186,11 +217,11 @@ module _ (t : List ℕ) (m other : Name) (x rows : ℕ) {v d : ℕ} (ev : v ≡ 
   unfolding enteredAt
   entered-none h = rw (← ev, eq-eqb v 0 h)
 
-  pub entered-same : (v ≡ 0 → ⊥) → 8 * length m ≤ d → enteredAt t m other x rows ≡ t
+  pub entered-same : (v ≡ 0 → ⊥) → 32 + 8 * length m ≤ d → enteredAt t m other x rows ≡ t
   unfolding enteredAt
-  entered-same h k = rw (← ev, ne-eqb v 0 h, ← ed, le-leb (8 * length m) d k)
+  entered-same h k = rw (← ev, ne-eqb v 0 h, ← ed, le-leb (32 + 8 * length m) d k)
 
-  pub entered-fork : (v ≡ 0 → ⊥) → d < 8 * length m → {side : ℕ} → side ≡ bitAt m d → {t₁ t₂ t₃ : List ℕ} → t₁ ≡ set t (256 + 2 * rows + side) (rows + 1) → t₂ ≡ set t₁ (257 + 2 * rows - side) v → t₃ ≡ set t₂ x (65536 + 2048 * rows + d)
+  pub entered-fork : (v ≡ 0 → ⊥) → d < 32 + 8 * length m → {side : ℕ} → side ≡ bitAt m d → {t₁ t₂ t₃ : List ℕ} → t₁ ≡ set t (256 + 2 * rows + side) (rows + 1) → t₂ ≡ set t₁ (257 + 2 * rows - side) v → t₃ ≡ set t₂ x (65536 + 4096 * rows + d)
       → t₃ ≡ enteredAt t m other x rows
   unfolding enteredAt
-  entered-fork h k es e₁ e₂ e₃ = rw (← ev, ne-eqb v 0 h, ← ed, lt-leb (8 * length m) d k, ← es, ← e₁, ← e₂) e₃
+  entered-fork h k es e₁ e₂ e₃ = rw (← ev, ne-eqb v 0 h, ← ed, lt-leb (32 + 8 * length m) d k, ← es, ← e₁, ← e₂) e₃

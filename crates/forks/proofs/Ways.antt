@@ -36,7 +36,7 @@ module _ (t : List ℕ) where
     -- the end of a way that ends
     module _ (n : ℕ) (few : n ≤ 65535) where
       abbrev On : ℕ → ℕ → Type 0
-      On k x = (65536 ≤ getD t x 0) × ((getD t x 0 - 65536) / 2048 < n) × Ends t m n k (forkAt m (getD t x 0 - 65536))
+      On k x = (65536 ≤ getD t x 0) × ((getD t x 0 - 65536) / 4096 < n) × Ends t m n k (forkAt m (getD t x 0 - 65536))
 
       pub end-low : (k x : ℕ) → Ends t m n k x → slotFrom t m k x < 256 + 2 * n
       unfolding Ends
@@ -78,7 +78,7 @@ module _ (t u : List ℕ) (n p : ℕ) (few : n ≤ 65535) (same : (x : ℕ) → 
       (e .2)
 
   -- a way that ends there, where u has a fork of row n to a row
-  module _ (w : ℕ) (fork : getD u p 0 ≡ 65536 + w) (own : w / 2048 ≡ n) (low : forkAt m w < 256 + 2 * (n + 1)) (some : 0 < getD u (forkAt m w) 0) (row : getD u (forkAt m w) 0 ≤ n + 1) (fits : n + 1 ≤ 65535) where
+  module _ (w : ℕ) (fork : getD u p 0 ≡ 65536 + w) (own : w / 4096 ≡ n) (low : forkAt m w < 256 + 2 * (n + 1)) (some : 0 < getD u (forkAt m w) 0) (row : getD u (forkAt m w) 0 ≤ n + 1) (fits : n + 1 ≤ 65535) where
     at-fork : (k : ℕ) → p < 256 + 2 * n → Ends u m (n + 1) (suc (suc k)) p × (slotFrom u m (suc (suc k)) p ≡ forkAt m w)
     unfolding Ends
     at-fork k h =

@@ -2,19 +2,16 @@
 -- Assumes nothing.
 use mathlib.Core.Path.{_≡_}
 use mathlib.Core.List.{List}
-use Prim.Native.Nat.{ℕ, zero, suc, _+_, _*_, _-_, _/_, _%_, _^_, _≤_, _<_}
+use Prim.Native.Nat.{ℕ, zero, suc, _+_, _*_, _-_, _/_, _%_, _≤_, _<_}
 use lib.Dec.{eqb, leb, ltb}
 use lib.ListN.{length, getD, set}
 use Rattle.definition.specs.Tree.{Name}
 use Rattle.seek.specs.At.{pick}
+use Rattle.hash.specs.Hash.{bitAt}
 
--- a bit of a name; behind its end all are 0
-unfoldable pub bitAt : Name → ℕ → ℕ
-bitAt n d = getD n (d / 8) 0 / 2 ^ (d % 8) % 2
-
--- which number follows for a name at a fork: w is 2,048 times the row whose two numbers follow, and the bit that says which
+-- which number follows for a name at a fork: w is 4,096 times the row whose two numbers follow, and the bit that says which
 unfoldable pub forkAt : Name → ℕ → ℕ
-forkAt n w = 256 + 2 * (w / 2048) + bitAt n (w % 2048)
+forkAt n w = 256 + 2 * (w / 4096) + bitAt n (w % 4096)
 
 -- where the way of a name ends that has come to x, with k steps left
 unfoldable pub slotFrom : List ℕ → Name → ℕ → ℕ → ℕ
@@ -45,13 +42,14 @@ unfoldable pub bitFrom : Name → Name → ℕ → ℕ → ℕ
 bitFrom a b zero d = d
 bitFrom a b (suc k) d = let on = bitFrom a b k (d + 1) in pick (eqb (bitAt a d) (bitAt b d)) on d
 
+-- one of their hashes, or of the first byte in which they differ
 unfoldable pub apartAt : Name → Name → ℕ
-apartAt a b = bitFrom a b 8 (8 * byteApart a b)
+apartAt a b = let d = bitFrom a b 32 0 in pick (ltb d 32) d (bitFrom a b 8 (32 + 8 * byteApart a b))
 
 -- it tells two names of bytes apart, if they are not the same
 pub record Apart (a b : Name) : Type 0 where
-  pub differ : apartAt a b < 8 * length a → bitAt a (apartAt a b) ≡ bitAt b (apartAt a b) → ⊥
-  pub same : 8 * length a ≤ apartAt a b → length a ≡ length b → a ≡ b
+  pub differ : apartAt a b < 32 + 8 * length a → bitAt a (apartAt a b) ≡ bitAt b (apartAt a b) → ⊥
+  pub same : 32 + 8 * length a ≤ apartAt a b → length a ≡ length b → a ≡ b
 
 -- the table when the row behind the others has a name whose way ended at x, where another name's row followed, or none
 unfoldable pub enteredAt : List ℕ → Name → Name → ℕ → ℕ → List ℕ
@@ -60,5 +58,5 @@ enteredAt t n other x rows =
     let d = apartAt n other in
     let side = bitAt n d in
     pick (eqb v 0) (set t x (rows + 1))
-    (pick (leb (8 * length n) d) t
-    (set (set (set t (256 + 2 * rows + side) (rows + 1)) (257 + 2 * rows - side) v) x (65536 + 2048 * rows + d)))
+    (pick (leb (32 + 8 * length n) d) t
+    (set (set (set t (256 + 2 * rows + side) (rows + 1)) (257 + 2 * rows - side) v) x (65536 + 4096 * rows + d)))

@@ -15,7 +15,7 @@ rowOf t m n = rowAt t (slotOf t m n) n
 unfoldable pub Ends : List ℕ → Name → ℕ → ℕ → ℕ → Type 0
 Ends t m n zero x = ⊥
 Ends t m n (suc k) x = (x < 256 + 2 * n) × (0 < getD t x 0)
-    × ((getD t x 0 ≤ n) ⊎ ((65536 ≤ getD t x 0) × ((getD t x 0 - 65536) / 2048 < n) × Ends t m n k (forkAt m (getD t x 0 - 65536))))
+    × ((getD t x 0 ≤ n) ⊎ ((65536 ≤ getD t x 0) × ((getD t x 0 - 65536) / 4096 < n) × Ends t m n k (forkAt m (getD t x 0 - 65536))))
 
 -- the first n rows, row i with the name f i: the way of any name ends, and what it leads to is as long; the way of a row's name leads to the first row of that name
 pub record Leads (f : ℕ → Name) (t : List ℕ) (n : ℕ) : Type 0 where

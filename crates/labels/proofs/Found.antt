@@ -4,7 +4,7 @@ use mathlib.Core.Path.{_≡_, refl, sym, ap, _∙_}
 use mathlib.Core.Logic.{_⊎_, inl, inr, ⊎-elim}
 use mathlib.Core.List.{List, _∷_}
 use mathlib.Core.Bool.{true, false}
-use Prim.Native.Nat.{ℕ, zero, suc, _+_, _*_, _-_, _%_, _≤_, _<_}
+use Prim.Native.Nat.{ℕ, zero, suc, _+_, _*_, _-_, _%_, _≤_, _<_, min}
 use native.Mathlib.Omega.{arith}
 use native.Mathlib.Numerals.{add-one, sub-one}
 use lib.Dec.{eqb, leb}
@@ -18,7 +18,9 @@ use Rattle.lookup.specs.Name.{nameAt}
 use Rattle.lookup.proofs.Names.{yes-no}
 use Rattle.writer.proofs.Put.{within}
 use Rattle.seek.specs.At.{pick}
-use Rattle.labels.specs.Labels.{headOf, labelAt, labelsIn, linkAt, bitAt, forkAt, wayOf, endOf, leadsTo, isLabel, slotOf, bindAt}
+use Rattle.hash.specs.Hash.{bitAt}
+use Rattle.hash.proofs.Hash.{bit-small, hash-small}
+use Rattle.labels.specs.Labels.{headOf, labelAt, labelsIn, linkAt, forkAt, wayOf, endOf, leadsTo, isLabel, slotOf, bindAt}
 use Rattle.labels.proofs.Steps.{link-none, link-far, link-other, link-here, way-done, way-end, way-same, way-on}
 
 -- two tables with the same first b labels, and the same that leads to them
@@ -33,11 +35,7 @@ pub record Finds (s t : List ℕ) (b : ℕ) : Type 0 where
 
 head-small : (n : Name) → headOf n < 512
 unfolding headOf
-head-small n = omega arith
-
-bit-small : (n : Name) (d : ℕ) → bitAt n d ≤ 1
-unfolding bitAt
-bit-small n d = omega arith
+head-small n = let h = hash-small n in omega arith
 
 -- where a number may stand that leads on
 pub record Fork (b x : ℕ) : Type 0 where
@@ -113,7 +111,7 @@ module _ (s : List ℕ) (n : Name) (t : List ℕ) (b : ℕ) where
   -- it goes from one such place to the next
   fork-slot : (d x : ℕ) → 0 < linkAt t b x → Slot b (forkAt n d (linkAt t b x - 1))
   unfolding forkAt
-  fork-slot d x h = inr (record { of = linkAt t b x - 1; bit = bitAt n d; is = refl; low = omega (arith, link-most t x b); small = bit-small n d })
+  fork-slot d x h = inr (record { of = linkAt t b x - 1; bit = bitAt n (min d 4096 + 9); is = refl; low = omega (arith, link-most t x b); small = bit-small n (min d 4096 + 9) })
 
   -- which of three steps it takes
   way-cases : {P : Type 0} (x : ℕ) → (linkAt t b x ≡ 0 → P) → (0 < linkAt t b x → eqName n (labelAt s t (linkAt t b x - 1)) ≡ true → P) → (0 < linkAt t b x → eqName n (labelAt s t (linkAt t b x - 1)) ≡ false → P) → P
@@ -150,7 +148,7 @@ module _ (s : List ℕ) (n : Name) (t : List ℕ) (b : ℕ) where
   module _ (later : (i e : ℕ) → i < b → e ≤ 1 → 0 < linkAt t b (513 + 4 * i + e) → suc i < linkAt t b (513 + 4 * i + e)) where
     next-later : (d x : ℕ) → 0 < linkAt t b x → 0 < linkAt t b (forkAt n d (linkAt t b x - 1)) → linkAt t b x < linkAt t b (forkAt n d (linkAt t b x - 1))
     unfolding forkAt
-    next-later d x h p = let q = later (linkAt t b x - 1) (bitAt n d) (omega (arith, link-most t x b)) (bit-small n d) p in omega arith
+    next-later d x h p = let q = later (linkAt t b x - 1) (bitAt n (min d 4096 + 9)) (omega (arith, link-most t x b)) (bit-small n (min d 4096 + 9)) p in omega arith
 
     enough : (k d x j : ℕ) → (0 < linkAt t b x → j < linkAt t b x) → b ≤ k + j → wayOf s n t b (suc k) d x ≡ wayOf s n t b k d x
     enough zero d x j h m =
@@ -445,7 +443,7 @@ module _ (s : List ℕ) (at : ℕ) (t : List ℕ) (b : ℕ) (near : at < 4294967
           go : (k x : ℕ) → 0 < linkAt T (suc b) x → linkAt T (suc b) x - 1 ≡ b → eqName n (labelAt s T (linkAt T (suc b) x - 1)) ≡ false → leadsTo s n T (suc b) (wayOf s n T (suc b) k d x) ≡ false
           go zero x p i a = rw (way-done s n T (suc b) 0 d x (omega arith)) (leads-by s n T (suc b) x p ∙ a)
           go (suc k) x p i a =
-              let z : linkAt T (suc b) (forkAt n d (linkAt T (suc b) x - 1)) ≡ 0 = rw i (link-own (bitAt n d) (bit-small n d)) in
+              let z : linkAt T (suc b) (forkAt n d (linkAt T (suc b) x - 1)) ≡ 0 = rw i (link-own (bitAt n (min d 4096 + 9)) (bit-small n (min d 4096 + 9))) in
               rw (on-is s n T (suc b) k d x p a, none-is s n T (suc b) k (d + 1) (forkAt n d (linkAt T (suc b) x - 1)) z) (leads-none s n T (suc b) (forkAt n d (linkAt T (suc b) x - 1)) z)
 
       kept-label : (x : ℕ) → 0 < linkAt t b x → labelAt s T (linkAt t b x - 1) ≡ labelAt s t (linkAt t b x - 1)

@@ -4,7 +4,7 @@ use mathlib.Core.Path.{_≡_, refl, _∙_}
 use mathlib.Core.Logic.{⊎-elim}
 use mathlib.Core.List.{List}
 use mathlib.Core.Bool.{Bool, true, false}
-use Prim.Native.Nat.{ℕ, zero, suc, _+_, _*_, _-_, _/_, _%_, _≤_, _<_}
+use Prim.Native.Nat.{ℕ, zero, suc, _+_, _*_, _-_, _%_, _≤_, _<_}
 use native.Mathlib.Omega.{arith}
 use native.Mathlib.Numerals.{sub-one}
 use lib.Dec.{eqb}
@@ -15,22 +15,7 @@ use Rattle.definition.specs.Names.{eqName}
 use Rattle.lookup.specs.Name.{nameAt}
 use Rattle.lookup.proofs.Names.{yes-no}
 use Rattle.writer.proofs.Put.{within}
-use Rattle.labels.specs.Labels.{headOf, labelAt, linkAt, halved, forkAt, wayOf, endOf, leadsTo, isLabel, slotOf, bindAt}
-
-pub half-on : (x k : ℕ) → 0 < k → {y : ℕ} → y ≡ x / 2 → halved x k ≡ halved y (k - 1)
-unfolding halved
-half-on x zero h e = absurd (omega arith)
-half-on x (suc k) h e = rw (e, sub-one)
-
-pub half-done : (x k : ℕ) → k ≤ 0 → halved x k ≡ x
-unfolding halved
-half-done x zero h = refl
-half-done x (suc k) h = absurd (omega arith)
-
-pub half-none : (k : ℕ) → halved 0 k ≡ 0
-unfolding halved
-half-none zero = refl
-half-none (suc k) = half-none k
+use Rattle.labels.specs.Labels.{headOf, labelAt, linkAt, forkAt, wayOf, endOf, leadsTo, isLabel, slotOf, bindAt}
 
 module _ (t : List ℕ) (b x : ℕ) {v : ℕ} (ev : v ≡ getD t x 0) where
   -- no label's number stands there

@@ -3,18 +3,18 @@
 -- Assumes nothing.
 use mathlib.Core.List.{List, [], _∷_}
 use mathlib.Core.Bool.{Bool, false}
-use Prim.Native.Nat.{ℕ, zero, suc, _+_, _*_, _-_, _/_, _%_}
+use Prim.Native.Nat.{ℕ, zero, suc, _+_, _*_, _-_, _/_, _%_, min}
 use lib.Dec.{eqb, leb}
 use lib.ListN.{length, getD, set}
 use Rattle.definition.specs.Tree.{Name}
 use Rattle.definition.specs.Names.{eqName}
 use Rattle.lookup.specs.Name.{nameAt}
 use Rattle.seek.specs.At.{pick}
-use Rattle.hash.specs.Hash.{hashOf}
+use Rattle.hash.specs.Hash.{hashOf, bitAt}
 
--- the first 512 numbers are heads: the number of a name's
+-- the first 512 numbers are heads: that of a name is told by the nine highest bits of its hash
 unfoldable pub headOf : Name → ℕ
-headOf n = hashOf n % 512
+headOf n = hashOf n / 8388608
 
 -- a label has four numbers behind them: the place of its name, two that lead on, and where the number stands that leads to it
 unfoldable pub labelAt : List ℕ → List ℕ → ℕ → Name
@@ -30,17 +30,9 @@ labelsIn s t (suc i) = labelAt s t i ∷ labelsIn s t i
 unfoldable pub linkAt : List ℕ → ℕ → ℕ → ℕ
 linkAt t b x = let v = getD t x 0 in pick (leb v b) (pick (eqb (getD t (515 + 4 * (v - 1)) 0) x) v 0) 0
 
--- a bit of a name; behind its end all are 0
-unfoldable pub halved : ℕ → ℕ → ℕ
-halved x zero = x
-halved x (suc k) = halved (x / 2) k
-
-unfoldable pub bitAt : Name → ℕ → ℕ
-bitAt n d = halved (getD n (d / 8) 0) (d % 8) % 2
-
--- which number of label i leads on for a name, by a bit of it
+-- which number of label i leads on for a name, by its bits behind these nine, as far as a name has some
 unfoldable pub forkAt : Name → ℕ → ℕ → ℕ
-forkAt n d i = 513 + 4 * i + bitAt n d
+forkAt n d i = 513 + 4 * i + bitAt n (min d 4096 + 9)
 
 -- where the way of a name ends that has come to x after d steps, with k steps left: where nothing leads on, or to a label of that name
 unfoldable pub wayOf : List ℕ → Name → List ℕ → ℕ → ℕ → ℕ → ℕ → ℕ

@@ -1,22 +1,26 @@
-// The labels in force, in one lent table of numbers. Its first 512 are heads, one for each hash that a name can have. Behind them each label has
+// The labels in force, in one lent table of numbers. Its first 512 are heads, by the nine highest bits of a name's hash. Behind them each label has
 // four numbers: the place of its length byte, two that lead on, and where the number stands that leads to it. A number that leads on is one more
 // than that of a label, and counts where that label is in force and says that it is led to from there: so labels are taken back by counting fewer
-// of them. Each step looks at the next bit of the name, 0 behind its end: so a name meets no more labels than the longest has bits, and then only
-// those that differ from it in zero bytes at the end.
+// of them. Each step looks at the next bit of the hash, and then of the name, 0 behind its end: so a name meets no more labels than the longest has
+// bits, its hash's among them, and then only those that differ from it in zero bytes at the end.
+use hash::bit;
 use hash::name_hash;
 use lookup::name_at;
 use lookup::same_name;
+use numbers::least;
 ghost use mathlib.Core.Path.{_≡_};
 ghost use Prim.Native.Nat.{_≤_, _%_};
 ghost use lib.ListN.{getD, set};
-ghost use Rattle.labels.specs.Labels.{headOf, labelAt, linkAt, halved, bitAt, forkAt, endOf, isLabel, slotOf, bindAt};
+ghost use Rattle.hash.specs.Hash.{hashOf};
+ghost use Rattle.labels.specs.Labels.{headOf, labelAt, linkAt, forkAt, endOf, isLabel, slotOf, bindAt};
 
-// The number of a name's head.
-fn head_of(name: &[u8]) -> usize
+// The number of a name's head, from its hash.
+fn head_of(name: &[u8], hash: u32) -> usize
+    requires { ⌜ hash ≡ hashOf (now name) ⌝ }
     ensures { λ r. ⌜ r ≡ headOf (now (name .entry)) ⌝ }
 {
-    let h = name_hash(name) as usize;
-    h % 512
+    let h = hash as usize;
+    h / 8388608
 }
 
 // A number of the table, or 0 past its end.
@@ -57,44 +61,20 @@ fn link_at(table: &[u32], b: usize, x: usize) -> usize
     v
 }
 
-// A number, halved so many times.
-fn half(x: usize, times: usize) -> usize
-    ensures { λ r. ⌜ r ≡ halved x times ⌝ }
-{
-    let mut v = x;
-    let mut left = times;
-    while 0 < left {
-        v = v / 2;
-        left -= 1;
-    }
-    v
-}
-
-// A bit of a name, 0 behind its end.
-fn bit(name: &[u8], depth: usize) -> usize
-    ensures { λ r. ⌜ (r ≡ bitAt (now (name .entry)) depth) × (r ≤ 1) ⌝ }
-{
-    let i = depth / 8;
-    if name.len() <= i {
-        return 0;
-    }
-    let x = name[i] as usize;
-    half(x, depth % 8) % 2
-}
-
-// Which number of label i leads on for a name, by a bit of it.
-fn fork(name: &[u8], depth: usize, i: usize) -> usize
-    requires { ⌜ i ≤ 4294967295 ⌝ }
+// Which number of label i leads on for a name, by a bit of it behind those of its head.
+fn fork(name: &[u8], hash: u32, depth: usize, i: usize) -> usize
+    requires { ⌜ (i ≤ 4294967295) × (hash ≡ hashOf (now name)) ⌝ }
     ensures { λ r. ⌜ r ≡ forkAt (now (name .entry)) depth i ⌝ }
 {
-    513 + 4 * i + bit(name, depth)
+    513 + 4 * i + bit(name, hash, least(depth, 4096) + 9)
 }
 
 // Where a name's way ends: where nothing leads on, or to a label of that name.
 fn end_of(s: &[u8], name: &[u8], table: &[u32], b: usize) -> usize
     ensures { λ r. ⌜ r ≡ endOf (now (s .entry)) (now (name .entry)) (now (table .entry)) b ⌝ }
 {
-    let mut x = head_of(name);
+    let hash = name_hash(name);
+    let mut x = head_of(name, hash);
     let mut depth = 0;
     while depth < b {
         let v = link_at(table, b, x);
@@ -104,7 +84,7 @@ fn end_of(s: &[u8], name: &[u8], table: &[u32], b: usize) -> usize
         if same_name(name, label_at(s, table, v - 1)) {
             return x;
         }
-        x = fork(name, depth, v - 1);
+        x = fork(name, hash, depth, v - 1);
         depth += 1;
     }
     x

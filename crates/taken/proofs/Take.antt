@@ -79,11 +79,11 @@ module _ (s : List ℕ) (end : ℕ) (name : Name) (h : length name ≤ 255) (k :
 
 -- ---- the way of a name to row n, with what the steps gave
 pub entered : (name book made places ways : List ℕ) (n : ℕ) {x r : ℕ} {place : Place} {other ways′ : List ℕ} → x ≡ slotOf ways name n → r ≡ rowAt ways x n → place ≡ placeOf (getD places r 0) → other ≡ nameOf place book made
-    → (ways′ ≡ enteredAt ways name other x n) × Apart name other → Entered name (both book made) places n ways ways′
+    → (ways′ ≡ enteredAt ways name other x n) × ((getD ways x 0 ≡ 0 → ⊥) → Apart name other) → Entered name (both book made) places n ways ways′
 unfolding row rowOf
 entered name book made places ways n {x} {r} {place} {other} {ways′} ex er ep eo w =
     let o : other ≡ row (both book made) places (rowOf ways name n) = eo ∙ rw (ep, er, ex) in
-    record { holds = w .0 ∙ rw (o, ex); apart = rw o at (w .1) }
+    record { holds = w .0 ∙ rw (o, ex); apart = λ e. rw o at (w .1 (rw ex e)) }
 
 -- ---- a row is the new one or one of those before
 old-or-new : {G : Type 0} (n i : ℕ) → i < n + 1 → (i ≡ n → G) → (i < n → G) → G

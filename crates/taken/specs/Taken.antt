@@ -58,7 +58,7 @@ pub record Sourced (places : List ℕ) (n : ℕ) : Type 0 where
 -- the way of a name to row n
 pub record Entered (name : Name) (names : Store) (places : List ℕ) (n : ℕ) (ways ways′ : List ℕ) : Type 0 where
   pub holds : ways′ ≡ enteredAt ways name (row names places (rowOf ways name n)) (slotOf ways name n) n
-  pub apart : Apart name (row names places (rowOf ways name n))
+  pub apart : (getD ways (slotOf ways name n) 0 ≡ 0 → ⊥) → Apart name (row names places (rowOf ways name n))
 
 -- a name more
 pub record Grown (name : Name) (names : Store) (places ways : List ℕ) (n : ℕ) (names′ : Store) (places′ ways′ : List ℕ) : Type 0 where

@@ -7,7 +7,14 @@ use Rattle.forks.proofs.fork.Tie as tie
 
 returns : tie.Need-returns
 unfolding forkAt
-returns c = search needs
+returns c = rw (← (c .bit .ensures .0))
 
 pub fork-spec : {M : Type 1} → statement M
-fork-spec = tie.close (tie.spec (λ c. search needs) (λ c. search needs) (λ c κs. search needs) (λ c. search needs) returns)
+fork-spec =
+    tie.close
+    (tie.spec
+    (λ c. search needs)
+    (λ c. search needs)
+    (λ c κs. search needs)
+    (λ c. search needs)
+    returns)

@@ -1,17 +1,17 @@
 -- `hash::name_hash` meets its contract.
 -- Assumes nothing.
-use Rattle.hash.specs.Hash.{hashFrom, hashOf}
-use lib.ListN.{length, drop}
-use Prim.Native.Nat.{_≤_, _<_, _-_}
-use Rattle.hash.proofs.Hash.{hash-on, hash-end}
 use mathlib.Core.Path.{_≡_, refl}
+use Prim.Native.Nat.{_≤_, _<_, _-_}
 use native.Mathlib.Omega.{arith}
+use lib.ListN.{length, drop}
+use Rattle.hash.specs.Hash.{hashFrom, hashOf}
+use Rattle.hash.proofs.Hash.{hash-on, hash-end}
 use borrow.Author.Needs.{needs}
 use Rattle.hash.proofs.name_hash.Statement.{statement}
 use Rattle.hash.proofs.name_hash.Tie as tie
 
 abbrev Inv-loop : tie.InvT-loop
-Inv-loop name h₀ i₀ h i = (i ≤ length name) × (h < 65536) × (hashOf name ≡ hashFrom h (drop i name))
+Inv-loop name h₀ i₀ h i = (i ≤ length name) × (h < 4294967296) × (hashOf name ≡ hashFrom h (drop i name))
 
 abbrev μ-loop : tie.MeasureT-loop
 μ-loop name h₀ i₀ h i = length name - i
@@ -24,6 +24,12 @@ cast-h c = omega (arith, c .shared-slice-known .given (c .before .before .loop .
 
 add-h : tie.Need-add-h Inv-loop μ-loop
 add-h c = omega (arith, c .shared-slice-known .given (c .before .before .loop .i))
+
+add-h-2 : tie.Need-add-h-2 Inv-loop μ-loop
+add-h-2 c = omega (arith, c .shared-slice-known .given (c .before .before .loop .i))
+
+mul-h : tie.Need-mul-h Inv-loop μ-loop
+mul-h c = omega (arith, c .shared-slice-known .given (c .before .before .loop .i))
 
 loop-again : tie.Need-loop-again Inv-loop μ-loop
 loop-again c =
@@ -43,9 +49,10 @@ name-hash-spec =
     μ-loop
     loop-holds
     (λ c. search needs)
-    (λ c. search needs)
     cast-h
     add-h
+    add-h-2
+    mul-h
     (λ c. search needs)
     (λ c. search needs)
     loop-again

@@ -10,10 +10,13 @@ use Rattle.labels.proofs.end_of.Statement.{statement}
 use Rattle.labels.proofs.end_of.Tie as tie
 
 abbrev Inv-loop : tie.InvT-loop
-Inv-loop s name table b x₀ depth₀ x depth = endOf s name table b ≡ wayOf s name table b (b - depth) depth x
+Inv-loop s name table b hash x₀ depth₀ x depth = endOf s name table b ≡ wayOf s name table b (b - depth) depth x
 
 abbrev μ-loop : tie.MeasureT-loop
-μ-loop s name table b x₀ depth₀ x depth = b - depth
+μ-loop s name table b hash x₀ depth₀ x depth = b - depth
+
+head-of-requires : tie.Need-head-of-requires Inv-loop μ-loop
+head-of-requires c κs = c .name-hash .ensures
 
 loop-holds : tie.Need-loop-holds Inv-loop μ-loop
 loop-holds c = way-start _ _ _ _ (c .head-of .ensures)
@@ -31,7 +34,7 @@ sub-fork : tie.Need-sub-fork Inv-loop μ-loop
 sub-fork c = omega arith
 
 fork-requires : tie.Need-fork-requires Inv-loop μ-loop
-fork-requires c κs = omega arith
+fork-requires c κs = (omega arith, c .before .before .before .before .before .before .before .before .name-hash .ensures)
 
 add-depth : tie.Need-add-depth Inv-loop μ-loop
 add-depth c = omega arith
@@ -52,6 +55,7 @@ end-of-spec =
     Inv-loop
     μ-loop
     (λ c κs. search needs)
+    head-of-requires
     loop-holds
     (λ c κs. search needs)
     returns

@@ -1,0 +1,28 @@
+-- `hash::bit` meets its contract.
+-- Assumes nothing.
+use mathlib.Core.Path.{sym, _∙_}
+use native.Mathlib.Omega.{arith}
+use Rattle.seek.specs.At.{byteAt}
+use Rattle.hash.proofs.Hash.{bit-mixed, bit-own}
+use borrow.Author.Needs.{needs}
+use Rattle.hash.proofs.bit.Statement.{statement}
+use Rattle.hash.proofs.bit.Tie as tie
+
+returns : tie.Need-returns
+returns c = (sym (bit-mixed _ _ (c .if1 .taken) ∙ rw (← (c .before .before .pre))), omega arith)
+
+returns-2 : tie.Need-returns-2
+unfolding byteAt
+returns-2 c = (sym (bit-own _ _ (c .before .if1 .left) ∙ rw (← (c .byte .ensures))), omega arith)
+
+pub bit-spec : {M : Type 1} → statement M
+bit-spec =
+    tie.close
+    (tie.spec
+    (λ c. search needs)
+    (λ c. search needs)
+    returns
+    (λ c κs. search needs)
+    (λ c. search needs)
+    (λ c. search needs)
+    returns-2)
