@@ -212,12 +212,13 @@ fn of_one_hash(beginning: &str, count: usize) -> Vec<String> {
             .collect()
     };
     let hash = |name: &String| {
-        name.bytes()
-            .fold(0, |h, byte| (h * 31 + usize::from(byte)) % 65536)
+        name.bytes().fold(0, |h: u64, byte| {
+            (h + u64::from(byte) + 1) * 2_654_435_761 % 4_294_967_296
+        })
     };
     (0..)
         .map(name)
-        .filter(|name| hash(name) % 512 == 0)
+        .filter(|name| hash(name) >> 23 == 0)
         .take(count)
         .collect()
 }
