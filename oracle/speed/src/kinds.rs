@@ -121,6 +121,10 @@ pub fn hurting() -> Vec<Named> {
             lone(labelled(&of_one_hash("", 800), 0, 1600)),
         ),
         (
+            "115 uses of the last of 100 such labels of 31 bytes",
+            lone(labelled(&of_one_hash(&"A".repeat(27), 100), 99, 115)),
+        ),
+        (
             "230 uses of the last of 200 such labels of 31 bytes",
             lone(labelled(&of_one_hash(&"A".repeat(27), 200), 199, 230)),
         ),
@@ -140,7 +144,10 @@ pub fn hurting() -> Vec<Named> {
             "200 calls of the first of 180 such macros",
             called(&one_bit_each(31, 180), 0, 200),
         ),
-        ("70 lifts beside 120 such names of 14 bytes", lifted_beside(120, 70)),
+        (
+            "70 lifts beside 120 such names of 14 bytes",
+            lifted_beside(120, 70),
+        ),
         ("140 lifts beside 240 such names", lifted_beside(240, 140)),
     ]
     .map(|(name, definitions)| (name.to_string(), written(definitions).expect("a book")))
