@@ -12,6 +12,7 @@ use lib.ListN.{length, getD, drop, drop-of-length-le}
 use lib.Seq.{drop-cons}
 use borrow.Author.Tests.{lt-ltb, le-ltb}
 use Rattle.definition.specs.Tree.{Name}
+use Rattle.seek.specs.At.{byteAt}
 use Rattle.lookup.proofs.Names.{yes-no}
 use Rattle.hash.specs.Hash.{hashFrom, hashOf, bitAt}
 
@@ -43,6 +44,11 @@ bit-mixed n d h = rw (lt-ltb d 32 h)
 pub bit-own : (n : Name) (d : ℕ) → 32 ≤ d → bitAt n d ≡ getD n ((d - 32) / 8) 0 / 2 ^ ((d - 32) % 8) % 2
 unfolding bitAt
 bit-own n d h = rw (le-ltb d 32 h)
+
+-- the same, of a byte that was read
+pub own-bit : (n : Name) (d : ℕ) → 32 ≤ d → {x : ℕ} → x ≡ byteAt n ((d - 32) / 8) → x / 2 ^ ((d - 32) % 8) % 2 ≡ bitAt n d
+unfolding byteAt
+own-bit n d h e = sym (bit-own n d h ∙ rw (← e))
 
 pub bit-small : (n : Name) (d : ℕ) → bitAt n d ≤ 1
 unfolding bitAt

@@ -2,8 +2,7 @@
 -- Assumes nothing.
 use mathlib.Core.Path.{sym, _∙_}
 use native.Mathlib.Omega.{arith}
-use Rattle.seek.specs.At.{byteAt}
-use Rattle.hash.proofs.Hash.{bit-mixed, bit-own}
+use Rattle.hash.proofs.Hash.{bit-mixed, own-bit}
 use borrow.Author.Needs.{needs}
 use Rattle.hash.proofs.bit.Statement.{statement}
 use Rattle.hash.proofs.bit.Tie as tie
@@ -12,8 +11,7 @@ returns : tie.Need-returns
 returns c = (sym (bit-mixed _ _ (c .if1 .taken) ∙ rw (← (c .before .before .pre))), omega arith)
 
 returns-2 : tie.Need-returns-2
-unfolding byteAt
-returns-2 c = (sym (bit-own _ _ (c .before .if1 .left) ∙ rw (← (c .byte .ensures))), omega arith)
+returns-2 c = (own-bit _ _ (c .before .if1 .left) (c .byte .ensures), omega arith)
 
 pub bit-spec : {M : Type 1} → statement M
 bit-spec =
