@@ -25,6 +25,24 @@ pub enum Body {
     Refused(u8),
 }
 
+// What stands where no frame waits.
+const NONE: Waiting = Waiting {
+    place: 0,
+    last: 0,
+    here: 0,
+    end: 0,
+    left: 0,
+    child: 0,
+    len: 0,
+    bound: 0,
+    done: 0,
+    link: 0,
+    own: 0,
+    call: 0,
+    kind: 0,
+    chained: false,
+};
+
 // The body at a place: path holds its name in the first `len` bytes, and b binders are in force.
 pub fn expand_combinator(
     s: &[u8],
@@ -51,23 +69,7 @@ pub fn expand_combinator(
     let end = end_of(s, ends, at);
     let last = combinator_past(s, ends, end);
     let mut f = open_node(s, at, end, last, len, b, 0, 0);
-    let none = Waiting {
-        place: 0,
-        last: 0,
-        here: 0,
-        end: 0,
-        left: 0,
-        child: 0,
-        len: 0,
-        bound: 0,
-        done: 0,
-        link: 0,
-        own: 0,
-        call: 0,
-        kind: 0,
-        chained: false,
-    };
-    let mut frames = [none; 64];
+    let mut frames = [NONE; 64];
     let mut d = 0;
     let mut counts = w;
     let mut finished = n;

@@ -2,6 +2,7 @@
 -- Assumes nothing.
 use mathlib.Core.Path.{_≡_, refl, sym, ap, _∙_}
 use mathlib.Core.Logic.{_⊎_, inl, inr, ⊎-elim}
+use mathlib.Core.Bool.{false}
 use mathlib.Core.List.{List}
 use Prim.Native.Nat.{ℕ, suc, _+_, _*_, _-_, _/_, _%_, _≤_, _<_}
 use native.Mathlib.Omega.{arith}
@@ -10,6 +11,8 @@ use native.Mathlib.Numerals.{add-one}
 use lib.ListN.{length, getD, set, replicate, length-set, getD-replicate}
 use lib.Seq.{getD-set-same, getD-set-other}
 use Rattle.definition.specs.Tree.{Name}
+use Rattle.definition.specs.Names.{eqName}
+use Rattle.lookup.proofs.Names.{not-both, ne-name, eqName-refl}
 use Rattle.hash.specs.Hash.{bitAt}
 use Rattle.hash.proofs.Hash.{bit-small}
 use Rattle.forks.specs.Forks.{forkAt, slotOf, apartAt, Apart, enteredAt}
@@ -46,8 +49,18 @@ leads-same {f} {g} {t} {n} l e = record {
 
 -- what a look-up finds: the first row of the name, or none
 module _ {f : ℕ → Name} {t : List ℕ} {n : ℕ} (l : Leads f t n) (m : Name) where
-  pub leads-first : (j : ℕ) → j < n → f j ≡ m → (rowOf t m n ≤ j) × (f (rowOf t m n) ≡ m)
-  leads-first j h e = rw (← e) (l .first j h, l .is j h)
+  first-of : (j : ℕ) → j < n → f j ≡ m → (rowOf t m n ≤ j) × (f (rowOf t m n) ≡ m)
+  first-of j h e = rw (← e) (l .first j h, l .is j h)
+
+  -- no row before the one to which its way leads has the name
+  pub leads-before : (j : ℕ) → j < n → j < rowOf t m n → eqName m (f j) ≡ false
+  leads-before j h k = ne-name m (f j) (λ q. absurd (let z = first-of j h (sym q) .0 in omega arith))
+
+  -- and none at all, where that one has another
+  pub leads-nowhere : (rowOf t m n < n → eqName m (f (rowOf t m n)) ≡ false) → (j : ℕ) → j < n → eqName m (f j) ≡ false
+  leads-nowhere e j h = ne-name m (f j) (λ q.
+      let z = first-of j h (sym q) in
+      not-both _ (ap (eqName m) (z .1) ∙ eqName-refl m) (e (let y = z .0 in omega arith)))
 
 -- ---- a way that ends
 module _ (t : List ℕ) (m : Name) (n : ℕ) (few : n ≤ 65535) (e : Ends t m n n (length m % 256)) where

@@ -10,10 +10,10 @@ use native.Mathlib.Nat.{eq-or-lt-of-le, le-refl}
 use lib.ListN.{length}
 use Rattle.definition.specs.Tree.{Name}
 use Rattle.definition.specs.Names.{eqName, elem}
-use Rattle.lookup.proofs.Names.{yes-no, not-both, ne-name, ne-length, eqName-true, eqName-refl}
+use Rattle.lookup.proofs.Names.{yes-no, not-both, ne-length, eqName-true}
 use Rattle.forks.specs.Forks.{slotOf, rowAt}
 use Rattle.forks.specs.Leads.{rowOf}
-use Rattle.forks.proofs.Rows.{leads-first}
+use Rattle.forks.proofs.Rows.{leads-before, leads-nowhere}
 use Rattle.taken.specs.Taken.{Store, row, taken, Table}
 use Rattle.found.specs.Found.{Found}
 
@@ -56,16 +56,6 @@ length-taken names places (suc n) = ap suc (length-taken names places n)
 
 -- ---- the row to which a name's way leads
 module _ {names : Store} {places ways : List ℕ} {n : ℕ} (t : Table names places ways n) (x : Name) where
-  -- the first of its name
-  before : rowOf ways x n < n → eqName x (row names places (rowOf ways x n)) ≡ true → (j : ℕ) → j < rowOf ways x n → eqName x (row names places j) ≡ false
-  before h e j k = ne-name x (row names places j) (λ q. absurd (let z = leads-first (t .leads) x j (omega arith) (sym q) .0 in omega arith))
-
-  -- or none has the name
-  nowhere : (rowOf ways x n < n → eqName x (row names places (rowOf ways x n)) ≡ false) → (j : ℕ) → j < n → eqName x (row names places j) ≡ false
-  nowhere e j k = ne-name x (row names places j) (λ q.
-      let z = leads-first (t .leads) x j k (sym q) in
-      not-both _ (ap (eqName x) (z .1) ∙ eqName-refl x) (e (let y = z .0 in omega arith)))
-
   module _ {at r : ℕ} (ea : at ≡ slotOf ways x n) (er : r ≡ rowAt ways at n) where
     is-row : r ≡ rowOf ways x n
     unfolding rowOf
@@ -74,7 +64,7 @@ module _ {names : Store} {places ways : List ℕ} {n : ℕ} (t : Table names pla
     pub found-none : n ≤ r → Found x names places n n
     found-none h = record {
       bound = le-refl n;
-      before = nowhere (λ k. absurd (let z = is-row in omega arith));
+      before = leads-nowhere (t .leads) x (λ k. absurd (let z = is-row in omega arith));
       here = λ k. absurd (omega arith);
     }
 
@@ -83,10 +73,10 @@ module _ {names : Store} {places ways : List ℕ} {n : ℕ} (t : Table names pla
       found-here h e =
           let z = is-row in
           let y : eqName x (row names places r) ≡ true = sym (ap (eqName x) eo) ∙ sym es ∙ e in
-          record { bound = omega arith; before = rw z (before (omega arith) (rw z at y)); here = λ k. y }
+          record { bound = omega arith; before = λ j k. leads-before (t .leads) x j (omega arith) (omega arith); here = λ k. y }
 
       pub found-other : r < n → same ≡ false → Found x names places n n
       found-other h e =
           let z = is-row in
           let y : eqName x (row names places r) ≡ false = sym (ap (eqName x) eo) ∙ sym es ∙ e in
-          record { bound = le-refl n; before = nowhere (λ k. rw z at y); here = λ k. absurd (omega arith) }
+          record { bound = le-refl n; before = leads-nowhere (t .leads) x (λ k. rw z at y); here = λ k. absurd (omega arith) }

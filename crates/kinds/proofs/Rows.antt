@@ -10,7 +10,7 @@ use native.Mathlib.Numerals.{add-one}
 use lib.ListN.{length, drop, getD, drop-of-length-le}
 use lib.Seq.{drop-cons, getD-set-same, getD-set-other}
 use borrow.Author.Tests.{le-leb, lt-leb}
-use Rattle.definition.specs.Tree.{Definition, format, constant, byte-order, macro}
+use Rattle.definition.specs.Tree.{Name, Definition, format, constant, byte-order, macro}
 use Rattle.definition.specs.Write.{wU16, wText, wList, wParam, wCombinator, wDefinition, kindOf, kindByte, sizeOf, wEntries, entryOf, wBook}
 use Rattle.definition.specs.Size.{sizeBook}
 use Rattle.definition.specs.Lift.{names}
@@ -179,21 +179,23 @@ module _ {s : List ℕ} {low high : ℕ} {pl₀ ws₀ : List ℕ} where
     }
 
 -- ---- the names of formats and constants
+last-row : (s places : List ℕ) (n : ℕ) (m : Name) → 0 < n → getD places (n - 1) 0 < 32768 → nameAt s (getD places (n - 1) 0) ≡ m → taken (both s []) places n ≡ m ∷ taken (both s []) places (n - 1)
+unfolding taken row nameOf
+last-row s places n m h low e =
+    let y : n ≡ suc (n - 1) = omega arith in
+    ap (λ (k : ℕ). taken (both s []) places k) y ∙ rw (source-place (getD places (n - 1) 0) low, e)
+
 names-from : (s places : List ℕ) (n : ℕ) (ds : List Definition) → ((i : ℕ) → i < n → getD places i 0 < 32768) → InRows s places n (ofKinds 1 2 ds) → taken (both s []) places n ≡ names ds
-unfolding ofKinds keep InRows names taken kindByte kindOf row nameOf wDefinition
+unfolding ofKinds keep InRows names taken kindByte kindOf wDefinition
 names-from s places n [] f r = rw r
 names-from s places n (byte-order x ∷ ds) f r = names-from s places n ds f r
 names-from s places n (macro m ps c ∷ ds) f r = names-from s places n ds f r
 names-from s places n (constant m x ∷ ds) f r =
     let z = r .0 in
-    let y : n ≡ suc (n - 1) = omega arith in
-    let w : nameAt s (getD places (n - 1) 0) ≡ m = stands s (getD places (n - 1) 0) m (wText x (r .1 .rest)) (r .1 .here .is) in
-    ap (λ (k : ℕ). taken (both s []) places k) y ∙ rw (source-place (getD places (n - 1) 0) (f (n - 1) (omega arith)), w, names-from s places (n - 1) ds (λ i h. f i (omega arith)) (r .2))
+    last-row s places n m z (f (n - 1) (omega arith)) (stands s (getD places (n - 1) 0) m (wText x (r .1 .rest)) (r .1 .here .is)) ∙ ap (λ (l : List Name). m ∷ l) (names-from s places (n - 1) ds (λ i h. f i (omega arith)) (r .2))
 names-from s places n (format m ps c ∷ ds) f r =
     let z = r .0 in
-    let y : n ≡ suc (n - 1) = omega arith in
-    let w : nameAt s (getD places (n - 1) 0) ≡ m = stands s (getD places (n - 1) 0) m (wList wParam ps (wCombinator c (r .1 .rest))) (r .1 .here .is) in
-    ap (λ (k : ℕ). taken (both s []) places k) y ∙ rw (source-place (getD places (n - 1) 0) (f (n - 1) (omega arith)), w, names-from s places (n - 1) ds (λ i h. f i (omega arith)) (r .2))
+    last-row s places n m z (f (n - 1) (omega arith)) (stands s (getD places (n - 1) 0) m (wList wParam ps (wCombinator c (r .1 .rest))) (r .1 .here .is)) ∙ ap (λ (l : List Name). m ∷ l) (names-from s places (n - 1) ds (λ i h. f i (omega arith)) (r .2))
 
 -- "all kind 1 and 2 names": the names in the rows
 pub names-in : {s places ways : List ℕ} {n : ℕ} → Rows s places ways n → (ds : List Definition) → InRows s places n (ofKinds 1 2 ds) → rowNames s places n ≡ names ds

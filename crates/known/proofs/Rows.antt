@@ -2,8 +2,8 @@
 -- Assumes nothing.
 use mathlib.Core.Path.{_≡_, refl, sym, ap, _∙_}
 use mathlib.Core.Logic.{⊎-elim}
-use mathlib.Core.List.{List, [], _∷_, _++_, append-assoc}
-use mathlib.Core.Bool.{Bool, true, false}
+use mathlib.Core.List.{List, [], _∷_, _++_, append-assoc, append-nil}
+use mathlib.Core.Bool.{Bool, true, false, _||_}
 use Prim.Native.Nat.{ℕ, _+_, _-_, _≤_, _<_}
 use native.Mathlib.Omega.{arith}
 use native.Mathlib.Nat.{eq-or-lt-of-le}
@@ -19,7 +19,7 @@ use Rattle.lookup.specs.Name.{nameAt, nameOf}
 use Rattle.lookup.proofs.Names.{stands, yes-no, not-both, ne-name, eqName-true, eqName-refl}
 use Rattle.forks.specs.Forks.{slotOf, rowAt}
 use Rattle.forks.specs.Leads.{rowOf}
-use Rattle.forks.proofs.Rows.{leads-first}
+use Rattle.forks.proofs.Rows.{leads-before, leads-nowhere}
 use Rattle.taken.specs.Taken.{both, row}
 use Rattle.taken.proofs.Take.{source-place}
 use Rattle.kinds.specs.Rows.{keep, ofKinds, Stands, InRows, OfKinds}
@@ -38,31 +38,15 @@ macros-behind (macro n ps c ∷ ds) ms =
     macros-behind ds (m ∷ ms) ∙ sym (append-assoc (macros ds []) (m ∷ []) ms) ∙ ap (λ (l : List Macro). l ++ ms) (sym (macros-behind ds (m ∷ [])))
 
 module _ (name : Name) where
-  unknown-behind : (a b : List Macro) → isMacro a name ≡ false → isMacro (a ++ b) name ≡ isMacro b name
+  is-behind : (a b : List Macro) → isMacro (a ++ b) name ≡ isMacro a name || isMacro b name
   unfolding isMacro
-  unknown-behind [] b e = refl
-  unknown-behind (m ∷ a) b e = ⊎-elim
-      (λ (q : eqName (m .name) name ≡ true). absurd (not-both true refl (rw q at e)))
-      (λ (q : eqName (m .name) name ≡ false). rw q (unknown-behind a b (rw q at e)))
-      (yes-no (eqName (m .name) name))
-
-  known-behind : (a b : List Macro) → isMacro a name ≡ true → isMacro (a ++ b) name ≡ true
-  unfolding isMacro
-  known-behind [] b e = absurd (not-both false e refl)
-  known-behind (m ∷ a) b e = ⊎-elim
+  is-behind [] b = refl
+  is-behind (m ∷ a) b = ⊎-elim
       (λ (q : eqName (m .name) name ≡ true). rw q)
-      (λ (q : eqName (m .name) name ≡ false). rw q (known-behind a b (rw q at e)))
+      (λ (q : eqName (m .name) name ≡ false). rw q (is-behind a b))
       (yes-no (eqName (m .name) name))
 
   module _ (xs : Inners) where
-    none-known : (a : List Macro) → isMacro a name ≡ false → expandMacro a name xs ≡ done (macro-invocation name xs)
-    unfolding isMacro expandMacro expandBy
-    none-known [] e = refl
-    none-known (m ∷ a) e = ⊎-elim
-        (λ (q : eqName (m .name) name ≡ true). absurd (not-both true refl (rw q at e)))
-        (λ (q : eqName (m .name) name ≡ false). rw q (none-known a (rw q at e)))
-        (yes-no (eqName (m .name) name))
-
     expand-behind : (a b : List Macro) → isMacro a name ≡ false → expandMacro (a ++ b) name xs ≡ expandMacro b name xs
     unfolding isMacro expandMacro expandBy
     expand-behind [] b e = refl
@@ -78,6 +62,10 @@ module _ (name : Name) where
         (λ (q : eqName (m .name) name ≡ true). rw q)
         (λ (q : eqName (m .name) name ≡ false). rw q (expand-before a b (rw q at e)))
         (yes-no (eqName (m .name) name))
+
+    none-known : (a : List Macro) → isMacro a name ≡ false → expandMacro a name xs ≡ done (macro-invocation name xs)
+    unfolding expandMacro
+    none-known a e = ap (λ (l : List Macro). expandMacro l name xs) (sym (append-nil a)) ∙ expand-behind a [] e
 
 -- ---- macros in rows, and a name
 module _ (s places : List ℕ) (name : Name) where
@@ -99,7 +87,7 @@ module _ (s places : List ℕ) (name : Name) where
       let z = r .0 in
       let e = last-name n (r .1) in
       let q : eqName m name ≡ false = ne-name m name (λ k. not-both _ (eqName-refl name) (ap (eqName name) (sym (e ∙ k)) ∙ f (n - 1) (omega arith))) in
-      rw (macros-behind ds (record { name = m; params = ps; body = c } ∷ []), unknown-behind name (macros ds []) (record { name = m; params = ps; body = c } ∷ []) (no-row (n - 1) ds (r .2) (λ j h. f j (omega arith))), q)
+      rw (macros-behind ds (record { name = m; params = ps; body = c } ∷ []), is-behind name (macros ds []) (record { name = m; params = ps; body = c } ∷ []), no-row (n - 1) ds (r .2) (λ j h. f j (omega arith)), q)
 
   -- the first that has it
   module _ (xs : Inners) where
@@ -126,7 +114,7 @@ module _ (s places : List ℕ) (name : Name) where
             let u = no-row (n - 1) ds (k .2) (λ j i. f j (omega arith)) in
             let y : eqName m name ≡ true = rw (← (last-name n (k .1)), ← q, ← (eqName-true name (at r) e)) (eqName-refl name) in
             record {
-              known = unknown-behind name (macros ds []) this u ∙ rw y;
+              known = is-behind name (macros ds []) this ∙ rw (u, y);
               here = record {
                 known = record { name = m; params = ps; body = c };
                 defined = rw q (record { rest = k .1 .rest; here = k .1 .here; deep = let d = k .1 .deep in omega arith });
@@ -136,7 +124,7 @@ module _ (s places : List ℕ) (name : Name) where
 
         before : First (macros ds []) r → First (macros ds [] ++ this) r
         before v = record {
-          known = known-behind name (macros ds []) this (v .known);
+          known = is-behind name (macros ds []) this ∙ rw (v .known);
           here = record { known = v .here .known; defined = v .here .defined; is = expand-before name xs (macros ds []) this (v .known) ∙ v .here .is };
         }
 
@@ -148,25 +136,13 @@ module _ (name s places ways : List ℕ) (n : ℕ) where
   at-row k j h = rw (source-place (getD places j 0) (k .right .sourced .low j h))
 
   module _ {ms : List Macro} (k : Rows s places ways n ms) where
-    first-row : (j : ℕ) → j < n → eqName name (nameAt s (getD places j 0)) ≡ true → (rowOf ways name n ≤ j) × (row (both s []) places (rowOf ways name n) ≡ name)
-    first-row j h e = leads-first (k .right .table .leads) name j h (at-row k j h ∙ sym (eqName-true name (nameAt s (getD places j 0)) e))
+    -- no row before the one to which the way leads has the name
+    none-before : (j : ℕ) → j < n → j < rowOf ways name n → eqName name (nameAt s (getD places j 0)) ≡ false
+    none-before j i h = ap (eqName name) (sym (at-row k j i)) ∙ leads-before (k .right .table .leads) name j i h
 
-    -- none before the one to which the way leads
-    none-before : (j : ℕ) → j < rowOf ways name n → j < n → eqName name (nameAt s (getD places j 0)) ≡ false
-    none-before j h i = ⊎-elim
-        (λ (e : eqName name (nameAt s (getD places j 0)) ≡ true). absurd (let z = first-row j i e .0 in omega arith))
-        (λ (e : eqName name (nameAt s (getD places j 0)) ≡ false). e)
-        (yes-no (eqName name (nameAt s (getD places j 0))))
-
-    -- and none at all, where that one has another name
+    -- and none at all, where that one has another
     none-at-all : (rowOf ways name n < n → eqName name (nameAt s (getD places (rowOf ways name n) 0)) ≡ false) → (j : ℕ) → j < n → eqName name (nameAt s (getD places j 0)) ≡ false
-    none-at-all f j i = ⊎-elim
-        (λ (e : eqName name (nameAt s (getD places j 0)) ≡ true).
-        let z = first-row j i e in
-        let y : rowOf ways name n < n = let x = z .0 in omega arith in
-        absurd (not-both _ (eqName-refl name) (ap (eqName name) (sym (z .1) ∙ at-row k (rowOf ways name n) y) ∙ f y)))
-        (λ (e : eqName name (nameAt s (getD places j 0)) ≡ false). e)
-        (yes-no (eqName name (nameAt s (getD places j 0))))
+    none-at-all f j i = ap (eqName name) (sym (at-row k j i)) ∙ leads-nowhere (k .right .table .leads) name (λ y. ap (eqName name) (at-row k (rowOf ways name n) y) ∙ f y) j i
 
   unknown : ((ms : List Macro) → Rows s places ways n ms → rowOf ways name n < n → eqName name (nameAt s (getD places (rowOf ways name n) 0)) ≡ false) → FindsMacro name s places ways n Unknown
   unknown f = record { says = λ ms k xs. none-known name xs ms (none ms k); known = λ ms k. sym (none ms k) }
@@ -193,7 +169,7 @@ module _ (name s places ways : List ℕ) (n : ℕ) where
       }
         where
           found : (ms : List Macro) (k : Rows s places ways n ms) (xs : Inners) → First s places name xs (macros (k .of) []) r
-          found ms k xs = one-row s places name xs n (k .of) (k .in-rows) r h (sym (ap (eqName name) eo) ∙ sym es ∙ e) (λ j i. none-before k j (let z = is-row in omega arith) (omega arith))
+          found ms k xs = one-row s places name xs n (k .of) (k .in-rows) r h (sym (ap (eqName name) eo) ∙ sym es ∙ e) (λ j i. none-before k j (omega arith) (let z = is-row in omega arith))
 
       pub finds-other : same ≡ false → FindsMacro name s places ways n Unknown
       finds-other e = unknown (λ ms k i. rw (← is-row) (sym (ap (eqName name) eo) ∙ sym es ∙ e))
