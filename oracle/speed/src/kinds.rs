@@ -218,16 +218,28 @@ fn of_one_hash(beginning: &str, count: usize) -> Vec<String> {
             .chain(letters(n).map(char::from))
             .collect()
     };
-    let hash = |name: &String| {
-        name.bytes().fold(0, |h: u64, byte| {
-            (h + u64::from(byte) + 1) * 2_654_435_761 % 4_294_967_296
-        })
-    };
     (0..)
         .map(name)
-        .filter(|name| hash(name) >> 23 == 0)
+        .filter(|name: &String| hash(name.as_bytes()) >> 23 == 0)
         .take(count)
         .collect()
+}
+
+/// The hash of a name in the port (crates/hash).
+fn hash(name: &[u8]) -> u64 {
+    let mix = |hash: u64, word: u64| {
+        let product = (hash + word + 1) * 1_640_531_527;
+        (product + (product >> 32)) % (1 << 32)
+    };
+    let words = name.chunks_exact(4);
+    let last = words.remainder();
+    let (g, h) = words.fold((0, 0), |(g, h), word| {
+        let word = u64::from(u32::from_le_bytes(word.try_into().expect("four bytes")));
+        let low = (h + word + 1) % (1 << 32) * 2_654_435_761 % (1 << 32);
+        (mix(g, word), low)
+    });
+    last.iter()
+        .fold(mix(g, h), |hash, &byte| mix(hash, u64::from(byte)))
 }
 
 /// A node inside so many others.
