@@ -14,7 +14,7 @@ ghost use Rattle.beginning.specs.Begins.{Sound};
 ghost use Rattle.report.specs.Elaborates.{reported, Reports};
 
 // The elaboration of a book with macros, which is expanded into an array of its own, with the work area left as it is then.
-fn attempt_expanded(book: &[u8], out: &mut [u8], work: &mut [u8]) -> Elaborated
+fn expand_fully(book: &[u8], out: &mut [u8], work: &mut [u8]) -> Elaborated
     requires { ⌜ Sound (now book) (length (now work)) ⌝ }
     ensures { λ r. ⌜ Reports (attempt (now (book .entry)) (length (now (out .entry))) (length (now (work .entry)))) (now (out .entry)) (now (out .exit)) r ⌝ }
 {
@@ -24,6 +24,30 @@ fn attempt_expanded(book: &[u8], out: &mut [u8], work: &mut [u8]) -> Elaborated
         Opened::Refused { code } => Elaborated::Refused { code },
         Opened::Book { len } => lift_expanded(&expanded[..len], work, out),
     }
+}
+
+// The same in an array that a short book needs; what does not fit into it is expanded once more.
+fn expand_shortly(book: &[u8], out: &mut [u8], work: &mut [u8]) -> Elaborated
+    requires { ⌜ Sound (now book) (length (now work)) ⌝ }
+    ensures { λ r. ⌜ Reports (attempt (now (book .entry)) (length (now (out .entry))) (length (now (work .entry)))) (now (out .entry)) (now (out .exit)) r ⌝ }
+{
+    let mut expanded = [0u8; 2048];
+    let opened = expand_book(book, work, &mut expanded);
+    match opened {
+        Opened::Refused { code: _ } => expand_fully(book, out, work),
+        Opened::Book { len } => lift_expanded(&expanded[..len], work, out),
+    }
+}
+
+// The elaboration of a book with macros.
+fn attempt_expanded(book: &[u8], out: &mut [u8], work: &mut [u8]) -> Elaborated
+    requires { ⌜ Sound (now book) (length (now work)) ⌝ }
+    ensures { λ r. ⌜ Reports (attempt (now (book .entry)) (length (now (out .entry))) (length (now (work .entry)))) (now (out .entry)) (now (out .exit)) r ⌝ }
+{
+    if book.len() <= 512 {
+        return expand_shortly(book, out, work);
+    }
+    expand_fully(book, out, work)
 }
 
 // The elaboration of any book.

@@ -89,10 +89,10 @@ module _ {macros pl hs : List ℕ} {rows : ℕ} {book : List ℕ} {at : ℕ} {ar
     head = part-upto (headBytes n ps) (wCombinator c z) (rw (format-apart n ps c z) at h) body-here
 
     over-body : Walked book c 64 z (walk body 0 64 true) m₁ w m₂
-    over-body = rw (hw, hm) (walked book (omega (arith, wh .sized .book-short)) c 64 dc (walk body 0 64 true) m₁ z body-here (omega (arith, room-enough c body, size-here c z body-here, wh .sized .book-short, wh .marks-long)))
+    over-body = rw (hw, hm) (walked book (omega (arith, wh .sized .book-short)) c 64 dc (walk body 0 64 true) m₁ z body-here (omega (arith, room-enough c body, size-here c z body-here, wh .marks-book)))
 
     marks-are : fm ≡ places body (pieces c [])
-    marks-are = ef ∙ rw (over-body .count, over-body .marks) (take-written m₁ 0 (places body (pieces c [])) (omega (arith, room-enough c body, size-here c z body-here, wh .sized .book-short, wh .marks-long)))
+    marks-are = ef ∙ rw (over-body .count, over-body .marks) (take-written m₁ 0 (places body (pieces c [])) (omega (arith, room-enough c body, size-here c z body-here, wh .marks-book)))
 
     got : Puts out₁ q (expand c ms >>= λ d. done (wCombinator d [])) out₂ r
     unfolding written size
@@ -111,10 +111,10 @@ module _ {macros pl hs : List ℕ} {rows : ℕ} {book : List ℕ} {at : ℕ} {ar
     left-is : (d : Combinator) → levels d ≤ 127 → Wrote out₁ q (wCombinator d []) out₂ r → r ≤ length out₂ → (m₃ : List ℕ) → length m₃ ≡ length marks
         → (v : Walk) → v ≡ combinatorAt 129 out₂ (walk q 0 129 true) m₃ .0 → v .left ≡ min 129 (129 - levels d)
     left-is d dd wd k m₃ lm₃ v hv =
-        let l : length out₂ ≡ 16384 = lo ∙ same-length wo ∙ wh .out-long in
+        let l : length out₂ ≡ length out = lo ∙ same-length wo in
         let s : Here out₂ q (wCombinator d (drop (q + length (wCombinator d [])) out₁)) = rw (s-comb d [] (drop (q + length (wCombinator d [])) out₁)) (wrote-here wd (omega arith)) in
-        rw hv (walked out₂ (omega arith) d 129 (omega arith) (walk q 0 129 true) m₃ (drop (q + length (wCombinator d [])) out₁) s
-        (omega (arith, room-enough d q, size-here d (drop (q + length (wCombinator d [])) out₁) s, wh .marks-long)) .deep)
+        rw hv (walked out₂ (omega (arith, wh .out-short)) d 129 (omega arith) (walk q 0 129 true) m₃ (drop (q + length (wCombinator d [])) out₁) s
+        (omega (arith, room-enough d q, size-here d (drop (q + length (wCombinator d [])) out₁) s, wh .marks-out)) .deep)
 
   -- by what the expansion of the body is
   by-body : (out′ : List ℕ) (r′ : ℕ) → (r ≡ suc (length out₁) → r′ ≡ suc (length out))

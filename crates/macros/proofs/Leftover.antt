@@ -119,7 +119,7 @@ kind-kept (constant n x) ms = yields {a = constant n x} refl
 kind-kept (byte-order x) ms = yields {a = byte-order x} refl
 kind-kept (macro n ps c) ms = yields {a = macro n ps c} refl
 
-module _ {out out₁ out₂ : List ℕ} {e o r₁ e₂ : ℕ} (x : Definition) (lo : length out ≡ 16384) (w₁ : Wrote out o (wDefinition x []) out₁ r₁) (k : r₁ ≤ length out)
+module _ {out out₁ out₂ : List ℕ} {e o r₁ e₂ : ℕ} (x : Definition) (lo : length out ≤ 16384) (w₁ : Wrote out o (wDefinition x []) out₁ r₁) (k : r₁ ≤ length out)
     (w₂ : Wrote out₁ e (entryBytes (kindByte (kindOf x)) o (r₁ - o)) out₂ e₂) where
   r₁-is : r₁ ≡ o + sizeOf x
   unfolding sizeOf
@@ -241,8 +241,9 @@ module _ {macros pl hs : List ℕ} {rows : ℕ} {book areas marks row out : List
           still : (ms : List Macro) → Whole macros pl hs rows book areas marks row out ms → Whole macros pl hs rows book areas₁ marks₁ row₁ out₂ ms
           still ms wh = record {
             sized = record { macros-short = wh .sized .macros-short; book-short = wh .sized .book-short; areas-long = la ∙ wh .sized .areas-long; marks-long = lr ∙ wh .sized .marks-long };
-            marks-long = lm ∙ wh .marks-long;
-            out-long = same-length w₂ ∙ lo ∙ wh .out-long;
+            marks-book = omega (arith, wh .marks-book);
+            marks-out = omega (arith, wh .marks-out, same-length w₂);
+            out-short = omega (arith, wh .out-short, same-length w₂);
             table = wh .table;
           }
 
@@ -253,8 +254,8 @@ module _ {macros pl hs : List ℕ} {rows : ℕ} {book areas marks row out : List
               let q : kind ≡ kindByte (kindOf y) = hk ∙ listed-kind (l .listed) ∙ ap kindByte (sym (yielded i refl)) in
               let w : Wrote out₁ e (entryBytes (kindByte (kindOf y)) o (r₁ - o)) out₂ e₂ = rw q at w₂ in
               let z = next .says ms (still ms wh) ds (next-left hd l)
-              (omega (arith, place-2 y (wh .out-long) p (omega arith) w (omega arith), r₁-is y (wh .out-long) p (omega arith) w)) (omega (arith, same-length w₂)) in
-              one-more y (wh .out-long) p (omega arith) w (keptOf ds) (shallowAll ds ms) (kept-count ds ms) h out′ r z
+              (omega (arith, place-2 y (wh .out-short) p (omega arith) w (omega arith), r₁-is y (wh .out-short) p (omega arith) w)) (omega (arith, same-length w₂)) in
+              one-more y (wh .out-short) p (omega arith) w (keptOf ds) (shallowAll ds ms) (kept-count ds ms) h out′ r z
 
           step : (ms : List Macro) → Whole macros pl hs rows book areas marks row out ms → (ds : List Definition) → Left book d ds → e + 6 * keptOf ds ≤ o → Writes out e o (shallowAll ds ms) out′ r
           step ms wh [] l h = absurd (some-more k l)

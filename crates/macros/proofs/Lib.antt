@@ -2,3 +2,4 @@ mod Format
 mod Leftover
 pub mod Plain
 mod Passing
+pub mod Fitting

@@ -23,11 +23,12 @@ use Rattle.lookup.proofs.Names.{yes-no}
 use Rattle.writer.specs.Buf.{put, Wrote}
 use Rattle.writer.proofs.Put.{put-put, put-fits}
 use Rattle.writer.proofs.Wrote.{same-length}
+use Rattle.macros.specs.declared.Expanded.{Expanded}
 use Rattle.macros.specs.declared.Expanded.the-variants.{Book, Grown}
 use Rattle.forks.specs.Leads.{Clear}
 use Rattle.known.specs.Table.{Tabled}
 use Rattle.macros.specs.Left.{shallow, expandOne, andOne, shallowAll, WritesBy, Writes, Booked}
-use Rattle.macros.specs.Pass.{pass, answerOf, leaves, Passed}
+use Rattle.macros.specs.Pass.{pass, fitting, answerOf, leaves, Passed, PassedBy}
 use Rattle.contents.proofs.Listed.{entries-apart, entries-size}
 use Rattle.macros.proofs.Leftover.{kept-count}
 use Rattle.macros.proofs.Plain.{size-length}
@@ -106,6 +107,22 @@ pass-is ms ds h = go (expandAll ds (macros ms [])) (shallowAll ds (macros ms [])
     go (refused k) s e = rw (← e)
     go (done es) s e = rw (← e) (both (leb (sizeBook es) 16384) (leb (levelsBook es) 64) es ∙ apart (leb (levelsBook es) 64) es)
 
+-- a size that is over the larger limit is over the smaller one
+fit-is : (room : ℕ) (ms ds : List Definition) → room ≤ 16384 → levelsBook ds ≤ 64
+    → fitting room (pass ms ds) ≡ (shallowAll ds (macros ms []) >>= λ es. given (leb (sizeBook es) room) macro-growth es)
+unfolding fitting
+fit-is room ms ds k h = ap (λ (m : Out (List Definition)). m >>= λ es. given (leb (sizeBook es) room) macro-growth es) (pass-is ms ds h) ∙ go (shallowAll ds (macros ms []))
+  where
+    one : (es : List Definition) → (given (leb (sizeBook es) 16384) macro-growth es >>= λ fs. given (leb (sizeBook fs) room) macro-growth fs) ≡ given (leb (sizeBook es) room) macro-growth es
+    one es = ⊎-elim
+        (λ (h : leb (sizeBook es) 16384 ≡ true). rw h)
+        (λ (h : leb (sizeBook es) 16384 ≡ false). rw (h, lt-leb (sizeBook es) room (omega (arith, leb-false (sizeBook es) 16384 h))))
+        (yes-no (leb (sizeBook es) 16384))
+
+    go : (m : Out (List Definition)) → (m >>= λ es. given (leb (sizeBook es) 16384) macro-growth es) >>= (λ es. given (leb (sizeBook es) room) macro-growth es) ≡ (m >>= λ es. given (leb (sizeBook es) room) macro-growth es)
+    go (refused k) = refl
+    go (done es) = one es
+
 -- the bytes of a book
 book-apart : (es : List Definition) → wBook es ≡ (wU16 (length es) [] ++ wEntries (2 + 6 * length es) (map entryOf es) []) ++ wAll wDefinition es []
 unfolding wBook wParts wU16
@@ -128,9 +145,9 @@ three-puts out U E B o u e h =
     ∙ ap (λ (k : ℕ). ((U ++ E) ++ B) ++ drop k out) (sym l)
 
 -- what the finished book says, where its bodies were written or did not fit
-finished : (out out₂ : List ℕ) (n o end : ℕ) (es : List Definition) → length es ≡ n → o ≡ 2 + 6 * n → length out ≡ 16384 → WritesBy (put out 0 (wU16 n [])) 2 o es out₂ end true → sizeBook es ≤ 16384
+finished : (out out₂ : List ℕ) (n o end : ℕ) (es : List Definition) → length es ≡ n → o ≡ 2 + 6 * n → WritesBy (put out 0 (wU16 n [])) 2 o es out₂ end true → sizeBook es ≤ length out
     → (end ≡ sizeBook es) × (out₂ ≡ wBook es ++ drop (sizeBook es) out)
-finished out out₂ n o end es e eo lo w k =
+finished out out₂ n o end es e eo w k =
     let E = wEntries o (map entryOf es) [] in
     let B = wAll wDefinition es [] in
     let z : o + length B ≡ sizeBook es = omega (arith, book-size es) in
@@ -140,9 +157,9 @@ finished out out₂ n o end es e eo lo w k =
     (w .0 ∙ z, w .1 ∙ t ∙ rw (c, z))
 
 module _ {lib book out out₁ out₂ pl hs pl₁ hs₁ areas marks row : List ℕ} {rows n o end q : ℕ} (tb : Tabled lib pl hs pl₁ hs₁ rows) (lp : length pl ≡ 512) (lh : length hs ≡ 1280) (cl : Clear hs)
-    (lm : length marks ≡ 8192) (lr : length row ≡ 8192) {k : ℕ} (kp : KeptOf book k) (nk : n ≡ min k 512) (w : Wrote out 0 (wU16 n []) out₁ q) (eo : o ≡ 2 + 6 * n)
+    (lr : length row ≡ 8192) {k : ℕ} (kp : KeptOf book k) (nk : n ≡ min k 512) (w : Wrote out 0 (wU16 n []) out₁ q) (eo : o ≡ 2 + 6 * n) (ro : o ≤ length out)
     (bk : Booked lib pl₁ hs₁ rows book areas marks row out₁ o out₂ end) (lo : length out₂ ≡ length out₁) where
-  module _ (ms ds : List Definition) (el : lib ≡ wBook ms) (im : IsBook ms) (eb : book ≡ wBook ds) (id : IsBook ds) (al : length areas ≡ 32768) (ol : length out ≡ 16384) where
+  module _ (ms ds : List Definition) (el : lib ≡ wBook ms) (im : IsBook ms) (eb : book ≡ wBook ds) (id : IsBook ds) (al : length areas ≡ 32768) (ol : length out ≤ 16384) (mb : length book ≤ 2 * length marks) (mo : length out ≤ 2 * length marks) where
     kept : n ≡ keptOf ds
     kept = omega (arith, kp .says ds eb id, kept-few ds, id .few)
 
@@ -155,45 +172,67 @@ module _ {lib book out out₁ out₂ pl hs pl₁ hs₁ areas marks row : List �
             areas-long = al;
             marks-long = lr;
           };
-          marks-long = lm;
-          out-long = same-length w ∙ ol;
+          marks-book = mb;
+          marks-out = omega (arith, same-length w);
+          out-short = omega (arith, same-length w);
           table = tb .says ms el im lp lh cl;
         })
         ds eb id (omega (arith, kept)) (omega (arith, same-length w))
 
-  pub passed-grown : length out₂ < end → Passed lib book areas out out₂ Grown
+  pub passed-grown : length out₂ < end → PassedBy (length marks) lib book areas out out₂ Grown
   passed-grown g = record {
-    says = λ ms ds el im eb id al ol.
-        rw (pass-is ms ds (id .deep))
-        (go (shallowAll ds (macros ms [])) (λ es e. yielded (kept-count ds (macros ms [])) e ∙ sym (kept ms ds el im eb id al ol)) (written ms ds el im eb id al ol) ol);
+    says = λ ms ds el im eb id al ol mb mo.
+        rw (fit-is (length out) ms ds ol (id .deep))
+        (go (shallowAll ds (macros ms [])) (λ es e. yielded (kept-count ds (macros ms [])) e ∙ sym (kept ms ds el im eb id al ol mb mo)) (written ms ds el im eb id al ol mb mo));
   }
     where
-      go : (x : Out (List Definition)) → ((es : List Definition) → x ≡ done es → length es ≡ n) → Writes out₁ 2 o x out₂ end → length out ≡ 16384
-          → (Grown ≡ answerOf (x >>= λ es. given (leb (sizeBook es) 16384) macro-growth es)) × leaves (x >>= λ es. given (leb (sizeBook es) 16384) macro-growth es) out out₂
-      go (refused c) f v ol = (refl, lo ∙ same-length w)
-      go (done es) f v ol = ⊎-elim
+      go : (x : Out (List Definition)) → ((es : List Definition) → x ≡ done es → length es ≡ n) → Writes out₁ 2 o x out₂ end
+          → (Grown ≡ answerOf (x >>= λ es. given (leb (sizeBook es) (length out)) macro-growth es)) × leaves (x >>= λ es. given (leb (sizeBook es) (length out)) macro-growth es) out out₂
+      go (refused c) f v = (refl, lo ∙ same-length w)
+      go (done es) f v = ⊎-elim
           (λ (h : leb (o + length (wAll wDefinition es [])) (length out₁) ≡ true). absurd (omega (arith, (rw h at v) .0, leb-true (o + length (wAll wDefinition es [])) (length out₁) h)))
           (λ (h : leb (o + length (wAll wDefinition es [])) (length out₁) ≡ false).
-          rw (lt-leb (sizeBook es) 16384 (omega (arith, leb-false (o + length (wAll wDefinition es [])) (length out₁) h, book-size es, f es refl, same-length w))) (refl, lo ∙ same-length w))
+          rw (lt-leb (sizeBook es) (length out) (omega (arith, leb-false (o + length (wAll wDefinition es [])) (length out₁) h, book-size es, f es refl, same-length w))) (refl, lo ∙ same-length w))
           (yes-no (leb (o + length (wAll wDefinition es [])) (length out₁)))
 
-  pub passed-book : end ≤ length out₂ → Passed lib book areas out out₂ (Book end)
+  pub passed-book : end ≤ length out₂ → PassedBy (length marks) lib book areas out out₂ (Book end)
   passed-book g = record {
-    says = λ ms ds el im eb id al ol.
-        rw (pass-is ms ds (id .deep))
-        (go (shallowAll ds (macros ms [])) (λ es e. yielded (kept-count ds (macros ms [])) e ∙ sym (kept ms ds el im eb id al ol)) (written ms ds el im eb id al ol) ol);
+    says = λ ms ds el im eb id al ol mb mo.
+        rw (fit-is (length out) ms ds ol (id .deep))
+        (go (shallowAll ds (macros ms [])) (λ es e. yielded (kept-count ds (macros ms [])) e ∙ sym (kept ms ds el im eb id al ol mb mo)) (written ms ds el im eb id al ol mb mo));
   }
     where
-      go : (x : Out (List Definition)) → ((es : List Definition) → x ≡ done es → length es ≡ n) → Writes out₁ 2 o x out₂ end → length out ≡ 16384
-          → (Book end ≡ answerOf (x >>= λ es. given (leb (sizeBook es) 16384) macro-growth es)) × leaves (x >>= λ es. given (leb (sizeBook es) 16384) macro-growth es) out out₂
-      go (refused c) f v ol = absurd (omega arith)
-      go (done es) f v ol = ⊎-elim
+      go : (x : Out (List Definition)) → ((es : List Definition) → x ≡ done es → length es ≡ n) → Writes out₁ 2 o x out₂ end
+          → (Book end ≡ answerOf (x >>= λ es. given (leb (sizeBook es) (length out)) macro-growth es)) × leaves (x >>= λ es. given (leb (sizeBook es) (length out)) macro-growth es) out out₂
+      go (refused c) f v = absurd (omega arith)
+      go (done es) f v = ⊎-elim
           (λ (h : leb (o + length (wAll wDefinition es [])) (length out₁) ≡ true).
-          let s : sizeBook es ≤ 16384 = omega (arith, leb-true (o + length (wAll wDefinition es [])) (length out₁) h, book-size es, f es refl, same-length w) in
-          let t = finished out out₂ n o end es (f es refl) eo ol (rw (← (w .holds)) (rw h at v)) s in
-          rw (le-leb (sizeBook es) 16384 s) (ap Book (t .0), t .1))
+          let s : sizeBook es ≤ length out = omega (arith, leb-true (o + length (wAll wDefinition es [])) (length out₁) h, book-size es, f es refl, same-length w) in
+          let t = finished out out₂ n o end es (f es refl) eo (rw (← (w .holds)) (rw h at v)) s in
+          rw (le-leb (sizeBook es) (length out) s) (ap Book (t .0), t .1))
           (λ (h : leb (o + length (wAll wDefinition es [])) (length out₁) ≡ false). absurd (omega (arith, rw h at v)))
           (yes-no (leb (o + length (wAll wDefinition es [])) (length out₁)))
+
+-- where the entries alone do not fit
+module _ {lib book areas out : List ℕ} {marks n k : ℕ} (kp : KeptOf book k) (nk : n ≡ min k 512) (short : length out < 2 + 6 * n) where
+  pub passed-short : PassedBy marks lib book areas out out Grown
+  passed-short = record {
+    says = λ ms ds el im eb id al ol mb mo.
+        rw (fit-is (length out) ms ds ol (id .deep))
+        (go (shallowAll ds (macros ms [])) (λ es e. omega (arith, yielded (kept-count ds (macros ms [])) e, kp .says ds eb id, kept-few ds, id .few)));
+  }
+    where
+      go : (x : Out (List Definition)) → ((es : List Definition) → x ≡ done es → length es ≡ n)
+          → (Grown ≡ answerOf (x >>= λ es. given (leb (sizeBook es) (length out)) macro-growth es)) × leaves (x >>= λ es. given (leb (sizeBook es) (length out)) macro-growth es) out out
+      go (refused c) f = (refl, refl)
+      go (done es) f = rw (lt-leb (sizeBook es) (length out) (omega (arith, book-size es, f es refl))) (refl, refl)
+
+-- with marks for any book, and with those for short ones
+pub passed-long : {lib book areas out out′ : List ℕ} {r : Expanded} → PassedBy 8192 lib book areas out out′ r → Passed lib book areas out out′ r
+passed-long {book = book} p = record { says = λ ms ds el im eb id al ol. p .says ms ds el im eb id al ol (omega (arith, ap length eb, size-length ds, id .short)) (omega arith) }
+
+pub passed-brief : {lib book areas out out′ : List ℕ} {r : Expanded} → length book ≤ 2048 → length out ≤ 2048 → PassedBy 1024 lib book areas out out′ r → Passed lib book areas out out′ r
+passed-brief h k p = record { says = λ ms ds el im eb id al ol. p .says ms ds el im eb id al ol (omega arith) (omega arith) }
 
 -- the plain mode: the book's own macros
 pub plain-mode : (ds : List Definition) → pass ds ds ≡ expandList ds

@@ -3,12 +3,13 @@
 use mathlib.Core.Path.{_≡_, refl, sym, ap, _∙_}
 use mathlib.Core.List.{List, [], _∷_, _++_}
 use mathlib.Core.Bool.{Bool, true}
-use Prim.Native.Nat.{ℕ, _+_}
+use Prim.Native.Nat.{ℕ, _+_, _≤_, _<_}
 use native.Mathlib.Omega.{arith}
 use lib.Dec.{leb}
 use lib.ListN.{length, drop}
-use borrow.Author.Tests.{le-leb}
-use Rattle.definition.specs.Out.{done}
+use borrow.Author.Tests.{le-leb, lt-leb}
+use Rattle.definition.specs.Code.{macro-growth}
+use Rattle.definition.specs.Out.{Out, done, given}
 use Rattle.definition.specs.Tree.{Definition, format, constant, byte-order, macro}
 use Rattle.definition.specs.Write.{wBook}
 use Rattle.definition.specs.Size.{sizeBook, levelsBook}
@@ -19,8 +20,8 @@ use Rattle.writer.specs.Buf.{put, Wrote}
 use Rattle.writer.proofs.Put.{put-fits}
 use Rattle.kept.specs.Kept.{keptOf, Macroless}
 use Rattle.kept.proofs.Counting.{kept-few, all-kept}
-use Rattle.macros.specs.declared.Expanded.the-variants.{Book}
-use Rattle.macros.specs.Pass.{pass, answerOf, leaves, Passed}
+use Rattle.macros.specs.declared.Expanded.the-variants.{Book, Grown}
+use Rattle.macros.specs.Pass.{pass, fitting, answerOf, leaves, Leaves, Passed}
 
 pub size-length : (es : List Definition) → sizeBook es ≡ length (wBook es)
 unfolding sizeBook
@@ -49,13 +50,25 @@ pass-plain ms ds h k i =
     let b : leb (levelsBook ds) 64 ≡ true = le-leb (levelsBook ds) 64 (i .deep) in
     rw (no-macros ms [] h, same-all ds k, a, b)
 
-module _ {lib book areas out out′ : List ℕ} {a b : Bool} {q : ℕ} (p : Macroless lib a) (t : a ≡ true) (r : Macroless book b) (u : b ≡ true) (w : Wrote out 0 book out′ q) where
+fit-plain : (room : ℕ) (ms ds : List Definition) → keptOf ms ≡ length ms → keptOf ds ≡ length ds → IsBook ds → fitting room (pass ms ds) ≡ given (leb (sizeBook ds) room) macro-growth ds
+unfolding fitting
+fit-plain room ms ds h k i = rw (pass-plain ms ds h k i)
+
+module _ {lib book areas out : List ℕ} {a b : Bool} (p : Macroless lib a) (t : a ≡ true) (r : Macroless book b) (u : b ≡ true) where
+  -- with no room for it
+  pub plain-grown : length out < length book → Passed lib book areas out out Grown
+  plain-grown l = record {
+    says = λ ms ds el im eb id al ol.
+        rw (fit-plain (length out) ms ds (all-kept p t ms el im) (all-kept r u ds eb id) id, lt-leb (sizeBook ds) (length out) (omega (arith, size-length ds, ap length eb))) (refl, refl);
+  }
+
+module _ {lib book areas out out′ : List ℕ} {a b : Bool} {q : ℕ} (p : Macroless lib a) (t : a ≡ true) (r : Macroless book b) (u : b ≡ true) (l : length book ≤ length out) (w : Wrote out 0 book out′ q) where
   pub passed-plain : Passed lib book areas out out′ (Book (length book))
-  passed-plain = record { says = λ ms ds el im eb id al ol. copied ms ds (all-kept p t ms el im) eb id (all-kept r u ds eb id) ol }
+  passed-plain = record { says = λ ms ds el im eb id al ol. copied ms ds (all-kept p t ms el im) eb id (all-kept r u ds eb id) }
     where
-      copied : (ms ds : List Definition) → keptOf ms ≡ length ms → book ≡ wBook ds → IsBook ds → keptOf ds ≡ length ds → length out ≡ 16384 → (Book (length book) ≡ answerOf (pass ms ds)) × leaves (pass ms ds) out out′
-      copied ms ds h eb id k ol =
+      copied : (ms ds : List Definition) → keptOf ms ≡ length ms → book ≡ wBook ds → IsBook ds → keptOf ds ≡ length ds → Leaves (fitting (length out) (pass ms ds)) out out′ (Book (length book))
+      copied ms ds h eb id k =
           let s : sizeBook ds ≡ length book = size-length ds ∙ ap length (sym eb) in
           let f : put out 0 book ≡ book ++ drop (0 + length book) out = put-fits out 0 book (omega (arith, s, id .short)) in
           let z : 0 + length book ≡ length book = omega arith in
-          rw (pass-plain ms ds h k id) (ap Book (sym s), w .holds ∙ f ∙ rw (s, ← eb) (ap (λ (n : ℕ). book ++ drop n out) z))
+          rw (fit-plain (length out) ms ds h k id, le-leb (sizeBook ds) (length out) (omega (arith, s))) (ap Book (sym s), w .holds ∙ f ∙ rw (s, ← eb) (ap (λ (n : ℕ). book ++ drop n out) z))

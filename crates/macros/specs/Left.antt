@@ -44,8 +44,10 @@ shallowAll (macro n ps c ∷ ds) ms = shallowAll ds ms
 -- what an expansion of the whole book needs
 pub record Whole (macros pl hs : List ℕ) (rows : ℕ) (book areas marks row out : List ℕ) (ms : List Macro) : Type 0 where
   pub sized : Areas macros book areas row
-  pub marks-long : length marks ≡ 8192
-  pub out-long : length out ≡ 16384
+  -- a combinator of n bytes has at most n / 2 marks
+  pub marks-book : length book ≤ 2 * length marks
+  pub marks-out : length out ≤ 2 * length marks
+  pub out-short : length out ≤ 16384
   pub table : Rows macros pl hs rows ms
 
 pub record Formatted (macros pl hs : List ℕ) (rows : ℕ) (book : List ℕ) (at : ℕ) (areas marks row out : List ℕ) (o : ℕ) (out′ : List ℕ) (r : ℕ) : Type 0 where

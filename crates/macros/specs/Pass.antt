@@ -2,7 +2,7 @@
 use mathlib.Core.Path.{_≡_}
 use mathlib.Core.List.{List, [], _++_}
 use mathlib.Core.Bool.{_&&_}
-use Prim.Native.Nat.{ℕ}
+use Prim.Native.Nat.{ℕ, _*_, _≤_}
 use lib.Dec.{leb}
 use lib.ListN.{length, drop}
 use Rattle.definition.specs.Code.{macro-growth}
@@ -21,6 +21,12 @@ pass ms ds = do
   es ← expandAll ds (macros ms [])
   given (leb (sizeBook es) 16384 && leb (levelsBook es) 64) macro-growth es
 
+-- and where the book has room for so many bytes only
+unfoldable pub fitting : ℕ → Out (List Definition) → Out (List Definition)
+fitting room m = do
+  es ← m
+  given (leb (sizeBook es) room) macro-growth es
+
 -- the length of the expanded book, or code 6
 abbrev pub answerOf : Out (List Definition) → Expanded
 answerOf (refused k) = Grown
@@ -31,5 +37,14 @@ abbrev pub leaves : Out (List Definition) → List ℕ → List ℕ → Type 0
 leaves (refused k) out out′ = length out′ ≡ length out
 leaves (done es) out out′ = out′ ≡ wBook es ++ drop (sizeBook es) out
 
+abbrev pub Leaves : Out (List Definition) → List ℕ → List ℕ → Expanded → Type 0
+Leaves m out out′ r = (r ≡ answerOf m) × leaves m out out′
+
 pub record Passed (lib book areas out out′ : List ℕ) (r : Expanded) : Type 0 where
-  pub says : (ms ds : List Definition) → lib ≡ wBook ms → IsBook ms → book ≡ wBook ds → IsBook ds → length areas ≡ 32768 → length out ≡ 16384 → (r ≡ answerOf (pass ms ds)) × leaves (pass ms ds) out out′
+  pub says : (ms ds : List Definition) → lib ≡ wBook ms → IsBook ms → book ≡ wBook ds → IsBook ds → length areas ≡ 32768 → length out ≤ 16384
+      → Leaves (fitting (length out) (pass ms ds)) out out′ r
+
+-- with so many marks, which are enough for both books
+pub record PassedBy (marks : ℕ) (lib book areas out out′ : List ℕ) (r : Expanded) : Type 0 where
+  pub says : (ms ds : List Definition) → lib ≡ wBook ms → IsBook ms → book ≡ wBook ds → IsBook ds → length areas ≡ 32768 → length out ≤ 16384
+      → length book ≤ 2 * marks → length out ≤ 2 * marks → Leaves (fitting (length out) (pass ms ds)) out out′ r

@@ -7,7 +7,9 @@ use known::table;
 use numbers::least;
 use writer::put_bytes;
 use writer::put_u16;
-ghost use Rattle.macros.specs.Pass.{Passed};
+ghost use Prim.Native.Nat.{_≤_};
+ghost use lib.ListN.{length};
+ghost use Rattle.macros.specs.Pass.{Passed, PassedBy};
 
 // The length of the expanded book, or growth past a limit: code 6.
 pub enum Expanded {
@@ -15,18 +17,26 @@ pub enum Expanded {
     Grown,
 }
 
-// A pass with the macros of the other book in a table, and the calls of each body marked.
-fn expand_marked(macros: &[u8], book: &[u8], areas: &mut [u8], out: &mut [u8]) -> Expanded
-    ensures { λ r. ⌜ Passed (now (macros .entry)) (now (book .entry)) (now (areas .entry)) (now (out .entry)) (now (out .exit)) r ⌝ }
+// A pass with the macros of the other book in a table, and the calls of each body marked in the row that is lent.
+fn expand_marked(
+    macros: &[u8],
+    book: &[u8],
+    areas: &mut [u8],
+    marks: &mut [u16],
+    out: &mut [u8],
+) -> Expanded
+    ensures { λ r. ⌜ PassedBy (length (now (marks .entry))) (now (macros .entry)) (now (book .entry)) (now (areas .entry)) (now (out .entry)) (now (out .exit)) r ⌝ }
 {
+    let n = least(count_kept(book), 512);
+    let bodies = 2 + 6 * n;
+    if out.len() < bodies {
+        return Expanded::Grown;
+    }
     let mut places = [0u16; 512];
     let mut ways = [0u32; 1280];
-    let mut marks = [0u16; 8192];
     let mut row = [0u16; 8192];
     let rows = table(macros, &mut places, &mut ways);
-    let n = least(count_kept(book), 512);
     put_u16(n as u16, out, 0);
-    let bodies = 2 + 6 * n;
     let end = book::expand_all(
         macros,
         &places,
@@ -34,7 +44,7 @@ fn expand_marked(macros: &[u8], book: &[u8], areas: &mut [u8], out: &mut [u8]) -
         rows,
         book,
         areas,
-        &mut marks,
+        marks,
         &mut row,
         out,
         bodies,
@@ -45,16 +55,42 @@ fn expand_marked(macros: &[u8], book: &[u8], areas: &mut [u8], out: &mut [u8]) -
     Expanded::Book { len: end }
 }
 
+// With marks for a book of at most 2,048 bytes whose expansion has no more.
+fn expand_short(macros: &[u8], book: &[u8], areas: &mut [u8], out: &mut [u8]) -> Expanded
+    requires { ⌜ (length (now book) ≤ 2048) × (length (now out) ≤ 2048) ⌝ }
+    ensures { λ r. ⌜ Passed (now (macros .entry)) (now (book .entry)) (now (areas .entry)) (now (out .entry)) (now (out .exit)) r ⌝ }
+{
+    let mut marks = [0u16; 1024];
+    expand_marked(macros, book, areas, &mut marks, out)
+}
+
+// With marks for any book.
+fn expand_long(macros: &[u8], book: &[u8], areas: &mut [u8], out: &mut [u8]) -> Expanded
+    ensures { λ r. ⌜ Passed (now (macros .entry)) (now (book .entry)) (now (areas .entry)) (now (out .entry)) (now (out .exit)) r ⌝ }
+{
+    let mut marks = [0u16; 8192];
+    expand_marked(macros, book, areas, &mut marks, out)
+}
+
 // One pass: the book with the calls of the macros that the other book defines expanded, and without macros of its own. It fills the first bytes
-// of out, which has 16,384; the areas, two in one, have 32,768. Where neither book has a macro the book stays as it is.
+// of out, which has 16,384 at most; where it has more bytes than out, that is growth too. The areas, two in one, have 32,768. Where neither book
+// has a macro the book stays as it is.
 pub fn expand_macros(macros: &[u8], book: &[u8], areas: &mut [u8], out: &mut [u8]) -> Expanded
     ensures { λ r. ⌜ Passed (now (macros .entry)) (now (book .entry)) (now (areas .entry)) (now (out .entry)) (now (out .exit)) r ⌝ }
 {
     if has_no_macros(macros) {
         if has_no_macros(book) {
+            if out.len() < book.len() {
+                return Expanded::Grown;
+            }
             put_bytes(book, out, 0);
             return Expanded::Book { len: book.len() };
         }
     }
-    expand_marked(macros, book, areas, out)
+    if book.len() <= 2048 {
+        if out.len() <= 2048 {
+            return expand_short(macros, book, areas, out);
+        }
+    }
+    expand_long(macros, book, areas, out)
 }

@@ -13,7 +13,8 @@ pub enum Opened {
     Refused { code: u8 },
 }
 
-// Code 6. The output has 16,384 bytes; the work area's first 32,768 are the two areas of an expansion.
+// Code 6. The output has 16,384 bytes, or fewer, and then code 6 says too that it is too short; the work area's first 32,768 are the two areas of
+// an expansion.
 pub fn expand_book(book: &[u8], work: &mut [u8], out: &mut [u8]) -> Opened
     requires { ⌜ Sound (now book) (length (now work)) ⌝ }
     ensures { λ r. ⌜ Opens (now (book .entry)) (length (now (work .entry))) (length (now (out .entry))) (now (out .exit)) r ⌝ }

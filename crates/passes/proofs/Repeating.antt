@@ -24,6 +24,7 @@ use Rattle.writer.proofs.Put.{length-put, take-written}
 use Rattle.macros.specs.declared.Expanded.{Expanded}
 use Rattle.macros.specs.declared.Expanded.the-variants.{Book as Whole, Grown as Over}
 use Rattle.macros.specs.Pass.{pass as passOf, answerOf, leaves, Passed}
+use Rattle.macros.proofs.Fitting.{passed-whole}
 use Rattle.settled.specs.Settles.{Settles}
 use Rattle.passes.specs.declared.Passes.{Passes}
 use Rattle.passes.specs.declared.Passes.the-variants.{Book, Grown, Left}
@@ -69,7 +70,7 @@ stands next next′ {area} {area′} {len} w la (done es) f e l =
 
 module _ {lib area : List ℕ} {len : ℕ} {here areas next next′ : List ℕ} (eh : here ≡ take len area) where
   pub back-grown : {r : Expanded} → Passed lib here areas next next′ r → r ≡ Over → {area′ : List ℕ} → PassedBack lib area len (length areas) (length next) area′ Over
-  back-grown {r} p e = record { says = λ ms ds el im eb id la ls ln. grown (pass-six (macros ms []) ds) (sym e ∙ p .says ms ds el im (eh ∙ eb) id ls ln .0 ∙ ap answerOf (pass-is ms ds)) }
+  back-grown {r} p e = record { says = λ ms ds el im eb id la ls ln. grown (pass-six (macros ms []) ds) (sym e ∙ passed-whole p ms ds el im (eh ∙ eb) id ls ln .0 ∙ ap answerOf (pass-is ms ds)) }
     where
       grown : {m : Out (List Definition)} → Grows m → Over ≡ answerOf m → m ≡ refused macro-growth
       grown six q = refl
@@ -78,7 +79,7 @@ module _ {lib area : List ℕ} {len : ℕ} {here areas next next′ : List ℕ} 
   pub back-book : {len′ : ℕ} {area′ : List ℕ} {q : ℕ} → Wrote area 0 (part 0 len′ next′) area′ q → {r : Expanded} → Passed lib here areas next next′ r → r ≡ Whole len′ → PassedBack lib area len (length areas) (length next) area′ (Whole len′)
   back-book w {r} p e = record {
     says = λ ms ds el im eb id la ls ln.
-        let t = p .says ms ds el im (eh ∙ eb) id ls ln in
+        let t = passed-whole p ms ds el im (eh ∙ eb) id ls ln in
         stands next next′ w la (pass (macros ms []) ds) (λ es g. yielded (pass-book ms ds im id) g .0) (sym e ∙ t .0 ∙ ap answerOf (pass-is ms ds)) (rw (pass-is ms ds) at (t .1));
   }
 

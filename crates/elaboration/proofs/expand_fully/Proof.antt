@@ -1,12 +1,12 @@
--- `elaboration::attempt_expanded` meets its contract.
+-- `elaboration::expand_fully` meets its contract.
 -- Assumes nothing.
 use Prim.Native.Nat.{ℕ}
 use native.Mathlib.Omega.{arith}
 use lib.ListN.{length-replicate, length-take}
 use Rattle.elaboration.proofs.Answering.{opened-book, reports-code, reports-lifts}
 use borrow.Author.Needs.{needs}
-use Rattle.elaboration.proofs.attempt_expanded.Statement.{statement}
-use Rattle.elaboration.proofs.attempt_expanded.Tie as tie
+use Rattle.elaboration.proofs.expand_fully.Statement.{statement}
+use Rattle.elaboration.proofs.expand_fully.Tie as tie
 
 array-share-prefix-expanded : tie.Need-array-share-prefix-expanded
 array-share-prefix-expanded c = omega (arith, ((rw (c .before .opened2 .given .1) at (c .before .before .before .before .before .before .expand-book .ensures)) .by (length-replicate {0} {A = ℕ} 16384 0)) .fits, (length-replicate {0} {A = ℕ} 16384 0))
@@ -23,8 +23,8 @@ returns c = reports-code _ _ ((rw (c .before .opened .given .1) at (c .before .b
 returns-2 : tie.Need-returns-2
 returns-2 c = reports-lifts _ _ ((rw (c .before .before .before .before .before .before .before .before .before .opened2 .given .1) at (c .before .before .before .before .before .before .before .before .before .before .before .before .before .before .expand-book .ensures)) .by (length-replicate {0} {A = ℕ} 16384 0)) (c .before .before .before .before .lift-expanded .ensures)
 
-pub attempt-expanded-spec : {M : Type 1} → statement M
-attempt-expanded-spec =
+pub expand-fully-spec : {M : Type 1} → statement M
+expand-fully-spec =
     tie.close
     (tie.spec
     (λ c. search needs)
