@@ -9,7 +9,7 @@ use lib.Dec.{leb}
 use lib.ListN.{length, drop}
 use borrow.Author.Tests.{le-leb, lt-leb}
 use Rattle.definition.specs.Code.{macro-growth}
-use Rattle.definition.specs.Out.{Out, done, given}
+use Rattle.definition.specs.Out.{done, given}
 use Rattle.definition.specs.Tree.{Definition, format, constant, byte-order, macro}
 use Rattle.definition.specs.Write.{wBook}
 use Rattle.definition.specs.Size.{sizeBook, levelsBook}
@@ -21,7 +21,7 @@ use Rattle.writer.proofs.Put.{put-fits}
 use Rattle.kept.specs.Kept.{keptOf, Macroless}
 use Rattle.kept.proofs.Counting.{kept-few, all-kept}
 use Rattle.macros.specs.declared.Expanded.the-variants.{Book, Grown}
-use Rattle.macros.specs.Pass.{pass, fitting, answerOf, leaves, Leaves, Passed}
+use Rattle.macros.specs.Pass.{pass, fitting, Leaves, Passed}
 
 pub size-length : (es : List Definition) → sizeBook es ≡ length (wBook es)
 unfolding sizeBook
