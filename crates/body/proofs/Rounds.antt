@@ -23,7 +23,7 @@ use Rattle.children.specs.Next.{nextOf}
 use Rattle.children.specs.Steps.{StepAt}
 use Rattle.done.specs.declared.Closed.{Closed}
 use Rattle.done.specs.Done.{passed, bindBy, boundAfter, delivered, closedOf, orderOf}
-use Rattle.tables.specs.Parts.{orderIn, rowsIn, paramsIn, numberIn, Parts}
+use Rattle.tables.specs.Parts.{orderIn, rowsIn, paramsIn, madeIn, Parts}
 use Rattle.lift.specs.declared.Counts.{Counts}
 use Rattle.lift.specs.Bound.{boundFrom, Sized}
 use Rattle.lift.specs.Sheet.{sheetOf, Tables}
@@ -171,7 +171,7 @@ module _ {s : List ℕ} {at : ℕ} {path₀ : List ℕ} {len : ℕ} {binders₀ 
     round-less-pass q eh = rw eh (omega (arith, less-pass (passing q (R .root))))
 
     -- ---- the end of a node
-    module _ (q : r ≡ step.Done) {z : Closed} {sheet : List ℕ} (ez : z ≡ closedOf f n) (es : Parts sheet (orderOf f order n) rows params number) where
+    module _ (q : r ≡ step.Done) {z : Closed} {sheet : List ℕ} (ez : z ≡ closedOf f n) (es : Parts sheet (orderOf f order n) rows params made) where
       done-path : path′ ≡ path
       unfolding StepIs
       done-path = (rw q at (step-is s f path path′ r st)) .0
@@ -180,17 +180,17 @@ module _ {s : List ℕ} {at : ℕ} {path₀ : List ℕ} {len : ℕ} {binders₀ 
       unfolding StepIs
       closing x = (rw q at (step-is s f path path′ r st)) .1 binders (63 - d) (R .goes x .node) source (R .goes x .top)
 
-      pub walks-last : d ≡ 0 → Walks s at path₀ len binders₀ b made₀ places₀ rows₀ params₀ order₀ w₀ n₀ made places ways hints (rowsIn sheet) (paramsIn sheet) (numberIn sheet) (orderIn sheet) (Named w (z .finished))
+      pub walks-last : d ≡ 0 → Walks s at path₀ len binders₀ b made₀ places₀ rows₀ params₀ order₀ w₀ n₀ (madeIn sheet) places ways hints (rowsIn sheet) (paramsIn sheet) number (orderIn sheet) (Named w (z .finished))
       unfolding Ends
-      walks-last e = rw (ez, es .order, es .rows, es .params, es .number) (record {
+      walks-last e = rw (ez, es .order, es .rows, es .params, es .made) (record {
         walks = λ c name st deep held.
             let x : Root s at path₀ len = record { tree = c; name = name; stands = st; deep = deep; held = held } in
             rw (← (ends-last (R .goes x) (closing x) e)) (refl, good-closed (R .goes x));
       })
 
       module _ (some : 0 < d) {p h : Frame} {binders′ : List ℕ} (ep : p ≡ waiter frames d) (eh : h ≡ delivered p (f .place) (f .last) (z .whole) (boundAfter s p)) (eb : binders′ ≡ bindBy s p (f .place) (z .inner) binders) where
-        pub round-back : Round s at path₀ len binders₀ b made₀ places₀ rows₀ params₀ order₀ w₀ n₀ path′ binders′ bound uses spare made places ways hints (rowsIn sheet) (paramsIn sheet) (numberIn sheet) (orderIn sheet) frames h (d - 1) w (z .finished)
-        round-back = rw (done-path, eb, es .order, es .rows, es .params, es .number, eh, ep, ez) (record { root = R .root; goes = λ x. goes-back (R .goes x) (closing x) some })
+        pub round-back : Round s at path₀ len binders₀ b made₀ places₀ rows₀ params₀ order₀ w₀ n₀ path′ binders′ bound uses spare (madeIn sheet) places ways hints (rowsIn sheet) (paramsIn sheet) number (orderIn sheet) frames h (d - 1) w (z .finished)
+        round-back = rw (done-path, eb, es .order, es .rows, es .params, es .made, eh, ep, ez) (record { root = R .root; goes = λ x. goes-back (R .goes x) (closing x) some })
 
         pub round-less-back : left s frames h (d - 1) < left s frames f d
         round-less-back = rw (eh, ep, ez) (less-back (R .goes (R .root)) some)
@@ -275,28 +275,28 @@ unfolding wide narrowed widened
 put-in l d f e = rw e (map-set widened l d (narrowed f))
 
 -- ---- what is lent keeps its length
-pub record Lengths (path₀ binders₀ bound₀ uses₀ spare₀ made₀ places₀ ways₀ hints₀ sheet₀ path₁ binders₁ bound₁ uses₁ spare₁ made₁ places₁ ways₁ hints₁ sheet₁ : List ℕ) : Type 0 where
+pub record Lengths (path₀ binders₀ bound₀ uses₀ spare₀ sheet₀ places₀ ways₀ hints₀ number₀ path₁ binders₁ bound₁ uses₁ spare₁ sheet₁ places₁ ways₁ hints₁ number₁ : List ℕ) : Type 0 where
   pub path : length path₁ ≡ length path₀
   pub binders : length binders₁ ≡ length binders₀
   pub bound : length bound₁ ≡ length bound₀
   pub uses : length uses₁ ≡ length uses₀
   pub spare : length spare₁ ≡ length spare₀
-  pub made : length made₁ ≡ length made₀
+  pub sheet : length sheet₁ ≡ length sheet₀
   pub places : length places₁ ≡ length places₀
   pub ways : length ways₁ ≡ length ways₀
   pub hints : length hints₁ ≡ length hints₀
-  pub sheet : length sheet₁ ≡ length sheet₀
+  pub number : length number₁ ≡ length number₀
 
-pub lengths-on : {path₀ binders₀ bound₀ uses₀ spare₀ made₀ places₀ ways₀ hints₀ sheet₀ path binders bound uses spare made places ways hints sheet path′ binders′ bound′ uses′ spare′ made′ places′ ways′ hints′ sheet′ : List ℕ} → Lengths path₀ binders₀ bound₀ uses₀ spare₀ made₀ places₀ ways₀ hints₀ sheet₀ path binders bound uses spare made places ways hints sheet → Lengths path binders bound uses spare made places ways hints sheet path′ binders′ bound′ uses′ spare′ made′ places′ ways′ hints′ sheet′ → Lengths path₀ binders₀ bound₀ uses₀ spare₀ made₀ places₀ ways₀ hints₀ sheet₀ path′ binders′ bound′ uses′ spare′ made′ places′ ways′ hints′ sheet′
+pub lengths-on : {path₀ binders₀ bound₀ uses₀ spare₀ sheet₀ places₀ ways₀ hints₀ number₀ path binders bound uses spare sheet places ways hints number path′ binders′ bound′ uses′ spare′ sheet′ places′ ways′ hints′ number′ : List ℕ} → Lengths path₀ binders₀ bound₀ uses₀ spare₀ sheet₀ places₀ ways₀ hints₀ number₀ path binders bound uses spare sheet places ways hints number → Lengths path binders bound uses spare sheet places ways hints number path′ binders′ bound′ uses′ spare′ sheet′ places′ ways′ hints′ number′ → Lengths path₀ binders₀ bound₀ uses₀ spare₀ sheet₀ places₀ ways₀ hints₀ number₀ path′ binders′ bound′ uses′ spare′ sheet′ places′ ways′ hints′ number′
 lengths-on x y = record {
   path = y .path ∙ x .path;
   binders = y .binders ∙ x .binders;
   bound = y .bound ∙ x .bound;
   uses = y .uses ∙ x .uses;
   spare = y .spare ∙ x .spare;
-  made = y .made ∙ x .made;
+  sheet = y .sheet ∙ x .sheet;
   places = y .places ∙ x .places;
   ways = y .ways ∙ x .ways;
   hints = y .hints ∙ x .hints;
-  sheet = y .sheet ∙ x .sheet;
+  number = y .number ∙ x .number;
 }

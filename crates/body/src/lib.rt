@@ -15,7 +15,7 @@ use steps::Child;
 use steps::open_child;
 ghost use Prim.Native.Nat.{_≤_};
 ghost use Rattle.ends.specs.Ends.{Right};
-ghost use Rattle.tables.specs.Parts.{orderIn, rowsIn, paramsIn, numberIn};
+ghost use Rattle.tables.specs.Parts.{orderIn, rowsIn, paramsIn, madeIn};
 ghost use Rattle.steps.specs.Good.{Good};
 ghost use Rattle.body.specs.Walks.{Ready, Walks};
 
@@ -55,16 +55,16 @@ pub fn expand_combinator(
     bound: &mut [u32],
     uses: &mut [u32],
     spare: &mut [u32],
-    made: &mut [u8],
+    sheet: &mut [u8],
     places: &mut [u16],
     ways: &mut [u32],
     hints: &mut [u16],
-    sheet: &mut [u16],
+    number: &mut [u16],
     w: Counts,
     n: usize,
 ) -> Body
-    requires { ⌜ Good (now s) (now made) (now places) (now ways) (now hints) (rowsIn (now sheet)) (paramsIn (now sheet)) (numberIn (now sheet)) (orderIn (now sheet)) w n × Ready (now s) at (now path) (now binders) b (now bound) (now uses) (now spare) × (len ≤ 256) × Right (now s) (now ends) ⌝ }
-    ensures { λ r. ⌜ Walks (now (s .entry)) at (now (path .entry)) len (now (binders .entry)) b (now (made .entry)) (now (places .entry)) (rowsIn (now (sheet .entry))) (paramsIn (now (sheet .entry))) (orderIn (now (sheet .entry))) w n (now (made .exit)) (now (places .exit)) (now (ways .exit)) (now (hints .exit)) (rowsIn (now (sheet .exit))) (paramsIn (now (sheet .exit))) (numberIn (now (sheet .exit))) (orderIn (now (sheet .exit))) r ⌝ }
+    requires { ⌜ Good (now s) (madeIn (now sheet)) (now places) (now ways) (now hints) (rowsIn (now sheet)) (paramsIn (now sheet)) (now number) (orderIn (now sheet)) w n × Ready (now s) at (now path) (now binders) b (now bound) (now uses) (now spare) × (len ≤ 256) × Right (now s) (now ends) ⌝ }
+    ensures { λ r. ⌜ Walks (now (s .entry)) at (now (path .entry)) len (now (binders .entry)) b (madeIn (now (sheet .entry))) (now (places .entry)) (rowsIn (now (sheet .entry))) (paramsIn (now (sheet .entry))) (orderIn (now (sheet .entry))) w n (madeIn (now (sheet .exit))) (now (places .exit)) (now (ways .exit)) (now (hints .exit)) (rowsIn (now (sheet .exit))) (paramsIn (now (sheet .exit))) (now (number .exit)) (orderIn (now (sheet .exit))) r ⌝ }
 {
     let end = end_of(s, ends, at);
     let last = combinator_past(s, ends, end);
@@ -105,11 +105,11 @@ pub fn expand_combinator(
                     bound,
                     uses,
                     spare,
-                    made,
+                    sheet,
                     places,
                     ways,
                     hints,
-                    sheet,
+                    number,
                     counts,
                 );
                 match child {

@@ -26,7 +26,7 @@ use Rattle.lifting.proofs.Book.{in-rangeAll}
 use Rattle.lifting.proofs.Both.{Both, refusals, values}
 use Rattle.lifting.proofs.Laws.{records-of-lifts, counted-in-bytes, elaborated-by-places}
 use Rattle.tables.specs.Rows.{Row, lastFrom}
-use Rattle.tables.specs.Parts.{orderIn, rowsIn, paramsIn, numberIn}
+use Rattle.tables.specs.Parts.{orderIn, rowsIn, paramsIn, madeIn}
 use Rattle.tables.proofs.Parts.{part-lengths}
 use Rattle.lift.specs.declared.Counts.{Counts}
 use Rattle.lift.specs.Sheet.{Sheet, sheetOf}
@@ -43,15 +43,15 @@ use Rattle.report.specs.declared.Elaborated.the-variants.{Done, Refused}
 use Rattle.report.specs.Elaborates.{reported, Reports, lifted, Expanded, Lifts}
 use Rattle.closing.specs.Lent.{Lent}
 
-pub starts : {s ends made sheet binders bound uses spare : List ℕ} → Expanded s → Lent s ends sheet binders bound uses spare → 8192 ≤ length made → Starts s made (rowsIn sheet) (paramsIn sheet) (numberIn sheet) (orderIn sheet)
-starts {sheet} x u a =
-    let l = part-lengths sheet (omega (arith, u .long)) in
+pub starts : (sheet : List ℕ) {s ends number binders bound uses spare : List ℕ} → Expanded s → Lent s ends number binders bound uses spare → 40552 ≤ length sheet → Starts s (madeIn sheet) (rowsIn sheet) (paramsIn sheet) number (orderIn sheet)
+starts sheet x u a =
+    let l = part-lengths sheet (omega arith) in
     record {
       book = x;
-      made-long = omega arith;
+      made-long = omega (arith, l .3);
       rows-long = omega (arith, l .1);
       params-long = omega (arith, l .2);
-      number-long = omega (arith, u .long, l .3);
+      number-long = u .long;
       order-long = omega (arith, l .0);
       blank = u .blank;
     }

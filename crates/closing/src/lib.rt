@@ -5,45 +5,46 @@ use report::Elaborated;
 use result::write_result;
 ghost use Prim.Native.Nat.{_≤_};
 ghost use lib.ListN.{length};
-ghost use Rattle.tables.specs.Parts.{orderIn, rowsIn, paramsIn, numberIn};
+ghost use Rattle.tables.specs.Parts.{orderIn, rowsIn, paramsIn, madeIn};
 ghost use Rattle.report.specs.Elaborates.{Expanded, Lifts};
 ghost use Rattle.result.specs.Held.{Writes};
 ghost use Rattle.result.specs.Model.{tables};
 ghost use Rattle.closing.specs.Lent.{Lent};
 
 // The result, from the parts of the sheet.
-fn write_parts(s: &[u8], made: &[u8], sheet: &[u16], n: u16, out: &mut [u8]) -> usize
-    requires { ⌜ 16180 ≤ length (now sheet) ⌝ }
-    ensures { λ r. ⌜ Writes (tables (now (s .entry)) (now (made .entry)) (rowsIn (now (sheet .entry))) (paramsIn (now (sheet .entry))) (numberIn (now (sheet .entry)))) (orderIn (now (sheet .entry))) n (now (out .entry)) (now (out .exit)) r ⌝ }
+fn write_parts(s: &[u8], sheet: &[u8], number: &[u16], n: u16, out: &mut [u8]) -> usize
+    requires { ⌜ 32360 ≤ length (now sheet) ⌝ }
+    ensures { λ r. ⌜ Writes (tables (now (s .entry)) (madeIn (now (sheet .entry))) (rowsIn (now (sheet .entry))) (paramsIn (now (sheet .entry))) (now (number .entry))) (orderIn (now (sheet .entry))) n (now (out .entry)) (now (out .exit)) r ⌝ }
 {
     write_result(
         s,
-        made,
-        &sheet[512..3072],
-        &sheet[3072..16180],
-        &sheet[16180..],
-        &sheet[..512],
+        &sheet[32360..],
+        &sheet[1024..6144],
+        &sheet[6144..32360],
+        number,
+        &sheet[..1024],
         n,
         out,
     )
 }
 
-// Codes 7 to 11, with the tables lent whose length the book's gives, and room for as many generated names as code 10 lets there be.
+// Codes 7 to 11, with the tables lent whose length the book's gives, and a sheet with room for as many lifts, parameters and generated names as code
+// 10 lets there be.
 pub fn lift_with(
     s: &[u8],
     ends: &[u16],
-    sheet: &mut [u16],
+    number: &mut [u16],
     binders: &mut [u16],
     bound: &mut [u32],
     uses: &mut [u32],
     spare: &mut [u32],
-    made: &mut [u8],
+    sheet: &mut [u8],
     out: &mut [u8],
 ) -> Elaborated
-    requires { ⌜ Expanded (now s) × Lent (now s) (now ends) (now sheet) (now binders) (now bound) (now uses) (now spare) × (8192 ≤ length (now made)) ⌝ }
+    requires { ⌜ Expanded (now s) × Lent (now s) (now ends) (now number) (now binders) (now bound) (now uses) (now spare) × (40552 ≤ length (now sheet)) ⌝ }
     ensures { λ r. ⌜ Lifts (now (s .entry)) (now (out .entry)) (now (out .exit)) r ⌝ }
 {
-    let body = expand_definitions(s, ends, binders, bound, uses, spare, made, sheet);
+    let body = expand_definitions(s, ends, binders, bound, uses, spare, sheet, number);
     match body {
         Body::Refused(code) => Elaborated::Refused { code },
         Body::Named(counts, n) => {
@@ -53,7 +54,7 @@ pub fn lift_with(
             let length = counts.bytes as u16;
             let definitions = counts.defns as u16;
             let lifted = n as u16;
-            write_parts(s, &made[..], &sheet[..], lifted, out);
+            write_parts(s, &sheet[..], &number[..], lifted, out);
             Elaborated::Done {
                 length,
                 definitions,

@@ -8,7 +8,7 @@ use tables::put_binder;
 use tables::store_in;
 ghost use mathlib.Core.Path.{_≡_};
 ghost use Prim.Native.Nat.{_≤_};
-ghost use Rattle.tables.specs.Parts.{orderIn, rowsIn, paramsIn, numberIn, Parts};
+ghost use Rattle.tables.specs.Parts.{orderIn, rowsIn, paramsIn, madeIn, Parts};
 ghost use Rattle.done.specs.Done.{passed, bindBy, boundAfter, delivered, closedOf, orderOf};
 
 // What a node takes after lifting, its inner alone, and how many lifts are finished.
@@ -86,9 +86,9 @@ fn deliver(f: Frame, at: usize, end: usize, whole: usize, bound: usize) -> Frame
 }
 
 // The end of a node: "its definition is appended after theirs".
-pub fn close_node(f: Frame, sheet: &mut [u16], n: usize) -> Closed
+pub fn close_node(f: Frame, sheet: &mut [u8], n: usize) -> Closed
     requires { ⌜ n ≤ 65536 ⌝ }
-    ensures { λ r. ⌜ (r ≡ closedOf f n) × Parts (now (sheet .exit)) (orderOf f (orderIn (now (sheet .entry))) n) (rowsIn (now (sheet .entry))) (paramsIn (now (sheet .entry))) (numberIn (now (sheet .entry))) ⌝ }
+    ensures { λ r. ⌜ (r ≡ closedOf f n) × Parts (now (sheet .exit)) (orderOf f (orderIn (now (sheet .entry))) n) (rowsIn (now (sheet .entry))) (paramsIn (now (sheet .entry))) (madeIn (now (sheet .entry))) ⌝ }
 {
     let own = f.own;
     let call = f.call;

@@ -5,11 +5,10 @@ use lift::Counts;
 use lookup::name_at;
 use own::own_params;
 use seek::name_past;
-use seek::number;
 use writer::put_bytes;
 ghost use mathlib.Core.Path.{_≡_};
 ghost use Rattle.ends.specs.Ends.{Right};
-ghost use Rattle.tables.specs.Parts.{orderIn, rowsIn, paramsIn, numberIn};
+ghost use Rattle.tables.specs.Parts.{orderIn, rowsIn, paramsIn, madeIn};
 ghost use Rattle.steps.specs.Good.{Good};
 ghost use Rattle.format.specs.Formats.{Space, Format, Defined};
 
@@ -24,23 +23,23 @@ pub fn expand_definition(
     bound: &mut [u32],
     uses: &mut [u32],
     spare: &mut [u32],
-    made: &mut [u8],
+    sheet: &mut [u8],
     places: &mut [u16],
     ways: &mut [u32],
     hints: &mut [u16],
-    sheet: &mut [u16],
+    number: &mut [u16],
     w: Counts,
     n: usize,
 ) -> Body
-    requires { ⌜ Good (now s) (now made) (now places) (now ways) (now hints) (rowsIn (now sheet)) (paramsIn (now sheet)) (numberIn (now sheet)) (orderIn (now sheet)) w n × Space (now s) (now path) (now binders) (now bound) (now uses) (now spare) × (kind ≡ 1 → Format (now s) at) × Right (now s) (now ends) ⌝ }
-    ensures { λ r. ⌜ Defined (now (s .entry)) kind at (now (made .entry)) (now (places .entry)) (rowsIn (now (sheet .entry))) (paramsIn (now (sheet .entry))) (orderIn (now (sheet .entry))) w n (now (made .exit)) (now (places .exit)) (now (ways .exit)) (now (hints .exit)) (rowsIn (now (sheet .exit))) (paramsIn (now (sheet .exit))) (numberIn (now (sheet .exit))) (orderIn (now (sheet .exit))) r ⌝ }
+    requires { ⌜ Good (now s) (madeIn (now sheet)) (now places) (now ways) (now hints) (rowsIn (now sheet)) (paramsIn (now sheet)) (now number) (orderIn (now sheet)) w n × Space (now s) (now path) (now binders) (now bound) (now uses) (now spare) × (kind ≡ 1 → Format (now s) at) × Right (now s) (now ends) ⌝ }
+    ensures { λ r. ⌜ Defined (now (s .entry)) kind at (madeIn (now (sheet .entry))) (now (places .entry)) (rowsIn (now (sheet .entry))) (paramsIn (now (sheet .entry))) (orderIn (now (sheet .entry))) w n (madeIn (now (sheet .exit))) (now (places .exit)) (now (ways .exit)) (now (hints .exit)) (rowsIn (now (sheet .exit))) (paramsIn (now (sheet .exit))) (now (number .exit)) (orderIn (now (sheet .exit))) r ⌝ }
 {
     if kind != 1 {
         return Body::Named(w, n);
     }
     let len = put_bytes(name_at(s, at), path, 0);
     let list = name_past(s, at);
-    let b = number(s, list) as usize;
+    let b = seek::number(s, list) as usize;
     let body = own_params(s, list, binders);
     expand_combinator(
         s,
@@ -53,11 +52,11 @@ pub fn expand_definition(
         bound,
         uses,
         spare,
-        made,
+        sheet,
         places,
         ways,
         hints,
-        sheet,
+        number,
         w,
         n,
     )

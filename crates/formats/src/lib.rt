@@ -6,7 +6,7 @@ use lift::Counts;
 ghost use Prim.Native.Nat.{_≤_};
 ghost use lib.ListN.{length};
 ghost use Rattle.ends.specs.Ends.{Right};
-ghost use Rattle.tables.specs.Parts.{orderIn, rowsIn, paramsIn, numberIn};
+ghost use Rattle.tables.specs.Parts.{orderIn, rowsIn, paramsIn, madeIn};
 ghost use Rattle.naming.specs.Lifts.{Scratch};
 ghost use Rattle.formats.specs.Expands.{Starts, Expands};
 
@@ -18,11 +18,11 @@ pub fn expand_definitions(
     bound: &mut [u32],
     uses: &mut [u32],
     spare: &mut [u32],
-    made: &mut [u8],
-    sheet: &mut [u16],
+    sheet: &mut [u8],
+    number: &mut [u16],
 ) -> Body
-    requires { ⌜ Starts (now s) (now made) (rowsIn (now sheet)) (paramsIn (now sheet)) (numberIn (now sheet)) (orderIn (now sheet)) × Scratch (now s) (now bound) (now uses) (now spare) × (length (now s) ≤ length (now binders)) × Right (now s) (now ends) ⌝ }
-    ensures { λ r. ⌜ Expands (now (s .entry)) (now (made .exit)) (rowsIn (now (sheet .exit))) (paramsIn (now (sheet .exit))) (numberIn (now (sheet .exit))) (orderIn (now (sheet .exit))) r ⌝ }
+    requires { ⌜ Starts (now s) (madeIn (now sheet)) (rowsIn (now sheet)) (paramsIn (now sheet)) (now number) (orderIn (now sheet)) × Scratch (now s) (now bound) (now uses) (now spare) × (length (now s) ≤ length (now binders)) × Right (now s) (now ends) ⌝ }
+    ensures { λ r. ⌜ Expands (now (s .entry)) (madeIn (now (sheet .exit))) (rowsIn (now (sheet .exit))) (paramsIn (now (sheet .exit))) (now (number .exit)) (orderIn (now (sheet .exit))) r ⌝ }
 {
     let mut path = [0u8; 255];
     let mut places = [0u16; 512];
@@ -46,11 +46,11 @@ pub fn expand_definitions(
         bound,
         uses,
         spare,
-        made,
+        sheet,
         &mut places,
         &mut ways,
         &mut hints,
-        sheet,
+        number,
         w,
     )
 }

@@ -6,7 +6,7 @@ use format::expand_definition;
 use lift::Counts;
 use seek::byte;
 ghost use Rattle.ends.specs.Ends.{Right};
-ghost use Rattle.tables.specs.Parts.{orderIn, rowsIn, paramsIn, numberIn};
+ghost use Rattle.tables.specs.Parts.{orderIn, rowsIn, paramsIn, madeIn};
 ghost use Rattle.report.specs.Elaborates.{Expanded};
 ghost use Rattle.steps.specs.Good.{Good};
 ghost use Rattle.format.specs.Formats.{Space};
@@ -21,15 +21,15 @@ pub fn expand_in_order(
     bound: &mut [u32],
     uses: &mut [u32],
     spare: &mut [u32],
-    made: &mut [u8],
+    sheet: &mut [u8],
     places: &mut [u16],
     ways: &mut [u32],
     hints: &mut [u16],
-    sheet: &mut [u16],
+    number: &mut [u16],
     start: Counts,
 ) -> Body
-    requires { ⌜ Good (now s) (now made) (now places) (now ways) (now hints) (rowsIn (now sheet)) (paramsIn (now sheet)) (numberIn (now sheet)) (orderIn (now sheet)) start 0 × Space (now s) (now path) (now binders) (now bound) (now uses) (now spare) × Expanded (now s) × Right (now s) (now ends) ⌝ }
-    ensures { λ r. ⌜ InOrder (now (s .entry)) (now (made .entry)) (now (places .entry)) (rowsIn (now (sheet .entry))) (paramsIn (now (sheet .entry))) (orderIn (now (sheet .entry))) start (now (made .exit)) (now (places .exit)) (now (ways .exit)) (now (hints .exit)) (rowsIn (now (sheet .exit))) (paramsIn (now (sheet .exit))) (numberIn (now (sheet .exit))) (orderIn (now (sheet .exit))) r ⌝ }
+    requires { ⌜ Good (now s) (madeIn (now sheet)) (now places) (now ways) (now hints) (rowsIn (now sheet)) (paramsIn (now sheet)) (now number) (orderIn (now sheet)) start 0 × Space (now s) (now path) (now binders) (now bound) (now uses) (now spare) × Expanded (now s) × Right (now s) (now ends) ⌝ }
+    ensures { λ r. ⌜ InOrder (now (s .entry)) (madeIn (now (sheet .entry))) (now (places .entry)) (rowsIn (now (sheet .entry))) (paramsIn (now (sheet .entry))) (orderIn (now (sheet .entry))) start (madeIn (now (sheet .exit))) (now (places .exit)) (now (ways .exit)) (now (hints .exit)) (rowsIn (now (sheet .exit))) (paramsIn (now (sheet .exit))) (now (number .exit)) (orderIn (now (sheet .exit))) r ⌝ }
 {
     let mut d = all_definitions(s);
     let mut w = start;
@@ -48,11 +48,11 @@ pub fn expand_in_order(
             bound,
             uses,
             spare,
-            made,
+            sheet,
             places,
             ways,
             hints,
-            sheet,
+            number,
             w,
             n,
         ) {

@@ -1,6 +1,6 @@
 // The Invocation of a lift, from the tables of the naming pass. Every function is total on any bytes and any numbers.
 use lookup::name_at;
-use tables::entry;
+use tables::pair;
 use writer::put_byte;
 use writer::put_name;
 use writer::put_u16;
@@ -10,6 +10,7 @@ ghost use Prim.Native.Nat.{_≤_};
 ghost use lib.ListN.{take, drop};
 ghost use Rattle.definition.specs.Write.{wU16};
 ghost use Rattle.writer.specs.Buf.{Wrote};
+ghost use Rattle.tables.specs.Parts.{pairs};
 ghost use Rattle.tables.specs.Rows.{rowAt, namesFrom};
 ghost use Rattle.invocation.specs.Invocation.{namesBytes, calledBytes, callBytes, paramName};
 
@@ -27,18 +28,18 @@ fn bytes_at(s: &[u8], at: usize, n: usize) -> &[u8]
 }
 
 // The name of parameter j.
-pub fn param_name<'a>(s: &'a [u8], params: &[u16], j: usize) -> &'a [u8]
+pub fn param_name<'a>(s: &'a [u8], params: &[u8], j: usize) -> &'a [u8]
     requires { ⌜ j ≤ 131070 ⌝ }
-    ensures { λ r. ⌜ now r ≡ paramName (now (s .entry)) (now (params .entry)) j ⌝ }
+    ensures { λ r. ⌜ now r ≡ paramName (now (s .entry)) (pairs (now (params .entry))) j ⌝ }
 {
-    let at = entry(params, 4 * j);
-    let n = entry(params, 4 * j + 1);
+    let at = pair(params, 4 * j);
+    let n = pair(params, 4 * j + 1);
     bytes_at(s, at as usize, n as usize)
 }
 
 // A count, and the names of as many parameters.
-fn put_names(s: &[u8], params: &[u16], first: u16, count: u16, out: &mut [u8], at: usize) -> usize
-    ensures { λ r. ⌜ Wrote (now (out .entry)) at (wU16 count [] ++ namesBytes (namesFrom (now (s .entry)) (now (params .entry)) first count)) (now (out .exit)) r ⌝ }
+fn put_names(s: &[u8], params: &[u8], first: u16, count: u16, out: &mut [u8], at: usize) -> usize
+    ensures { λ r. ⌜ Wrote (now (out .entry)) at (wU16 count [] ++ namesBytes (namesFrom (now (s .entry)) (pairs (now (params .entry))) first count)) (now (out .exit)) r ⌝ }
 {
     let mut left = count;
     let mut j = first as usize;
@@ -56,18 +57,18 @@ fn put_names(s: &[u8], params: &[u16], first: u16, count: u16, out: &mut [u8], a
 pub fn put_called(
     s: &[u8],
     names: &[u8],
-    rows: &[u16],
-    params: &[u16],
+    rows: &[u8],
+    params: &[u8],
     i: u16,
     out: &mut [u8],
     at: usize,
 ) -> usize
-    ensures { λ r. ⌜ Wrote (now (out .entry)) at (calledBytes (rowAt (now (s .entry)) (now (names .entry)) (now (rows .entry)) (now (params .entry)) i)) (now (out .exit)) r ⌝ }
+    ensures { λ r. ⌜ Wrote (now (out .entry)) at (calledBytes (rowAt (now (s .entry)) (now (names .entry)) (pairs (now (rows .entry))) (pairs (now (params .entry))) i)) (now (out .exit)) r ⌝ }
 {
     let base = 5 * (i as usize);
-    let place = entry(rows, base + 2);
-    let first = entry(rows, base + 3);
-    let count = entry(rows, base + 4);
+    let place = pair(rows, base + 2);
+    let first = pair(rows, base + 3);
+    let count = pair(rows, base + 4);
     let name = name_at(names, place as usize);
     let a = put_byte(15, out, at);
     let b = put_name(name, out, a);
@@ -78,13 +79,13 @@ pub fn put_called(
 pub fn put_call(
     s: &[u8],
     names: &[u8],
-    rows: &[u16],
-    params: &[u16],
+    rows: &[u8],
+    params: &[u8],
     i: u16,
     out: &mut [u8],
     at: usize,
 ) -> usize
-    ensures { λ r. ⌜ Wrote (now (out .entry)) at (callBytes (rowAt (now (s .entry)) (now (names .entry)) (now (rows .entry)) (now (params .entry)) i)) (now (out .exit)) r ⌝ }
+    ensures { λ r. ⌜ Wrote (now (out .entry)) at (callBytes (rowAt (now (s .entry)) (now (names .entry)) (pairs (now (rows .entry))) (pairs (now (params .entry))) i)) (now (out .exit)) r ⌝ }
 {
     let a = put_called(s, names, rows, params, i, out, at);
     put_byte(0, out, a)

@@ -19,7 +19,7 @@ use Rattle.writer.proofs.Put.{length-put, getD-put-at}
 use Rattle.lifting.specs.Calls.{namesRoom}
 use Rattle.uses.specs.Uses.{namesIn}
 use Rattle.tables.specs.Rows.{Row, rowAt, rowsOf}
-use Rattle.tables.specs.Parts.{orderIn, rowsIn, paramsIn, numberIn, Parts}
+use Rattle.tables.specs.Parts.{orderIn, rowsIn, paramsIn, madeIn, Parts}
 use Rattle.tables.proofs.Params.{Same}
 use Rattle.taken.specs.Taken.{both, taken, Grown, Took}
 use Rattle.taken.proofs.Take.{byte-before}
@@ -170,10 +170,10 @@ module _ {s uses : List ℕ} {k : ℕ} {env : List Bound} {at end : ℕ} {n : Na
         );
   }
 
--- the same where the parameters were put into their part of the sheet, then the row and the number into theirs
-pub made-in-parts : (t t₁ t₂ : List ℕ) {s uses : List ℕ} {k : ℕ} {env : List Bound} {at end : ℕ} {n : Name} {made places ways hints : List ℕ} {w : Counts} {names types : ℕ}
-    → Parts t₁ (orderIn t) (rowsIn t) (paramsIn t₁) (numberIn t) → paramsIn t₂ ≡ paramsIn t₁ → Tables s made places ways hints (rowsIn t) (paramsIn t) w → Filled s uses k env (paramsIn t) (w .params) (paramsIn t₁) names types → Within k names types
+-- the same where the parameters were put into their part of the sheet, then the row and the name into theirs
+pub made-in-parts : (t t₁ t₂ : List ℕ) {s uses : List ℕ} {k : ℕ} {env : List Bound} {at end : ℕ} {n : Name} {places ways hints number : List ℕ} {w : Counts} {names types : ℕ}
+    → Parts t₁ (orderIn t) (rowsIn t) (paramsIn t₁) (madeIn t) → paramsIn t₂ ≡ paramsIn t₁ → Tables s (madeIn t) places ways hints (rowsIn t) (paramsIn t) w → Filled s uses k env (paramsIn t) (w .params) (paramsIn t₁) names types → Within k names types
     → length n ≤ 255 → (bytes : ℕ) → bytes ≡ w .bytes + 6 + (length n + 3 + names + types) + (length n + names + 5) → bytes ≤ 16384 → w .defns < 512
-    → {made′ places′ ways′ hints′ : List ℕ} {v : Counts} → Adds s n at end k made places ways hints (rowsIn t₁) (numberIn t₁) w bytes made′ places′ ways′ hints′ (rowsIn t₂) (numberIn t₂) v
-    → Enters s at end n (namesIn s (take k uses)) env made places (rowsIn t) (paramsIn t) (numberIn t) w made′ places′ ways′ hints′ (rowsIn t₂) (paramsIn t₂) (numberIn t₂) (Made (length n + names + 5) v)
-made-in-parts t t₁ t₂ b e ts f wi short bytes sum small few a = rw e (made-lift ts f wi short bytes sum small few (rw (b .rows, b .number) at a))
+    → {places′ ways′ hints′ number′ : List ℕ} {v : Counts} → Adds s n at end k (madeIn t₁) places ways hints (rowsIn t₁) number w bytes (madeIn t₂) places′ ways′ hints′ (rowsIn t₂) number′ v
+    → Enters s at end n (namesIn s (take k uses)) env (madeIn t) places (rowsIn t) (paramsIn t) number w (madeIn t₂) places′ ways′ hints′ (rowsIn t₂) (paramsIn t₂) number′ (Made (length n + names + 5) v)
+made-in-parts t t₁ t₂ b e ts f wi short bytes sum small few a = rw e (made-lift ts f wi short bytes sum small few (rw (b .rows, b .made) at a))

@@ -1,23 +1,24 @@
 -- Rows one by one: what a row more leaves, and what it says.
 -- Assumes nothing.
 use mathlib.Core.Path.{_≡_, refl, ap, _∙_}
-use mathlib.Core.List.{List, _∷_}
+use mathlib.Core.List.{List, _∷_, _++_}
 use Prim.Native.Nat.{ℕ, zero, suc, _+_, _-_, _*_, _≤_, _<_, min}
 use native.Mathlib.Omega.{arith}
 use native.Mathlib.Numerals.{add-one}
-use lib.ListN.{length, getD, set, length-set}
+use lib.ListN.{length, take, drop, getD, set, length-set, length-drop}
 use lib.Seq.{getD-set-same, getD-set-other}
 use Rattle.definition.specs.Tree.{Name}
 use Rattle.lookup.specs.Name.{nameAt, nameOf, placeOf}
 use Rattle.writer.specs.Buf.{put}
 use Rattle.tables.specs.Rows.{rowAt, rowsOf}
-use Rattle.tables.specs.Parts.{Parts}
+use Rattle.tables.specs.Parts.{orderIn, rowsIn, paramsIn, madeIn, Parts}
+use Rattle.tables.proofs.Parts.{made-lent, made-back}
 use Rattle.tables.proofs.Params.{Same, names-kept, types-kept}
-use Rattle.tables.proofs.Parts.{number-stored}
 use Rattle.taken.specs.Taken.{both, row, taken, Took}
 use Rattle.taken.proofs.Take.{made-place, name-before}
 use Rattle.lift.specs.declared.Counts.{Counts}
 use Rattle.lift.specs.Sheet.{RowIn, withRow}
+use Rattle.lift.specs.Enters.{Adds}
 
 module _ (d : List ℕ) (i a e n f k : ℕ) where
   pub row-length : length (withRow d i a e n f k) ≡ length d
@@ -85,12 +86,9 @@ row-put d i a e n f k v w x y z ha he hn hf hk =
     let k′ : min k 65535 ≡ k = omega arith in
     rw (z, y, x, w, v, a′, e′, n′, f′, k′)
 
--- the number at a place, in the last part of the sheet
-pub numbered-in : {t t′ o r p n : List ℕ} (at x : ℕ) → x ≤ 65535 → Parts t o r p n → t′ ≡ set t (16180 + at) (min x 65535) → Parts t′ o r p (set n at x)
-numbered-in {t} {n} at x h b e =
-    let m : min x 65535 ≡ x = omega arith in
-    let q = number-stored t at x in
-    rw (e, m) (record { order = q .order ∙ b .order; rows = q .rows ∙ b .rows; params = q .params ∙ b .params; number = q .number ∙ ap (λ (z : List ℕ). set z at x) (b .number) })
+-- the number at a place
+pub numbered : (n : List ℕ) (at x : ℕ) {n′ : List ℕ} → x ≤ 65535 → n′ ≡ set n at (min x 65535) → n′ ≡ set n at x
+numbered n at x h e = let m : min x 65535 ≡ x = omega arith in (rw m at e)
 
 -- a row before the new one says the same
 module _ (s made rows params made′ rows′ params′ : List ℕ) (w : Counts) (x : List ℕ) (em : made′ ≡ put made (w .end) x) (er : Same (5 * w .lifts) rows′ rows) (ep : Same (4 * w .params) params′ params) where
@@ -124,3 +122,25 @@ name-taken book {n} {made} {places} {ways} {hints} {made′} {places′} {ways�
     let g : nameOf (placeOf (getD places′ k 0)) book made′ ∷ taken (both book made′) places′ k ≡ n ∷ taken (both book made) places k = (rw (add-one k) at e) in
     let f : nameOf (placeOf (getD places′ k 0)) book made′ ≡ n = cc in
     rw (q, made-place end) at f
+
+-- a sheet that has room for the names reaches beyond its other parts
+pub sheet-long : (t : List ℕ) → 8192 ≤ length (madeIn t) → 40552 ≤ length t
+unfolding madeIn
+sheet-long t h = omega (arith, length-drop 32360 t)
+
+-- the sheet that lent its names and has them back
+abbrev back : List ℕ → List ℕ → List ℕ
+back t m = take 32360 t ++ (m ++ drop (length t - 32360) (drop 32360 t))
+
+-- a row, its number and its name more: what each part holds then
+module _ {s : List ℕ} {n : Name} {at end k : ℕ} {places ways hints number : List ℕ} {w : Counts} {bytes : ℕ} (t t₁ m : List ℕ) {places′ ways′ hints′ number′ : List ℕ} {v : Counts} where
+  pub row-added : 32360 ≤ length t₁ → Parts t₁ (orderIn t) (withRow (rowsIn t) (w .lifts) at end (w .end) (w .params) k) (paramsIn t) (madeIn t) → number′ ≡ set number at (min (w .lifts + 1) 65535) → w .lifts < 512
+      → Took n s (take (length t₁ - 32360) (drop 32360 t₁)) (w .end) places ways hints (w .taken) m places′ ways′ hints′ (v .end)
+      → (v .taken ≡ w .taken + 1) × (v .lifts ≡ w .lifts + 1) × (v .params ≡ w .params + k) × (v .bytes ≡ bytes) × (v .defns ≡ w .defns + 1)
+      → Adds s n at end k (madeIn t) places ways hints (rowsIn t) number w bytes (madeIn (back t₁ m)) places′ ways′ hints′ (rowsIn (back t₁ m)) number′ v × (orderIn (back t₁ m) ≡ orderIn t) × (paramsIn (back t₁ m) ≡ paramsIn t)
+  row-added h p e few took counted =
+      let b = made-back t₁ m h in (
+        record { row = b .rows ∙ p .rows; numbered = numbered number at (w .lifts + 1) (omega arith) e; took = rw (b .made) (rw (made-lent t₁, p .made) at took); counted = counted },
+        b .order ∙ p .order,
+        b .params ∙ p .params,
+      )

@@ -10,7 +10,7 @@ ghost use mathlib.Core.Path.{_≡_};
 ghost use Prim.Native.Nat.{_≤_, _<_, _+_, _*_, _/_, _%_, min};
 ghost use lib.ListN.{length, take, set};
 ghost use Rattle.tables.specs.Rows.{withParam};
-ghost use Rattle.tables.specs.Parts.{orderIn, rowsIn, paramsIn, numberIn, Parts};
+ghost use Rattle.tables.specs.Parts.{orderIn, rowsIn, paramsIn, madeIn, Parts};
 ghost use Rattle.uses.specs.Uses.{namesIn};
 ghost use Rattle.lift.specs.Bound.{boundFrom, Sized, Builds};
 ghost use Rattle.lift.specs.Sheet.{Tables, withRow};
@@ -39,23 +39,23 @@ pub enum Lifted {
 }
 
 // A number into the sheet's rows.
-fn put_in_rows(sheet: &mut [u16], i: usize, x: usize)
-    ensures { λ _. ⌜ Parts (now (sheet .exit)) (orderIn (now (sheet .entry))) (set (rowsIn (now (sheet .entry))) i (min x 65535)) (paramsIn (now (sheet .entry))) (numberIn (now (sheet .entry))) ⌝ }
+fn put_in_rows(sheet: &mut [u8], i: usize, x: usize)
+    ensures { λ _. ⌜ Parts (now (sheet .exit)) (orderIn (now (sheet .entry))) (set (rowsIn (now (sheet .entry))) i (min x 65535)) (paramsIn (now (sheet .entry))) (madeIn (now (sheet .entry))) ⌝ }
 {
-    store_in(sheet, 512, 2560, i, x);
+    store_in(sheet, 1024, 2560, i, x);
 }
 
 // A number into the sheet's parameters.
-fn put_in_params(sheet: &mut [u16], i: usize, x: usize)
-    ensures { λ _. ⌜ Parts (now (sheet .exit)) (orderIn (now (sheet .entry))) (rowsIn (now (sheet .entry))) (set (paramsIn (now (sheet .entry))) i (min x 65535)) (numberIn (now (sheet .entry))) ⌝ }
+fn put_in_params(sheet: &mut [u8], i: usize, x: usize)
+    ensures { λ _. ⌜ Parts (now (sheet .exit)) (orderIn (now (sheet .entry))) (rowsIn (now (sheet .entry))) (set (paramsIn (now (sheet .entry))) i (min x 65535)) (madeIn (now (sheet .entry))) ⌝ }
 {
-    store_in(sheet, 3072, 13108, i, x);
+    store_in(sheet, 6144, 13108, i, x);
 }
 
 // The parameter number i, from the use that names it and the binder that types it.
-fn put_param(x: u32, d: Binder, sheet: &mut [u16], i: usize)
+fn put_param(x: u32, d: Binder, sheet: &mut [u8], i: usize)
     requires { ⌜ i ≤ 1048576 ⌝ }
-    ensures { λ _. ⌜ Parts (now (sheet .exit)) (orderIn (now (sheet .entry))) (rowsIn (now (sheet .entry))) (withParam (paramsIn (now (sheet .entry))) i (min (x / 256) 65535) (x % 256) (d .at) (d .own)) (numberIn (now (sheet .entry))) ⌝ }
+    ensures { λ _. ⌜ Parts (now (sheet .exit)) (orderIn (now (sheet .entry))) (rowsIn (now (sheet .entry))) (withParam (paramsIn (now (sheet .entry))) i (min (x / 256) 65535) (x % 256) (d .at) (d .own)) (madeIn (now (sheet .entry))) ⌝ }
 {
     let place = (x / 256) as usize;
     let len = (x % 256) as usize;
@@ -74,11 +74,11 @@ fn build_param_defns(
     k: usize,
     binders: &[u16],
     b: usize,
-    sheet: &mut [u16],
+    sheet: &mut [u8],
     first: usize,
 ) -> Built
     requires { ⌜ (b ≤ 65536) × (k ≤ length (now uses)) × (k ≤ 65536) × (first ≤ 65536) × Sized (now binders) b ⌝ }
-    ensures { λ r. ⌜ Builds (now (s .entry)) (now (uses .entry)) k (boundFrom (now (s .entry)) (now (binders .entry)) 0 b) (paramsIn (now (sheet .entry))) first (paramsIn (now (sheet .exit))) r × Parts (now (sheet .exit)) (orderIn (now (sheet .entry))) (rowsIn (now (sheet .entry))) (paramsIn (now (sheet .exit))) (numberIn (now (sheet .entry))) ⌝ }
+    ensures { λ r. ⌜ Builds (now (s .entry)) (now (uses .entry)) k (boundFrom (now (s .entry)) (now (binders .entry)) 0 b) (paramsIn (now (sheet .entry))) first (paramsIn (now (sheet .exit))) r × Parts (now (sheet .exit)) (orderIn (now (sheet .entry))) (rowsIn (now (sheet .entry))) (paramsIn (now (sheet .exit))) (madeIn (now (sheet .entry))) ⌝ }
 {
     let mut names = 0;
     let mut types = 0;
@@ -105,7 +105,7 @@ fn build_param_defns(
 
 // The row of lift number i.
 fn put_row(
-    sheet: &mut [u16],
+    sheet: &mut [u8],
     i: usize,
     at: usize,
     end: usize,
@@ -114,7 +114,7 @@ fn put_row(
     count: usize,
 )
     requires { ⌜ (i ≤ 65536) × (at ≤ 65535) × (end ≤ 65535) × (name ≤ 65535) × (first ≤ 65535) × (count ≤ 65535) ⌝ }
-    ensures { λ _. ⌜ Parts (now (sheet .exit)) (orderIn (now (sheet .entry))) (withRow (rowsIn (now (sheet .entry))) i at end name first count) (paramsIn (now (sheet .entry))) (numberIn (now (sheet .entry))) ⌝ }
+    ensures { λ _. ⌜ Parts (now (sheet .exit)) (orderIn (now (sheet .entry))) (withRow (rowsIn (now (sheet .entry))) i at end name first count) (paramsIn (now (sheet .entry))) (madeIn (now (sheet .entry))) ⌝ }
 {
     put_in_rows(sheet, 5 * i, at);
     put_in_rows(sheet, 5 * i + 1, end);
@@ -131,16 +131,16 @@ fn add_row(
     at: usize,
     end: usize,
     k: usize,
-    made: &mut [u8],
+    sheet: &mut [u8],
     places: &mut [u16],
     ways: &mut [u32],
     hints: &mut [u16],
-    sheet: &mut [u16],
+    number: &mut [u16],
     w: Counts,
     bytes: usize,
 ) -> Counts
-    requires { ⌜ (n ≤ length (now path)) × (n ≤ 255) × (at ≤ 65535) × (end ≤ 65535) × (w .params + k ≤ 65535) × (w .end < 32768) × (w .end + 1 + n ≤ length (now made)) × (w .lifts < 512) × (w .defns < 512) × (w .taken < 512) × (512 ≤ length (now places)) × (512 ≤ length (now hints)) ⌝ }
-    ensures { λ r. ⌜ Adds (now (s .entry)) (take n (now (path .entry))) at end k (now (made .entry)) (now (places .entry)) (now (ways .entry)) (now (hints .entry)) (rowsIn (now (sheet .entry))) (numberIn (now (sheet .entry))) w bytes (now (made .exit)) (now (places .exit)) (now (ways .exit)) (now (hints .exit)) (rowsIn (now (sheet .exit))) (numberIn (now (sheet .exit))) r × (orderIn (now (sheet .exit)) ≡ orderIn (now (sheet .entry))) × (paramsIn (now (sheet .exit)) ≡ paramsIn (now (sheet .entry))) ⌝ }
+    requires { ⌜ (n ≤ length (now path)) × (n ≤ 255) × (at ≤ 65535) × (end ≤ 65535) × (w .params + k ≤ 65535) × (w .end < 32768) × (32360 + w .end + 1 + n ≤ length (now sheet)) × (w .lifts < 512) × (w .defns < 512) × (w .taken < 512) × (512 ≤ length (now places)) × (512 ≤ length (now hints)) ⌝ }
+    ensures { λ r. ⌜ Adds (now (s .entry)) (take n (now (path .entry))) at end k (madeIn (now (sheet .entry))) (now (places .entry)) (now (ways .entry)) (now (hints .entry)) (rowsIn (now (sheet .entry))) (now (number .entry)) w bytes (madeIn (now (sheet .exit))) (now (places .exit)) (now (ways .exit)) (now (hints .exit)) (rowsIn (now (sheet .exit))) (now (number .exit)) r × (orderIn (now (sheet .exit)) ≡ orderIn (now (sheet .entry))) × (paramsIn (now (sheet .exit)) ≡ paramsIn (now (sheet .entry))) ⌝ }
 {
     let lifts = w.lifts;
     let place = w.end;
@@ -148,8 +148,17 @@ fn add_row(
     let first = w.params;
     let defns = w.defns;
     put_row(sheet, lifts, at, end, place, first, k);
-    store(sheet, 16180 + at, lifts + 1);
-    let next = take_name(&path[..n], s, made, place, places, ways, hints, taken);
+    store(number, at, lifts + 1);
+    let next = take_name(
+        &path[..n],
+        s,
+        &mut sheet[32360..],
+        place,
+        places,
+        ways,
+        hints,
+        taken,
+    );
     Counts {
         taken: taken + 1,
         end: next,
@@ -172,15 +181,15 @@ pub fn enter_lift(
     k: usize,
     binders: &[u16],
     b: usize,
-    made: &mut [u8],
+    sheet: &mut [u8],
     places: &mut [u16],
     ways: &mut [u32],
     hints: &mut [u16],
-    sheet: &mut [u16],
+    number: &mut [u16],
     w: Counts,
 ) -> Lifted
-    requires { ⌜ Tables (now s) (now made) (now places) (now ways) (now hints) (rowsIn (now sheet)) (paramsIn (now sheet)) w × (at ≤ 65535) × (end ≤ 65535) × (n ≤ length (now path)) × (n ≤ 255) × (k ≤ length (now uses)) × (k ≤ 65536) × (b ≤ 65536) × Sized (now binders) b ⌝ }
-    ensures { λ r. ⌜ Enters (now (s .entry)) at end (take n (now (path .entry))) (namesIn (now (s .entry)) (take k (now (uses .entry)))) (boundFrom (now (s .entry)) (now (binders .entry)) 0 b) (now (made .entry)) (now (places .entry)) (rowsIn (now (sheet .entry))) (paramsIn (now (sheet .entry))) (numberIn (now (sheet .entry))) w (now (made .exit)) (now (places .exit)) (now (ways .exit)) (now (hints .exit)) (rowsIn (now (sheet .exit))) (paramsIn (now (sheet .exit))) (numberIn (now (sheet .exit))) r × (orderIn (now (sheet .exit)) ≡ orderIn (now (sheet .entry))) ⌝ }
+    requires { ⌜ Tables (now s) (madeIn (now sheet)) (now places) (now ways) (now hints) (rowsIn (now sheet)) (paramsIn (now sheet)) w × (at ≤ 65535) × (end ≤ 65535) × (n ≤ length (now path)) × (n ≤ 255) × (k ≤ length (now uses)) × (k ≤ 65536) × (b ≤ 65536) × Sized (now binders) b ⌝ }
+    ensures { λ r. ⌜ Enters (now (s .entry)) at end (take n (now (path .entry))) (namesIn (now (s .entry)) (take k (now (uses .entry)))) (boundFrom (now (s .entry)) (now (binders .entry)) 0 b) (madeIn (now (sheet .entry))) (now (places .entry)) (rowsIn (now (sheet .entry))) (paramsIn (now (sheet .entry))) (now (number .entry)) w (madeIn (now (sheet .exit))) (now (places .exit)) (now (ways .exit)) (now (hints .exit)) (rowsIn (now (sheet .exit))) (paramsIn (now (sheet .exit))) (now (number .exit)) r × (orderIn (now (sheet .exit)) ≡ orderIn (now (sheet .entry))) ⌝ }
 {
     let first = w.params;
     let built = build_param_defns(s, uses, k, binders, b, sheet, first);
@@ -203,11 +212,11 @@ pub fn enter_lift(
                 at,
                 end,
                 k,
-                made,
+                sheet,
                 places,
                 ways,
                 hints,
-                sheet,
+                number,
                 w,
                 bytes,
             );

@@ -6,6 +6,7 @@ use invocation::put_called;
 use lookup::name_at;
 use splice::put_spliced;
 use tables::entry;
+use tables::pair;
 use writer::put_name;
 use writer::put_part;
 use writer::put_u16;
@@ -14,6 +15,7 @@ ghost use mathlib.Core.List.{[], _++_};
 ghost use Prim.Native.Nat.{_≤_};
 ghost use Rattle.definition.specs.Write.{wU16};
 ghost use Rattle.writer.specs.Buf.{Wrote, nameBytes};
+ghost use Rattle.tables.specs.Parts.{pairs};
 ghost use Rattle.tables.specs.Rows.{rowAt, namesFrom, typesFrom};
 ghost use Rattle.invocation.specs.Invocation.{paramName};
 ghost use Rattle.splice.specs.Model.{tables};
@@ -23,18 +25,18 @@ ghost use Rattle.lifted.specs.Model.{paramType, typeBytes, paramsBytes, 
 fn put_type(
     s: &[u8],
     names: &[u8],
-    rows: &[u16],
-    params: &[u16],
+    rows: &[u8],
+    params: &[u8],
     number: &[u16],
     j: usize,
     out: &mut [u8],
     at: usize,
 ) -> usize
     requires { ⌜ j ≤ 131070 ⌝ }
-    ensures { λ r. ⌜ Wrote (now (out .entry)) at (typeBytes (tables (now (s .entry)) (now (names .entry)) (now (rows .entry)) (now (params .entry)) (now (number .entry))) (paramType (now (params .entry)) j)) (now (out .exit)) r ⌝ }
+    ensures { λ r. ⌜ Wrote (now (out .entry)) at (typeBytes (tables (now (s .entry)) (now (names .entry)) (pairs (now (rows .entry))) (pairs (now (params .entry))) (now (number .entry))) (paramType (pairs (now (params .entry))) j)) (now (out .exit)) r ⌝ }
 {
-    let from = entry(params, 4 * j + 2);
-    let own = entry(params, 4 * j + 3);
+    let from = pair(params, 4 * j + 2);
+    let own = pair(params, 4 * j + 3);
     if own == 1 {
         let to = inner_end(s, from as usize);
         return put_part(s, from as usize, to, out, at);
@@ -51,15 +53,15 @@ fn put_type(
 fn put_param(
     s: &[u8],
     names: &[u8],
-    rows: &[u16],
-    params: &[u16],
+    rows: &[u8],
+    params: &[u8],
     number: &[u16],
     j: usize,
     out: &mut [u8],
     at: usize,
 ) -> usize
     requires { ⌜ j ≤ 131070 ⌝ }
-    ensures { λ r. ⌜ Wrote (now (out .entry)) at (nameBytes (paramName (now (s .entry)) (now (params .entry)) j) ++ typeBytes (tables (now (s .entry)) (now (names .entry)) (now (rows .entry)) (now (params .entry)) (now (number .entry))) (paramType (now (params .entry)) j)) (now (out .exit)) r ⌝ }
+    ensures { λ r. ⌜ Wrote (now (out .entry)) at (nameBytes (paramName (now (s .entry)) (pairs (now (params .entry))) j) ++ typeBytes (tables (now (s .entry)) (now (names .entry)) (pairs (now (rows .entry))) (pairs (now (params .entry))) (now (number .entry))) (paramType (pairs (now (params .entry))) j)) (now (out .exit)) r ⌝ }
 {
     let name = param_name(s, params, j);
     let a = put_name(name, out, at);
@@ -70,15 +72,15 @@ fn put_param(
 fn put_params(
     s: &[u8],
     names: &[u8],
-    rows: &[u16],
-    params: &[u16],
+    rows: &[u8],
+    params: &[u8],
     number: &[u16],
     first: u16,
     count: u16,
     out: &mut [u8],
     at: usize,
 ) -> usize
-    ensures { λ r. ⌜ Wrote (now (out .entry)) at (wU16 count [] ++ paramsBytes (tables (now (s .entry)) (now (names .entry)) (now (rows .entry)) (now (params .entry)) (now (number .entry))) (namesFrom (now (s .entry)) (now (params .entry)) first count) (typesFrom (now (params .entry)) first count)) (now (out .exit)) r ⌝ }
+    ensures { λ r. ⌜ Wrote (now (out .entry)) at (wU16 count [] ++ paramsBytes (tables (now (s .entry)) (now (names .entry)) (pairs (now (rows .entry))) (pairs (now (params .entry))) (now (number .entry))) (namesFrom (now (s .entry)) (pairs (now (params .entry))) first count) (typesFrom (pairs (now (params .entry))) first count)) (now (out .exit)) r ⌝ }
 {
     let mut left = count;
     let mut j = first as usize;
@@ -95,21 +97,21 @@ fn put_params(
 pub fn put_lifted(
     s: &[u8],
     names: &[u8],
-    rows: &[u16],
-    params: &[u16],
+    rows: &[u8],
+    params: &[u8],
     number: &[u16],
     i: u16,
     out: &mut [u8],
     at: usize,
 ) -> usize
-    ensures { λ r. ⌜ Wrote (now (out .entry)) at (liftedBytes (tables (now (s .entry)) (now (names .entry)) (now (rows .entry)) (now (params .entry)) (now (number .entry))) (rowAt (now (s .entry)) (now (names .entry)) (now (rows .entry)) (now (params .entry)) i)) (now (out .exit)) r ⌝ }
+    ensures { λ r. ⌜ Wrote (now (out .entry)) at (liftedBytes (tables (now (s .entry)) (now (names .entry)) (pairs (now (rows .entry))) (pairs (now (params .entry))) (now (number .entry))) (rowAt (now (s .entry)) (now (names .entry)) (pairs (now (rows .entry))) (pairs (now (params .entry))) i)) (now (out .exit)) r ⌝ }
 {
     let base = 5 * (i as usize);
-    let from = entry(rows, base);
-    let to = entry(rows, base + 1);
-    let place = entry(rows, base + 2);
-    let first = entry(rows, base + 3);
-    let count = entry(rows, base + 4);
+    let from = pair(rows, base);
+    let to = pair(rows, base + 1);
+    let place = pair(rows, base + 2);
+    let first = pair(rows, base + 3);
+    let count = pair(rows, base + 4);
     let name = name_at(names, place as usize);
     let a = put_name(name, out, at);
     let b = put_params(s, names, rows, params, number, first, count, out, a);

@@ -8,7 +8,7 @@ use params::lift_params;
 ghost use mathlib.Core.Path.{_≡_};
 ghost use Prim.Native.Nat.{_≤_};
 ghost use lib.ListN.{length};
-ghost use Rattle.tables.specs.Parts.{orderIn, rowsIn, paramsIn, numberIn};
+ghost use Rattle.tables.specs.Parts.{orderIn, rowsIn, paramsIn, madeIn};
 ghost use Rattle.lift.specs.Bound.{boundFrom, Sized};
 ghost use Rattle.lift.specs.Sheet.{Tables};
 ghost use Rattle.naming.specs.Lifts.{Some, Scratch, namedOf, Lifts};
@@ -41,22 +41,22 @@ pub fn lift_anonymous_combinator(
     bound: &mut [u32],
     uses: &mut [u32],
     spare: &mut [u32],
-    made: &mut [u8],
+    sheet: &mut [u8],
     places: &mut [u16],
     ways: &mut [u32],
     hints: &mut [u16],
-    sheet: &mut [u16],
+    number: &mut [u16],
     w: Counts,
 ) -> Named
-    requires { ⌜ Tables (now s) (now made) (now places) (now ways) (now hints) (rowsIn (now sheet)) (paramsIn (now sheet)) w × Some (now s) at end × Scratch (now s) (now bound) (now uses) (now spare) × (length (now path) ≡ 255) × (b ≤ 65536) × Sized (now binders) b ⌝ }
-    ensures { λ r. ⌜ Lifts (now (s .entry)) at end (now (path .entry)) len (boundFrom (now (s .entry)) (now (binders .entry)) 0 b) (now (made .entry)) (now (places .entry)) (rowsIn (now (sheet .entry))) (paramsIn (now (sheet .entry))) (numberIn (now (sheet .entry))) w (now (path .exit)) (now (made .exit)) (now (places .exit)) (now (ways .exit)) (now (hints .exit)) (rowsIn (now (sheet .exit))) (paramsIn (now (sheet .exit))) (numberIn (now (sheet .exit))) r × (orderIn (now (sheet .exit)) ≡ orderIn (now (sheet .entry))) ⌝ }
+    requires { ⌜ Tables (now s) (madeIn (now sheet)) (now places) (now ways) (now hints) (rowsIn (now sheet)) (paramsIn (now sheet)) w × Some (now s) at end × Scratch (now s) (now bound) (now uses) (now spare) × (length (now path) ≡ 255) × (b ≤ 65536) × Sized (now binders) b ⌝ }
+    ensures { λ r. ⌜ Lifts (now (s .entry)) at end (now (path .entry)) len (boundFrom (now (s .entry)) (now (binders .entry)) 0 b) (madeIn (now (sheet .entry))) (now (places .entry)) (rowsIn (now (sheet .entry))) (paramsIn (now (sheet .entry))) (now (number .entry)) w (now (path .exit)) (madeIn (now (sheet .exit))) (now (places .exit)) (now (ways .exit)) (now (hints .exit)) (rowsIn (now (sheet .exit))) (paramsIn (now (sheet .exit))) (now (number .exit)) r × (orderIn (now (sheet .exit)) ≡ orderIn (now (sheet .entry))) ⌝ }
 {
     let taken = w.taken;
     let n = fresh_generated_name(
         path,
         len,
         s,
-        &made[..],
+        &sheet[32360..],
         &places[..],
         &ways[..],
         hints,
@@ -79,11 +79,11 @@ pub fn lift_anonymous_combinator(
                 k,
                 binders,
                 b,
-                made,
+                sheet,
                 places,
                 ways,
                 hints,
-                sheet,
+                number,
                 w,
             );
             named_of(n, entered)

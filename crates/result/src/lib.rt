@@ -4,10 +4,11 @@ use entries::put_entry;
 use lifted::put_lifted;
 use seek::byte;
 use splice::put_spliced;
-use tables::entry;
+use tables::pair;
 use writer::put_u16;
 ghost use Prim.Native.Nat.{_+_};
 ghost use Rattle.writer.specs.Buf.{Wrote};
+ghost use Rattle.tables.specs.Parts.{pairs};
 ghost use Rattle.splice.specs.Model.{tables};
 ghost use Rattle.result.specs.Model.{keptBytes, keptFrom, liftedFrom};
 ghost use Rattle.result.specs.Adds.{Adds};
@@ -17,14 +18,14 @@ ghost use Rattle.result.specs.Held.{Writes};
 fn put_kept(
     s: &[u8],
     names: &[u8],
-    rows: &[u16],
-    params: &[u16],
+    rows: &[u8],
+    params: &[u8],
     number: &[u16],
     i: u16,
     out: &mut [u8],
     at: usize,
 ) -> usize
-    ensures { λ r. ⌜ Wrote (now (out .entry)) at (keptBytes (tables (now (s .entry)) (now (names .entry)) (now (rows .entry)) (now (params .entry)) (now (number .entry))) i) (now (out .exit)) r ⌝ }
+    ensures { λ r. ⌜ Wrote (now (out .entry)) at (keptBytes (tables (now (s .entry)) (now (names .entry)) (pairs (now (rows .entry))) (pairs (now (params .entry))) (now (number .entry))) i) (now (out .exit)) r ⌝ }
 {
     let base = 2 + 6 * (i as usize);
     let from = seek::number(s, base + 2);
@@ -37,14 +38,14 @@ fn put_kept(
 fn add_kept(
     s: &[u8],
     names: &[u8],
-    rows: &[u16],
-    params: &[u16],
+    rows: &[u8],
+    params: &[u8],
     number: &[u16],
     i: u16,
     out: &mut [u8],
     o: usize,
 ) -> usize
-    ensures { λ r. ⌜ Adds (now (out .entry)) i o (keptFrom (tables (now (s .entry)) (now (names .entry)) (now (rows .entry)) (now (params .entry)) (now (number .entry))) i 1) (now (out .exit)) r ⌝ }
+    ensures { λ r. ⌜ Adds (now (out .entry)) i o (keptFrom (tables (now (s .entry)) (now (names .entry)) (pairs (now (rows .entry))) (pairs (now (params .entry))) (now (number .entry))) i 1) (now (out .exit)) r ⌝ }
 {
     let at = 2 + 6 * (i as usize);
     let kind = byte(s, at);
@@ -57,18 +58,18 @@ fn add_kept(
 fn add_lifted(
     s: &[u8],
     names: &[u8],
-    rows: &[u16],
-    params: &[u16],
+    rows: &[u8],
+    params: &[u8],
     number: &[u16],
-    order: &[u16],
+    order: &[u8],
     i: u16,
     kept: u16,
     out: &mut [u8],
     o: usize,
 ) -> usize
-    ensures { λ r. ⌜ Adds (now (out .entry)) (kept + i) o (liftedFrom (tables (now (s .entry)) (now (names .entry)) (now (rows .entry)) (now (params .entry)) (now (number .entry))) (now (order .entry)) i 1) (now (out .exit)) r ⌝ }
+    ensures { λ r. ⌜ Adds (now (out .entry)) (kept + i) o (liftedFrom (tables (now (s .entry)) (now (names .entry)) (pairs (now (rows .entry))) (pairs (now (params .entry))) (now (number .entry))) (pairs (now (order .entry))) i 1) (now (out .exit)) r ⌝ }
 {
-    let k = entry(order, i as usize);
+    let k = pair(order, i as usize);
     let end = put_lifted(s, names, rows, params, number, k, out, o);
     let at = (kept as usize) + (i as usize);
     put_entry(1, o, end, out, 2 + 6 * at);
@@ -79,14 +80,14 @@ fn add_lifted(
 fn add_all_kept(
     s: &[u8],
     names: &[u8],
-    rows: &[u16],
-    params: &[u16],
+    rows: &[u8],
+    params: &[u8],
     number: &[u16],
     n: u16,
     out: &mut [u8],
     at: usize,
 ) -> usize
-    ensures { λ r. ⌜ Adds (now (out .entry)) 0 at (keptFrom (tables (now (s .entry)) (now (names .entry)) (now (rows .entry)) (now (params .entry)) (now (number .entry))) 0 n) (now (out .exit)) r ⌝ }
+    ensures { λ r. ⌜ Adds (now (out .entry)) 0 at (keptFrom (tables (now (s .entry)) (now (names .entry)) (pairs (now (rows .entry))) (pairs (now (params .entry))) (now (number .entry))) 0 n) (now (out .exit)) r ⌝ }
 {
     let mut i = 0;
     let mut o = at;
@@ -101,16 +102,16 @@ fn add_all_kept(
 fn add_all_lifted(
     s: &[u8],
     names: &[u8],
-    rows: &[u16],
-    params: &[u16],
+    rows: &[u8],
+    params: &[u8],
     number: &[u16],
-    order: &[u16],
+    order: &[u8],
     n: u16,
     kept: u16,
     out: &mut [u8],
     at: usize,
 ) -> usize
-    ensures { λ r. ⌜ Adds (now (out .entry)) kept at (liftedFrom (tables (now (s .entry)) (now (names .entry)) (now (rows .entry)) (now (params .entry)) (now (number .entry))) (now (order .entry)) 0 n) (now (out .exit)) r ⌝ }
+    ensures { λ r. ⌜ Adds (now (out .entry)) kept at (liftedFrom (tables (now (s .entry)) (now (names .entry)) (pairs (now (rows .entry))) (pairs (now (params .entry))) (now (number .entry))) (pairs (now (order .entry))) 0 n) (now (out .exit)) r ⌝ }
 {
     let mut i = 0;
     let mut o = at;
@@ -126,14 +127,14 @@ fn add_all_lifted(
 pub fn write_result(
     s: &[u8],
     names: &[u8],
-    rows: &[u16],
-    params: &[u16],
+    rows: &[u8],
+    params: &[u8],
     number: &[u16],
-    order: &[u16],
+    order: &[u8],
     n: u16,
     out: &mut [u8],
 ) -> usize
-    ensures { λ r. ⌜ Writes (tables (now (s .entry)) (now (names .entry)) (now (rows .entry)) (now (params .entry)) (now (number .entry))) (now (order .entry)) n (now (out .entry)) (now (out .exit)) r ⌝ }
+    ensures { λ r. ⌜ Writes (tables (now (s .entry)) (now (names .entry)) (pairs (now (rows .entry))) (pairs (now (params .entry))) (now (number .entry))) (pairs (now (order .entry))) n (now (out .entry)) (now (out .exit)) r ⌝ }
 {
     let kept = seek::number(s, 0);
     let all = (kept as usize) + (n as usize);

@@ -1,13 +1,11 @@
 -- Tables before the naming pass.
 -- Assumes nothing.
-use mathlib.Core.Path.{_≡_, refl, _∙_}
+use mathlib.Core.Path.{_≡_, refl}
 use mathlib.Core.List.{List}
 use Prim.Native.Nat.{ℕ, zero, suc, _+_, _≤_, _<_}
 use native.Mathlib.Omega.{arith}
 use lib.ListN.{length, getD, replicate, length-replicate}
-use lib.Seq.{getD-drop}
 use Rattle.seek.specs.At.{byteAt}
-use Rattle.tables.specs.Parts.{numberIn}
 use Rattle.ends.proofs.Ends.{none-right}
 use Rattle.measured.specs.Measure.{measuredBook}
 use Rattle.measured.proofs.Measured.{measured-right}
@@ -20,16 +18,15 @@ zero-at (suc n) (suc p) = zero-at n p
 
 -- tables of zeros for books of at most n bytes, and the ends of one walk over the book: no end is known before it
 pub lent : {s ends : List ℕ} (n m : ℕ) → n + 512 ≡ m → length s ≤ n → ((i : ℕ) → getD s i 0 < 256) → ends ≡ measuredBook s (replicate n 0)
-    → Lent s ends (replicate (16180 + n) 0) (replicate n 0) (replicate m 0) (replicate n 0) (replicate n 0)
-unfolding byteAt numberIn
+    → Lent s ends (replicate n 0) (replicate n 0) (replicate m 0) (replicate n 0) (replicate n 0)
+unfolding byteAt
 lent {s} n m e l b f =
     let x = length-replicate {0} {A = ℕ} n 0 in
-    let z = length-replicate {0} {A = ℕ} (16180 + n) 0 in
     let y = length-replicate {0} {A = ℕ} m 0 in
     record {
       right = rw f (measured-right s (replicate n 0) (none-right (zero-at n)));
       long = omega arith;
-      blank = λ p. getD-drop 16180 (replicate (16180 + n) 0) p 0 ∙ zero-at (16180 + n) (16180 + p);
+      blank = zero-at n;
       binders-long = omega arith;
       scratch = record { small = b; labels = omega arith; uses-long = omega arith; spare-long = omega arith };
     }

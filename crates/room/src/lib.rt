@@ -9,13 +9,13 @@ ghost use lib.ListN.{length};
 ghost use Rattle.report.specs.Elaborates.{Expanded, Lifts};
 
 // The tables of a book of at most 128 bytes: for every byte an end, a number and a use; for every four bytes four numbers of a binder and of a
-// label, with 512 more for the labels' hashes. The numbers stand behind the sheet's other parts, which take 16,180.
-fn lift_tiny(s: &[u8], made: &mut [u8], out: &mut [u8]) -> Elaborated
-    requires { ⌜ Expanded (now s) × (length (now s) ≤ 128) × (8192 ≤ length (now made)) ⌝ }
+// label, with 512 more for the labels' hashes.
+fn lift_tiny(s: &[u8], sheet: &mut [u8], out: &mut [u8]) -> Elaborated
+    requires { ⌜ Expanded (now s) × (length (now s) ≤ 128) × (40552 ≤ length (now sheet)) ⌝ }
     ensures { λ r. ⌜ Lifts (now (s .entry)) (now (out .entry)) (now (out .exit)) r ⌝ }
 {
     let mut ends = [0u16; 128];
-    let mut sheet = [0u16; 16308];
+    let mut number = [0u16; 128];
     let mut binders = [0u16; 128];
     let mut bound = [0u32; 640];
     let mut uses = [0u32; 128];
@@ -24,23 +24,23 @@ fn lift_tiny(s: &[u8], made: &mut [u8], out: &mut [u8]) -> Elaborated
     lift_with(
         s,
         &ends,
-        &mut sheet,
+        &mut number,
         &mut binders,
         &mut bound,
         &mut uses,
         &mut spare,
-        made,
+        sheet,
         out,
     )
 }
 
 // Those of a book of at most 512 bytes.
-fn lift_small(s: &[u8], made: &mut [u8], out: &mut [u8]) -> Elaborated
-    requires { ⌜ Expanded (now s) × (length (now s) ≤ 512) × (8192 ≤ length (now made)) ⌝ }
+fn lift_small(s: &[u8], sheet: &mut [u8], out: &mut [u8]) -> Elaborated
+    requires { ⌜ Expanded (now s) × (length (now s) ≤ 512) × (40552 ≤ length (now sheet)) ⌝ }
     ensures { λ r. ⌜ Lifts (now (s .entry)) (now (out .entry)) (now (out .exit)) r ⌝ }
 {
     let mut ends = [0u16; 512];
-    let mut sheet = [0u16; 16692];
+    let mut number = [0u16; 512];
     let mut binders = [0u16; 512];
     let mut bound = [0u32; 1024];
     let mut uses = [0u32; 512];
@@ -49,23 +49,23 @@ fn lift_small(s: &[u8], made: &mut [u8], out: &mut [u8]) -> Elaborated
     lift_with(
         s,
         &ends,
-        &mut sheet,
+        &mut number,
         &mut binders,
         &mut bound,
         &mut uses,
         &mut spare,
-        made,
+        sheet,
         out,
     )
 }
 
 // Those of a book of at most 2,048 bytes.
-fn lift_short(s: &[u8], made: &mut [u8], out: &mut [u8]) -> Elaborated
-    requires { ⌜ Expanded (now s) × (length (now s) ≤ 2048) × (8192 ≤ length (now made)) ⌝ }
+fn lift_short(s: &[u8], sheet: &mut [u8], out: &mut [u8]) -> Elaborated
+    requires { ⌜ Expanded (now s) × (length (now s) ≤ 2048) × (40552 ≤ length (now sheet)) ⌝ }
     ensures { λ r. ⌜ Lifts (now (s .entry)) (now (out .entry)) (now (out .exit)) r ⌝ }
 {
     let mut ends = [0u16; 2048];
-    let mut sheet = [0u16; 18228];
+    let mut number = [0u16; 2048];
     let mut binders = [0u16; 2048];
     let mut bound = [0u32; 2560];
     let mut uses = [0u32; 2048];
@@ -74,23 +74,23 @@ fn lift_short(s: &[u8], made: &mut [u8], out: &mut [u8]) -> Elaborated
     lift_with(
         s,
         &ends,
-        &mut sheet,
+        &mut number,
         &mut binders,
         &mut bound,
         &mut uses,
         &mut spare,
-        made,
+        sheet,
         out,
     )
 }
 
 // Those of a book of at most 4,096 bytes.
-fn lift_middle(s: &[u8], made: &mut [u8], out: &mut [u8]) -> Elaborated
-    requires { ⌜ Expanded (now s) × (length (now s) ≤ 4096) × (8192 ≤ length (now made)) ⌝ }
+fn lift_middle(s: &[u8], sheet: &mut [u8], out: &mut [u8]) -> Elaborated
+    requires { ⌜ Expanded (now s) × (length (now s) ≤ 4096) × (40552 ≤ length (now sheet)) ⌝ }
     ensures { λ r. ⌜ Lifts (now (s .entry)) (now (out .entry)) (now (out .exit)) r ⌝ }
 {
     let mut ends = [0u16; 4096];
-    let mut sheet = [0u16; 20276];
+    let mut number = [0u16; 4096];
     let mut binders = [0u16; 4096];
     let mut bound = [0u32; 4608];
     let mut uses = [0u32; 4096];
@@ -99,23 +99,23 @@ fn lift_middle(s: &[u8], made: &mut [u8], out: &mut [u8]) -> Elaborated
     lift_with(
         s,
         &ends,
-        &mut sheet,
+        &mut number,
         &mut binders,
         &mut bound,
         &mut uses,
         &mut spare,
-        made,
+        sheet,
         out,
     )
 }
 
 // Those of any other book.
-fn lift_long(s: &[u8], made: &mut [u8], out: &mut [u8]) -> Elaborated
-    requires { ⌜ Expanded (now s) × (8192 ≤ length (now made)) ⌝ }
+fn lift_long(s: &[u8], sheet: &mut [u8], out: &mut [u8]) -> Elaborated
+    requires { ⌜ Expanded (now s) × (40552 ≤ length (now sheet)) ⌝ }
     ensures { λ r. ⌜ Lifts (now (s .entry)) (now (out .entry)) (now (out .exit)) r ⌝ }
 {
     let mut ends = [0u16; 16384];
-    let mut sheet = [0u16; 32564];
+    let mut number = [0u16; 16384];
     let mut binders = [0u16; 16384];
     let mut bound = [0u32; 16896];
     let mut uses = [0u32; 16384];
@@ -124,57 +124,57 @@ fn lift_long(s: &[u8], made: &mut [u8], out: &mut [u8]) -> Elaborated
     lift_with(
         s,
         &ends,
-        &mut sheet,
+        &mut number,
         &mut binders,
         &mut bound,
         &mut uses,
         &mut spare,
-        made,
+        sheet,
         out,
     )
 }
 
 // A book of more than 512 bytes. Two functions call it, so that its frame, with room for the longest tables, is none of a short book's.
-fn lift_longer(s: &[u8], made: &mut [u8], out: &mut [u8]) -> Elaborated
-    requires { ⌜ Expanded (now s) × (8192 ≤ length (now made)) ⌝ }
+fn lift_longer(s: &[u8], sheet: &mut [u8], out: &mut [u8]) -> Elaborated
+    requires { ⌜ Expanded (now s) × (40552 ≤ length (now sheet)) ⌝ }
     ensures { λ r. ⌜ Lifts (now (s .entry)) (now (out .entry)) (now (out .exit)) r ⌝ }
 {
     if s.len() <= 2048 {
-        return lift_short(s, made, out);
+        return lift_short(s, sheet, out);
     }
     if s.len() <= 4096 {
-        return lift_middle(s, made, out);
+        return lift_middle(s, sheet, out);
     }
-    lift_long(s, made, out)
+    lift_long(s, sheet, out)
 }
 
-// Codes 7 to 11 of a book whose macros were expanded, with room for the generated names.
-pub fn lift_expanded(s: &[u8], made: &mut [u8], out: &mut [u8]) -> Elaborated
-    requires { ⌜ Expanded (now s) × (8192 ≤ length (now made)) ⌝ }
+// Codes 7 to 11 of a book whose macros were expanded, with a sheet for the lifts.
+pub fn lift_expanded(s: &[u8], sheet: &mut [u8], out: &mut [u8]) -> Elaborated
+    requires { ⌜ Expanded (now s) × (40552 ≤ length (now sheet)) ⌝ }
     ensures { λ r. ⌜ Lifts (now (s .entry)) (now (out .entry)) (now (out .exit)) r ⌝ }
 {
     if is_flat(s) {
         return lift_nothing(s, out);
     }
     if s.len() <= 512 {
-        return lift_small(s, made, out);
+        return lift_small(s, sheet, out);
     }
-    lift_longer(s, made, out)
+    lift_longer(s, sheet, out)
 }
 
 // Codes 7 to 11 of a book without macros, which may be very short.
-pub fn lift_book(s: &[u8], made: &mut [u8], out: &mut [u8]) -> Elaborated
-    requires { ⌜ Expanded (now s) × (8192 ≤ length (now made)) ⌝ }
+pub fn lift_book(s: &[u8], sheet: &mut [u8], out: &mut [u8]) -> Elaborated
+    requires { ⌜ Expanded (now s) × (40552 ≤ length (now sheet)) ⌝ }
     ensures { λ r. ⌜ Lifts (now (s .entry)) (now (out .entry)) (now (out .exit)) r ⌝ }
 {
     if is_flat(s) {
         return lift_nothing(s, out);
     }
     if s.len() <= 128 {
-        return lift_tiny(s, made, out);
+        return lift_tiny(s, sheet, out);
     }
     if s.len() <= 512 {
-        return lift_small(s, made, out);
+        return lift_small(s, sheet, out);
     }
-    lift_longer(s, made, out)
+    lift_longer(s, sheet, out)
 }

@@ -12,7 +12,7 @@ ghost use Prim.Native.Nat.{_≤_};
 ghost use lib.ListN.{length};
 ghost use Rattle.ends.specs.Ends.{Right};
 ghost use Rattle.frames.specs.Frames.{Standing};
-ghost use Rattle.tables.specs.Parts.{orderIn, rowsIn, paramsIn, numberIn};
+ghost use Rattle.tables.specs.Parts.{orderIn, rowsIn, paramsIn, madeIn};
 ghost use Rattle.lift.specs.Bound.{Sized};
 ghost use Rattle.lift.specs.Sheet.{Tables};
 ghost use Rattle.naming.specs.Lifts.{Scratch};
@@ -36,15 +36,15 @@ pub fn open_child(
     bound: &mut [u32],
     uses: &mut [u32],
     spare: &mut [u32],
-    made: &mut [u8],
+    sheet: &mut [u8],
     places: &mut [u16],
     ways: &mut [u32],
     hints: &mut [u16],
-    sheet: &mut [u16],
+    number: &mut [u16],
     w: Counts,
 ) -> Child
-    requires { ⌜ Tables (now s) (now made) (now places) (now ways) (now hints) (rowsIn (now sheet)) (paramsIn (now sheet)) w × Standing (now s) at × Scratch (now s) (now bound) (now uses) (now spare) × (length (now path) ≡ 255) × (b ≤ 65536) × Sized (now binders) b × Right (now s) (now ends) ⌝ }
-    ensures { λ r. ⌜ Comes (now (s .entry)) at (now (path .entry)) len (now (binders .entry)) b (now (made .entry)) (now (places .entry)) (now (ways .entry)) (now (hints .entry)) (rowsIn (now (sheet .entry))) (paramsIn (now (sheet .entry))) (numberIn (now (sheet .entry))) w (now (path .exit)) (now (made .exit)) (now (places .exit)) (now (ways .exit)) (now (hints .exit)) (rowsIn (now (sheet .exit))) (paramsIn (now (sheet .exit))) (numberIn (now (sheet .exit))) r × (orderIn (now (sheet .exit)) ≡ orderIn (now (sheet .entry))) ⌝ }
+    requires { ⌜ Tables (now s) (madeIn (now sheet)) (now places) (now ways) (now hints) (rowsIn (now sheet)) (paramsIn (now sheet)) w × Standing (now s) at × Scratch (now s) (now bound) (now uses) (now spare) × (length (now path) ≡ 255) × (b ≤ 65536) × Sized (now binders) b × Right (now s) (now ends) ⌝ }
+    ensures { λ r. ⌜ Comes (now (s .entry)) at (now (path .entry)) len (now (binders .entry)) b (madeIn (now (sheet .entry))) (now (places .entry)) (now (ways .entry)) (now (hints .entry)) (rowsIn (now (sheet .entry))) (paramsIn (now (sheet .entry))) (now (number .entry)) w (now (path .exit)) (madeIn (now (sheet .exit))) (now (places .exit)) (now (ways .exit)) (now (hints .exit)) (rowsIn (now (sheet .exit))) (paramsIn (now (sheet .exit))) (now (number .exit)) r × (orderIn (now (sheet .exit)) ≡ orderIn (now (sheet .entry))) ⌝ }
 {
     let end = end_of(s, ends, at);
     let last = combinator_past(s, ends, end);
@@ -62,11 +62,11 @@ pub fn open_child(
             bound,
             uses,
             spare,
-            made,
+            sheet,
             places,
             ways,
             hints,
-            sheet,
+            number,
             w,
         );
         match named {

@@ -1,25 +1,29 @@
--- A number more in one part of the sheet, and the lengths of the parts.
+-- A number more in one part of the sheet, a name more behind them, and the lengths of the parts.
 -- Assumes nothing.
 use mathlib.Core.Path.{_≡_, refl, sym, ap, _∙_}
-use mathlib.Core.List.{List, [], _∷_}
-use Prim.Native.Nat.{ℕ, zero, suc, _+_, _-_, _≤_, _<_}
+use mathlib.Core.List.{List, [], _∷_, _++_, append-nil}
+use Prim.Native.Nat.{ℕ, zero, suc, _+_, _-_, _*_, _/_, _≤_, _<_}
 use native.Mathlib.Omega.{arith}
-use lib.ListN.{length, take, drop, set, length-drop}
-use lib.Seq.{drop-drop, take-take, take-nil, take-all, take-set-le, take-set-lt, drop-set-add, drop-set-lt, set-out, length-take-le}
-use Rattle.tables.specs.Parts.{orderIn, rowsIn, paramsIn, numberIn, Parts, StoredIn}
+use lib.ListN.{length, take, drop, set, length-take, length-drop}
+use lib.Seq.{drop-length, drop-drop, take-at, drop-at, take-take, take-nil, take-all, take-set-le, take-set-lt, drop-set-add, drop-set-lt, set-out, length-take-le}
+use Rattle.tables.specs.Parts.{pairs, orderIn, rowsIn, paramsIn, madeIn, Parts, StoredIn}
+use Rattle.tables.proofs.Pairs.{pairs-length, pairs-set}
 
--- ---- the part of any table from a on, n long
+-- ---- the part of any table from a on, n numbers long
 module _ (t : List ℕ) (a n i x : ℕ) where
   -- past the part's end, or the table's, nothing is stored
-  pub stored-out : length (take n (drop a t)) ≤ i → StoredIn t a n i x t
-  stored-out h = record { part = sym (set-out (take n (drop a t)) i x h); before = refl; behind = refl }
+  pub stored-out : length (pairs (take (2 * n) (drop a t))) ≤ i → StoredIn t a n i x t
+  stored-out h = record { part = sym (set-out (pairs (take (2 * n) (drop a t))) i x h); before = refl; behind = refl }
 
-  pub stored-in : i < n → StoredIn t a n i x (set t (a + i) x)
-  stored-in h = record {
-    part = rw (drop-set-add a t i x) (take-set-lt n (drop a t) i x h);
-    before = take-set-le a t (a + i) x (omega arith);
-    behind = drop-set-lt (a + n) t (a + i) x (omega arith);
-  }
+  pub stored-in : (lo hi : ℕ) → lo + hi * 256 ≡ x → i < n → a + 2 * i + 1 < length t → StoredIn t a n i x (set (set t (a + 2 * i) lo) (a + 2 * i + 1) hi)
+  stored-in lo hi e h k =
+      let one : a + 2 * i + 1 ≡ a + (2 * i + 1) = omega arith in
+      record {
+        part = rw (one, drop-set-add a (set t (a + 2 * i) lo) (2 * i + 1) hi, drop-set-add a t (2 * i) lo, take-set-lt (2 * n) (set (drop a t) (2 * i) lo) (2 * i + 1) hi (omega arith), take-set-lt (2 * n) (drop a t) (2 * i) lo (omega arith))
+            (pairs-set (take (2 * n) (drop a t)) i lo hi (simp (length-take, length-drop) (omega arith)) ∙ ap (λ (y : ℕ). set (pairs (take (2 * n) (drop a t))) i y) e);
+        before = take-set-le a (set t (a + 2 * i) lo) (a + 2 * i + 1) hi (omega arith) ∙ take-set-le a t (a + 2 * i) lo (omega arith);
+        behind = drop-set-lt (a + 2 * n) (set t (a + 2 * i) lo) (a + 2 * i + 1) hi (omega arith) ∙ drop-set-lt (a + 2 * n) t (a + 2 * i) lo (omega arith);
+      }
 
 cut : (b m : ℕ) (t : List ℕ) → take m (drop b t) ≡ drop b (take (b + m) t)
 cut zero m t = let e : 0 + m ≡ m = omega arith in rw e
@@ -31,66 +35,79 @@ module _ {t : List ℕ} {a n i x : ℕ} {t′ : List ℕ} (s : StoredIn t a n i 
   front : (b : ℕ) → b ≤ a → take b t′ ≡ take b t
   front b h = sym (take-take b a t′ h) ∙ ap (λ (z : List ℕ). take b z) (s .before) ∙ take-take b a t h
 
-  rest : (b : ℕ) → a + n ≤ b → drop b t′ ≡ drop b t
+  rest : (b : ℕ) → a + 2 * n ≤ b → drop b t′ ≡ drop b t
   rest b h =
-      let e : a + n + (b - (a + n)) ≡ b = omega arith in
-      ap (λ (k : ℕ). drop k t′) (sym e) ∙ sym (drop-drop (b - (a + n)) (a + n) t′) ∙ ap (λ (z : List ℕ). drop (b - (a + n)) z) (s .behind) ∙ drop-drop (b - (a + n)) (a + n) t
+      let e : a + 2 * n + (b - (a + 2 * n)) ≡ b = omega arith in
+      ap (λ (k : ℕ). drop k t′) (sym e) ∙ sym (drop-drop (b - (a + 2 * n)) (a + 2 * n) t′) ∙ ap (λ (z : List ℕ). drop (b - (a + 2 * n)) z) (s .behind) ∙ drop-drop (b - (a + 2 * n)) (a + 2 * n) t
       ∙ ap (λ (k : ℕ). drop k t) e
 
   taken : (b m : ℕ) → b + m ≤ a → take m (drop b t′) ≡ take m (drop b t)
   taken b m h = cut b m t′ ∙ ap (λ (z : List ℕ). drop b z) (front (b + m) h) ∙ sym (cut b m t)
 
--- ---- each of the four
+-- ---- each of the three
 module _ {t : List ℕ} {i x : ℕ} {t′ : List ℕ} where
-  pub order-stored : StoredIn t 0 512 i x t′ → Parts t′ (set (orderIn t) i x) (rowsIn t) (paramsIn t) (numberIn t)
-  unfolding orderIn rowsIn paramsIn numberIn
+  pub order-stored : StoredIn t 0 512 i x t′ → Parts t′ (set (orderIn t) i x) (rowsIn t) (paramsIn t) (madeIn t)
+  unfolding orderIn rowsIn paramsIn madeIn
   order-stored s = record {
     order = s .part;
-    rows = ap (λ (z : List ℕ). take 2560 z) (rest s 512 (omega arith));
-    params = ap (λ (z : List ℕ). take 13108 z) (rest s 3072 (omega arith));
-    number = rest s 16180 (omega arith);
+    rows = ap (λ (z : List ℕ). pairs (take 5120 z)) (rest s 1024 (omega arith));
+    params = ap (λ (z : List ℕ). pairs (take 26216 z)) (rest s 6144 (omega arith));
+    made = rest s 32360 (omega arith);
   }
 
-  pub rows-stored : StoredIn t 512 2560 i x t′ → Parts t′ (orderIn t) (set (rowsIn t) i x) (paramsIn t) (numberIn t)
-  unfolding orderIn rowsIn paramsIn numberIn
+  pub rows-stored : StoredIn t 1024 2560 i x t′ → Parts t′ (orderIn t) (set (rowsIn t) i x) (paramsIn t) (madeIn t)
+  unfolding orderIn rowsIn paramsIn madeIn
   rows-stored s = record {
-    order = front s 512 (omega arith);
+    order = ap pairs (front s 1024 (omega arith));
     rows = s .part;
-    params = ap (λ (z : List ℕ). take 13108 z) (rest s 3072 (omega arith));
-    number = rest s 16180 (omega arith);
+    params = ap (λ (z : List ℕ). pairs (take 26216 z)) (rest s 6144 (omega arith));
+    made = rest s 32360 (omega arith);
   }
 
-  pub params-stored : StoredIn t 3072 13108 i x t′ → Parts t′ (orderIn t) (rowsIn t) (set (paramsIn t) i x) (numberIn t)
-  unfolding orderIn rowsIn paramsIn numberIn
+  pub params-stored : StoredIn t 6144 13108 i x t′ → Parts t′ (orderIn t) (rowsIn t) (set (paramsIn t) i x) (madeIn t)
+  unfolding orderIn rowsIn paramsIn madeIn
   params-stored s = record {
-    order = front s 512 (omega arith);
-    rows = taken s 512 2560 (omega arith);
+    order = ap pairs (front s 1024 (omega arith));
+    rows = ap pairs (taken s 1024 5120 (omega arith));
     params = s .part;
-    number = rest s 16180 (omega arith);
+    made = rest s 32360 (omega arith);
   }
 
--- the last part has no end but the table's
-pub number-stored : (t : List ℕ) (i x : ℕ) → Parts (set t (16180 + i) x) (orderIn t) (rowsIn t) (paramsIn t) (set (numberIn t) i x)
-unfolding orderIn rowsIn paramsIn numberIn
-number-stored t i x =
-    let s = stored-in t 16180 (i + 1) i x (omega arith) in
-    record {
-      order = front s 512 (omega arith);
-      rows = taken s 512 2560 (omega arith);
-      params = taken s 3072 13108 (omega arith);
-      number = drop-set-add 16180 t i x;
-    }
+-- the names have no end but the table's
+pub made-stored : (t t′ m : List ℕ) → take 32360 t′ ≡ take 32360 t → drop 32360 t′ ≡ m → Parts t′ (orderIn t) (rowsIn t) (paramsIn t) m
+unfolding orderIn rowsIn paramsIn madeIn
+made-stored t t′ m e f = record {
+  order = ap pairs (first 1024 (omega arith));
+  rows = ap pairs (within 1024 5120 (omega arith));
+  params = ap pairs (within 6144 26216 (omega arith));
+  made = f;
+}
+  where
+    first : (b : ℕ) → b ≤ 32360 → take b t′ ≡ take b t
+    first b h = sym (take-take b 32360 t′ h) ∙ ap (λ (z : List ℕ). take b z) e ∙ take-take b 32360 t h
 
--- ---- how long the parts of a long table are, and how the last one is lent
-pub part-lengths : (t : List ℕ) → 16180 ≤ length t → (length (orderIn t) ≡ 512) × (length (rowsIn t) ≡ 2560) × (length (paramsIn t) ≡ 13108) × (length (numberIn t) ≡ length t - 16180)
-unfolding orderIn rowsIn paramsIn numberIn
+    within : (b m : ℕ) → b + m ≤ 32360 → take m (drop b t′) ≡ take m (drop b t)
+    within b m h = cut b m t′ ∙ ap (λ (z : List ℕ). drop b z) (first (b + m) h) ∙ sym (cut b m t)
+
+-- ---- how long the parts of a long table are
+pub part-lengths : (t : List ℕ) → 32360 ≤ length t → (length (orderIn t) ≡ 512) × (length (rowsIn t) ≡ 2560) × (length (paramsIn t) ≡ 13108) × (length (madeIn t) ≡ length t - 32360)
+unfolding orderIn rowsIn paramsIn madeIn
 part-lengths t h = (
-  length-take-le 512 t (omega arith),
-  length-take-le 2560 (drop 512 t) (simp length-drop (omega arith)),
-  length-take-le 13108 (drop 3072 t) (simp length-drop (omega arith)),
-  length-drop 16180 t,
+  pairs-length (take 1024 t) ∙ ap (λ (n : ℕ). n / 2) (length-take-le 1024 t (omega arith)),
+  pairs-length (take 5120 (drop 1024 t)) ∙ ap (λ (n : ℕ). n / 2) (length-take-le 5120 (drop 1024 t) (simp length-drop (omega arith))),
+  pairs-length (take 26216 (drop 6144 t)) ∙ ap (λ (n : ℕ). n / 2) (length-take-le 26216 (drop 6144 t) (simp length-drop (omega arith))),
+  length-drop 32360 t,
 )
 
-pub number-lent : (t : List ℕ) → take (length t - 16180) (drop 16180 t) ≡ numberIn t
-unfolding numberIn
-number-lent t = take-all (length t - 16180) (drop 16180 t) (simp length-drop (omega arith))
+-- ---- how the names are lent, and given back
+pub made-lent : (t : List ℕ) → take (length t - 32360) (drop 32360 t) ≡ madeIn t
+unfolding madeIn
+made-lent t = take-all (length t - 32360) (drop 32360 t) (simp length-drop (omega arith))
+
+pub made-back : (t m : List ℕ) → 32360 ≤ length t → Parts (take 32360 t ++ (m ++ drop (length t - 32360) (drop 32360 t))) (orderIn t) (rowsIn t) (paramsIn t) m
+made-back t m h =
+    let l : length (take 32360 t) ≡ 32360 = length-take-le 32360 t h in
+    let e : 32360 + (length t - 32360) ≡ length t = omega arith in
+    let d : drop (length t - 32360) (drop 32360 t) ≡ [] = drop-drop (length t - 32360) 32360 t ∙ ap (λ (k : ℕ). drop k t) e ∙ drop-length t in
+    let n : m ++ drop (length t - 32360) (drop 32360 t) ≡ m = ap (λ (z : List ℕ). m ++ z) d ∙ append-nil m in
+    made-stored t (take 32360 t ++ (m ++ drop (length t - 32360) (drop 32360 t))) m (take-at (take 32360 t) (m ++ drop (length t - 32360) (drop 32360 t)) 32360 l) (drop-at (take 32360 t) (m ++ drop (length t - 32360) (drop 32360 t)) 32360 l ∙ n)

@@ -1,10 +1,12 @@
 // Numbers as tables keep them, in 16 bits.
+use numbers::least;
+use seek::number;
 ghost use mathlib.Core.Path.{_≡_};
 ghost use Prim.Native.Nat.{_≤_, min};
 ghost use lib.ListN.{getD, set};
 ghost use Rattle.tables.specs.Rows.{withParam};
 ghost use Rattle.tables.specs.Numbers.{plus};
-ghost use Rattle.tables.specs.Parts.{StoredIn};
+ghost use Rattle.tables.specs.Parts.{pairs, StoredIn};
 
 // The number at a place of a table, 0 past its end.
 pub fn entry(table: &[u16], at: usize) -> u16
@@ -30,8 +32,18 @@ pub fn store(t: &mut [u16], i: usize, x: usize)
     t[i] = x as u16;
 }
 
-// A number into the part of n numbers that begins at a place of a table, as far as the part and the table reach.
-pub fn store_in(t: &mut [u16], from: usize, n: usize, i: usize, x: usize)
+// The number in two bytes of a table, the lower first, 0 past its end.
+pub fn pair(table: &[u8], at: usize) -> u16
+    ensures { λ r. ⌜ r ≡ getD (pairs (now (table .entry))) at 0 ⌝ }
+{
+    if table.len() / 2 <= at {
+        return 0;
+    }
+    number(table, 2 * at)
+}
+
+// A number into the part of n numbers, two bytes each, that begins at a place of a table, as far as the part and the table reach.
+pub fn store_in(t: &mut [u8], from: usize, n: usize, i: usize, x: usize)
     ensures { λ _. ⌜ StoredIn (now (t .entry)) from n i (min x 65535) (now (t .exit)) ⌝ }
 {
     if n <= i {
@@ -40,10 +52,13 @@ pub fn store_in(t: &mut [u16], from: usize, n: usize, i: usize, x: usize)
     if t.len() <= from {
         return;
     }
-    if t.len() - from <= i {
+    if (t.len() - from) / 2 <= i {
         return;
     }
-    store(t, from + i, x);
+    let y = least(x, 65535);
+    let at = from + 2 * i;
+    t[at] = (y % 256) as u8;
+    t[at + 1] = (y / 256) as u8;
 }
 
 // The binder number j: its name's place, its type's, whether that is a parameter's own, and the type's size after lifting.

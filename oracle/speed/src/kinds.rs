@@ -16,6 +16,7 @@ use std::path::Path;
 /// A kind of books: its name, and its books.
 pub type Kind = (&'static str, Vec<Named>);
 
+pub const WORKED: &str = "worked";
 pub const TYPICAL: &str = "typical, 200 to 4,000 bytes";
 pub const HURTING: &str = "made to hurt";
 
@@ -47,7 +48,7 @@ pub fn kinds() -> Vec<Kind> {
     generated.sort_by_key(|(_, book)| std::cmp::Reverse(book.len()));
     generated.truncate(100);
     vec![
-        ("worked", worked),
+        (WORKED, worked),
         ("examples", examples),
         (TYPICAL, typical),
         ("100 largest", generated),

@@ -1,7 +1,7 @@
 //! The tables of docs/SPEED.md, in Markdown.
 
 use crate::clock::{pair, Pair};
-use crate::kinds::{kinds, result, HURTING, TYPICAL};
+use crate::kinds::{kinds, result, HURTING, TYPICAL, WORKED};
 use crate::plot::plot;
 use crate::shapes::{largest, SHAPES};
 use crate::{Elaborate, Named};
@@ -32,8 +32,8 @@ pub fn measure(elaborate: Elaborate) -> String {
         if kind == TYPICAL {
             after += &by_size(&rows);
         }
-        if kind == HURTING {
-            after += &one_by_one(&rows);
+        if kind == WORKED || kind == HURTING {
+            after += &one_by_one(kind, &rows);
         }
     }
     println!("{after}");
@@ -84,9 +84,9 @@ fn by_size(rows: &[Row]) -> String {
     text + "\n"
 }
 
-fn one_by_one(rows: &[Row]) -> String {
+fn one_by_one(kind: &str, rows: &[Row]) -> String {
     let mut text =
-        format!("\n| {HURTING} | bytes | microseconds | the Rust | ratio |\n|---|---|---|---|---|");
+        format!("\n| {kind} | bytes | microseconds | the Rust | ratio |\n|---|---|---|---|---|");
     for Row { name, bytes, time } in rows {
         let (ours, rust) = (micros(time.ours), micros(time.rust));
         text += &format!(

@@ -3,19 +3,19 @@
 use mathlib.Core.Path.{refl, _∙_}
 use native.Mathlib.Omega.{arith}
 use borrow.Author.Needs.{needs}
-use Rattle.tables.specs.Parts.{orderIn, rowsIn, paramsIn, numberIn}
+use Rattle.tables.specs.Parts.{orderIn, rowsIn, paramsIn, madeIn}
 use Rattle.frames.proofs.Ends.{stood, follows}
 use Rattle.body.proofs.Rounds.{Round, left, round-start, round-deep, pass-safe, close-safe, resume-safe, round-pass, round-less-pass, walks-last, round-back, round-less-back, open-safe, away-safe, walks-refused, round-open, round-less-open, some, wide, taken-up, put-in, Lengths, lengths-on}
 use Rattle.body.proofs.expand_combinator.Statement.{statement}
 use Rattle.body.proofs.expand_combinator.Tie as tie
 
 abbrev Inv-loop : tie.InvT-loop
-Inv-loop s ends at path₀ len binders₀ b bound₀ uses₀ spare₀ made₀ places₀ ways₀ hints₀ sheet₀ n end last f₀ frames₀ d₀ counts₀ finished₀ path binders bound uses spare made places ways hints sheet f frames d counts finished =
-    Round s at path₀ len binders₀ b made₀ places₀ (rowsIn sheet₀) (paramsIn sheet₀) (orderIn sheet₀) counts₀ n path binders bound uses spare made places ways hints (rowsIn sheet) (paramsIn sheet) (numberIn sheet) (orderIn sheet) (wide frames) f d counts finished
-    × Lengths path₀ binders₀ bound₀ uses₀ spare₀ made₀ places₀ ways₀ hints₀ sheet₀ path binders bound uses spare made places ways hints sheet
+Inv-loop s ends at path₀ len binders₀ b bound₀ uses₀ spare₀ sheet₀ places₀ ways₀ hints₀ number₀ n end last f₀ frames₀ d₀ counts₀ finished₀ path binders bound uses spare sheet places ways hints number f frames d counts finished =
+    Round s at path₀ len binders₀ b (madeIn sheet₀) places₀ (rowsIn sheet₀) (paramsIn sheet₀) (orderIn sheet₀) counts₀ n path binders bound uses spare (madeIn sheet) places ways hints (rowsIn sheet) (paramsIn sheet) number (orderIn sheet) (wide frames) f d counts finished
+    × Lengths path₀ binders₀ bound₀ uses₀ spare₀ sheet₀ places₀ ways₀ hints₀ number₀ path binders bound uses spare sheet places ways hints number
 
 abbrev μ-loop : tie.MeasureT-loop
-μ-loop s ends at path₀ len binders₀ b bound₀ uses₀ spare₀ made₀ places₀ ways₀ hints₀ sheet₀ n end last f₀ frames₀ d₀ counts₀ finished₀ path binders bound uses spare made places ways hints sheet f frames d counts finished =
+μ-loop s ends at path₀ len binders₀ b bound₀ uses₀ spare₀ sheet₀ places₀ ways₀ hints₀ number₀ n end last f₀ frames₀ d₀ counts₀ finished₀ path binders bound uses spare sheet places ways hints number f frames d counts finished =
     left s (wide frames) f d
 
 end-of-requires : tie.Need-end-of-requires Inv-loop μ-loop
@@ -29,7 +29,7 @@ open-node-requires c κs = c .before .end-of .ensures
 
 loop-holds : tie.Need-loop-holds Inv-loop μ-loop
 unfolding wide
-loop-holds c = (round-start (c .before .before .end-of .ensures) (c .before .combinator-past .ensures) (c .before .before .before .before .before .before .before .before .before .before .before .before .before .before .before .pre .2) (c .before .before .before .before .before .before .before .before .before .before .before .before .before .before .before .pre .0) (c .before .before .before .before .before .before .before .before .before .before .before .before .before .before .before .pre .1) (c .open-node .ensures) refl, record { path = refl; binders = refl; bound = refl; uses = refl; spare = refl; made = refl; places = refl; ways = refl; hints = refl; sheet = refl })
+loop-holds c = (round-start (c .before .before .end-of .ensures) (c .before .combinator-past .ensures) (c .before .before .before .before .before .before .before .before .before .before .before .before .before .before .before .pre .2) (c .before .before .before .before .before .before .before .before .before .before .before .before .before .before .before .pre .0) (c .before .before .before .before .before .before .before .before .before .before .before .before .before .before .before .pre .1) (c .open-node .ensures) refl, record { path = refl; binders = refl; bound = refl; uses = refl; spare = refl; sheet = refl; places = refl; ways = refl; hints = refl; number = refl })
 
 pass-requires : tie.Need-pass-requires Inv-loop μ-loop
 pass-requires c κs = pass-safe (c .before .before .before .before .before .before .before .loop .inv .0)
@@ -40,7 +40,7 @@ loop-less c = round-less-pass (c .before .before .before .before .before .before
 loop-again : tie.Need-loop-again Inv-loop μ-loop
 loop-again c = (
   round-pass (c .before .before .before .before .before .before .before .before .loop .inv .0) _ (c .before .before .before .before .before .before .next-step .ensures) (c .before .before .step .given .1) (c .pass .ensures),
-  lengths-on (c .before .before .before .before .before .before .before .before .loop .inv .1) (record { path = c .before .before .before .before .before .path .given; binders = refl; bound = refl; uses = refl; spare = refl; made = refl; places = refl; ways = refl; hints = refl; sheet = refl }),
+  lengths-on (c .before .before .before .before .before .before .before .before .loop .inv .1) (record { path = c .before .before .before .before .before .path .given; binders = refl; bound = refl; uses = refl; spare = refl; sheet = refl; places = refl; ways = refl; hints = refl; number = refl }),
 )
 
 close-node-requires : tie.Need-close-node-requires Inv-loop μ-loop
@@ -62,7 +62,7 @@ same-length-5 : tie.Need-same-length-5 Inv-loop μ-loop
 same-length-5 c = c .before .before .before .before .before .before .before .before .before .before .before .loop .inv .1 .spare
 
 same-length-6 : tie.Need-same-length-6 Inv-loop μ-loop
-same-length-6 c = c .before .before .before .before .before .before .before .before .before .before .before .loop .inv .1 .made
+same-length-6 c = c .before .before .sheet .given ∙ c .before .before .before .before .before .before .before .before .before .before .before .loop .inv .1 .sheet
 
 same-length-7 : tie.Need-same-length-7 Inv-loop μ-loop
 same-length-7 c = c .before .before .before .before .before .before .before .before .before .before .before .loop .inv .1 .places
@@ -74,7 +74,7 @@ same-length-9 : tie.Need-same-length-9 Inv-loop μ-loop
 same-length-9 c = c .before .before .before .before .before .before .before .before .before .before .before .loop .inv .1 .hints
 
 same-length-10 : tie.Need-same-length-10 Inv-loop μ-loop
-same-length-10 c = c .before .before .sheet .given ∙ c .before .before .before .before .before .before .before .before .before .before .before .loop .inv .1 .sheet
+same-length-10 c = c .before .before .before .before .before .before .before .before .before .before .before .loop .inv .1 .number
 
 returns : tie.Need-returns Inv-loop μ-loop
 returns c = walks-last (c .before .before .before .before .before .before .before .before .before .before .before .loop .inv .0) _ (c .before .before .before .before .before .before .before .before .before .next-step .ensures) (c .before .before .before .before .before .enum-told .given .1) (c .before .before .before .close-node .ensures .0) (c .before .before .before .close-node .ensures .1) (c .if1 .taken)
@@ -94,7 +94,7 @@ loop-less-2 c = round-less-back (c .before .before .before .before .before .befo
 loop-again-2 : tie.Need-loop-again-2 Inv-loop μ-loop
 loop-again-2 c = (
   round-back (c .before .before .before .before .before .before .before .before .before .before .before .before .before .before .before .before .before .loop .inv .0) _ (c .before .before .before .before .before .before .before .before .before .before .before .before .before .before .before .next-step .ensures) (c .before .before .before .before .before .before .before .before .before .before .before .enum-told .given .1) (c .before .before .before .before .before .before .before .before .before .close-node .ensures .0) (c .before .before .before .before .before .before .before .before .before .close-node .ensures .1) (some _ (c .before .before .before .before .before .before .if1 .left)) (taken-up _ _ (c .before .before .before .before .take-up .ensures)) (c .before .before .resume-node .ensures .0) (c .before .before .resume-node .ensures .1),
-  lengths-on (c .before .before .before .before .before .before .before .before .before .before .before .before .before .before .before .before .before .loop .inv .1) (record { path = c .before .before .before .before .before .before .before .before .before .before .before .before .before .before .path .given; binders = c .before .binders .given; bound = refl; uses = refl; spare = refl; made = refl; places = refl; ways = refl; hints = refl; sheet = c .before .before .before .before .before .before .before .before .sheet .given }),
+  lengths-on (c .before .before .before .before .before .before .before .before .before .before .before .before .before .before .before .before .before .loop .inv .1) (record { path = c .before .before .before .before .before .before .before .before .before .before .before .before .before .before .path .given; binders = c .before .binders .given; bound = refl; uses = refl; spare = refl; sheet = c .before .before .before .before .before .before .before .before .sheet .given; places = refl; ways = refl; hints = refl; number = refl }),
 )
 
 open-child-requires : tie.Need-open-child-requires Inv-loop μ-loop
@@ -116,7 +116,7 @@ same-length-15 : tie.Need-same-length-15 Inv-loop μ-loop
 same-length-15 c = c .before .before .before .before .before .before .before .before .before .before .before .before .before .before .spare .given ∙ c .before .before .before .before .before .before .before .before .before .before .before .before .before .before .before .before .before .before .before .before .before .before .before .before .before .before .before .before .before .before .before .before .before .before .before .before .before .before .before .loop .inv .1 .spare
 
 same-length-16 : tie.Need-same-length-16 Inv-loop μ-loop
-same-length-16 c = c .before .before .before .before .before .before .before .before .before .before .before .before .made .given ∙ c .before .before .before .before .before .before .before .before .before .before .before .before .before .before .before .before .before .before .before .before .before .before .before .before .before .before .before .before .before .before .before .before .before .before .before .before .before .before .before .loop .inv .1 .made
+same-length-16 c = c .before .before .before .before .before .before .before .before .before .before .before .before .sheet2 .given ∙ c .before .before .before .before .before .before .before .before .before .before .before .before .before .before .before .before .before .before .before .before .before .before .before .before .before .before .before .before .before .before .before .before .before .before .before .before .before .before .before .loop .inv .1 .sheet
 
 same-length-17 : tie.Need-same-length-17 Inv-loop μ-loop
 same-length-17 c = c .before .before .before .before .before .before .before .before .before .before .places .given ∙ c .before .before .before .before .before .before .before .before .before .before .before .before .before .before .before .before .before .before .before .before .before .before .before .before .before .before .before .before .before .before .before .before .before .before .before .before .before .before .before .loop .inv .1 .places
@@ -128,7 +128,7 @@ same-length-19 : tie.Need-same-length-19 Inv-loop μ-loop
 same-length-19 c = c .before .before .before .before .before .before .hints .given ∙ c .before .before .before .before .before .before .before .before .before .before .before .before .before .before .before .before .before .before .before .before .before .before .before .before .before .before .before .before .before .before .before .before .before .before .before .before .before .before .before .loop .inv .1 .hints
 
 same-length-20 : tie.Need-same-length-20 Inv-loop μ-loop
-same-length-20 c = c .before .before .before .before .sheet2 .given ∙ c .before .before .before .before .before .before .before .before .before .before .before .before .before .before .before .before .before .before .before .before .before .before .before .before .before .before .before .before .before .before .before .before .before .before .before .before .before .before .before .loop .inv .1 .sheet
+same-length-20 c = c .before .before .before .before .number .given ∙ c .before .before .before .before .before .before .before .before .before .before .before .before .before .before .before .before .before .before .before .before .before .before .before .before .before .before .before .before .before .before .before .before .before .before .before .before .before .before .before .loop .inv .1 .number
 
 returns-2 : tie.Need-returns-2 Inv-loop μ-loop
 returns-2 c = walks-refused (c .before .before .before .before .before .before .before .before .before .before .before .before .before .before .before .before .before .before .before .before .before .before .before .before .before .before .before .before .before .before .before .before .before .before .before .before .before .before .before .loop .inv .0) _ (c .before .before .before .before .before .before .before .before .before .before .before .before .before .before .before .before .before .before .before .before .before .before .before .before .before .before .before .before .before .before .before .before .before .before .before .before .before .next-step .ensures) (c .before .before .before .before .before .before .before .before .before .before .before .before .before .before .before .before .before .before .before .before .before .before .before .before .before .before .before .before .before .before .before .before .before .step2 .given .1) (c .before .before .before .before .before .before .before .before .before .before .before .before .before .before .before .before .before .before .before .before .before .before .before .before .before .before .before .before .before .before .before .before .before .before .before .before .path .given) (c .before .before .before .before .before .before .before .before .before .before .before .before .before .before .before .before .before .before .before .before .before .open-child .ensures .0) (c .before .child .given .1) (c .before .before .before .before .before .before .before .before .before .before .before .before .before .before .before .before .before .before .before .before .before .open-child .ensures .1)
@@ -151,7 +151,7 @@ loop-less-3 c = round-less-open (c .before .before .before .before .before .befo
 loop-again-3 : tie.Need-loop-again-3 Inv-loop μ-loop
 loop-again-3 c = (
   round-open (c .before .before .before .before .before .before .before .before .before .before .before .before .before .before .before .before .before .before .before .before .before .before .before .before .before .before .before .before .before .before .before .before .before .before .before .before .before .before .before .before .loop .inv .0) _ (c .before .before .before .before .before .before .before .before .before .before .before .before .before .before .before .before .before .before .before .before .before .before .before .before .before .before .before .before .before .before .before .before .before .before .before .before .before .before .next-step .ensures) (c .before .before .before .before .before .before .before .before .before .before .before .before .before .before .before .before .before .before .before .before .before .before .before .before .before .before .before .before .before .before .before .before .before .before .step2 .given .1) (c .before .before .before .before .before .before .before .before .before .before .before .before .before .before .before .before .before .before .before .before .before .before .before .before .before .before .before .before .before .before .before .before .before .before .before .before .before .path .given) (c .before .before .before .before .before .before .before .before .before .before .before .before .before .before .before .before .before .before .before .before .before .before .open-child .ensures .0) (c .before .before .child2 .given .1) (c .before .before .before .before .before .before .before .before .before .before .before .before .before .before .before .before .before .before .before .before .before .before .open-child .ensures .1) (put-in _ _ _ (c .put-away .ensures)) (c .before .before .before .before .before .before .before .before .before .before .before .before .before .before .before .before .before .before .before .before .before .path2 .given) (c .before .before .before .before .before .before .before .before .before .before .before .before .before .before .before .before .before .before .before .bound .given) (c .before .before .before .before .before .before .before .before .before .before .before .before .before .before .before .before .before .uses .given) (c .before .before .before .before .before .before .before .before .before .before .before .before .before .before .before .spare .given),
-  lengths-on (c .before .before .before .before .before .before .before .before .before .before .before .before .before .before .before .before .before .before .before .before .before .before .before .before .before .before .before .before .before .before .before .before .before .before .before .before .before .before .before .before .loop .inv .1) (record { path = c .before .before .before .before .before .before .before .before .before .before .before .before .before .before .before .before .before .before .before .before .before .path2 .given ∙ c .before .before .before .before .before .before .before .before .before .before .before .before .before .before .before .before .before .before .before .before .before .before .before .before .before .before .before .before .before .before .before .before .before .before .before .before .before .path .given; binders = refl; bound = c .before .before .before .before .before .before .before .before .before .before .before .before .before .before .before .before .before .before .before .bound .given; uses = c .before .before .before .before .before .before .before .before .before .before .before .before .before .before .before .before .before .uses .given; spare = c .before .before .before .before .before .before .before .before .before .before .before .before .before .before .before .spare .given; made = c .before .before .before .before .before .before .before .before .before .before .before .before .before .made .given; places = c .before .before .before .before .before .before .before .before .before .before .before .places .given; ways = c .before .before .before .before .before .before .before .before .before .ways .given; hints = c .before .before .before .before .before .before .before .hints .given; sheet = c .before .before .before .before .before .sheet2 .given }),
+  lengths-on (c .before .before .before .before .before .before .before .before .before .before .before .before .before .before .before .before .before .before .before .before .before .before .before .before .before .before .before .before .before .before .before .before .before .before .before .before .before .before .before .before .loop .inv .1) (record { path = c .before .before .before .before .before .before .before .before .before .before .before .before .before .before .before .before .before .before .before .before .before .path2 .given ∙ c .before .before .before .before .before .before .before .before .before .before .before .before .before .before .before .before .before .before .before .before .before .before .before .before .before .before .before .before .before .before .before .before .before .before .before .before .before .path .given; binders = refl; bound = c .before .before .before .before .before .before .before .before .before .before .before .before .before .before .before .before .before .before .before .bound .given; uses = c .before .before .before .before .before .before .before .before .before .before .before .before .before .before .before .before .before .uses .given; spare = c .before .before .before .before .before .before .before .before .before .before .before .before .before .before .before .spare .given; sheet = c .before .before .before .before .before .before .before .before .before .before .before .before .before .sheet2 .given; places = c .before .before .before .before .before .before .before .before .before .before .before .places .given; ways = c .before .before .before .before .before .before .before .before .before .ways .given; hints = c .before .before .before .before .before .before .before .hints .given; number = c .before .before .before .before .before .number .given }),
 )
 
 pub expand-combinator-spec : {M : Type 1} → statement M

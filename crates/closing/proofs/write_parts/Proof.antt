@@ -2,18 +2,18 @@
 -- Assumes nothing.
 use native.Mathlib.Omega.{arith}
 use lib.ListN.{length-take}
-use borrow.Author.Needs.{needs}
 use Rattle.tables.specs.Parts.{orderIn, rowsIn, paramsIn}
-use Rattle.tables.proofs.Parts.{number-lent}
+use Rattle.tables.proofs.Parts.{made-lent}
+use borrow.Author.Needs.{needs}
 use Rattle.closing.proofs.write_parts.Statement.{statement}
 use Rattle.closing.proofs.write_parts.Tie as tie
 
-part-is : tie.Need-slice-aggregate-write-result
-part-is c = simp length-take (omega (arith, c .before .before .before .before .before .before .before .before .pre))
+slice-aggregate-write-result : tie.Need-slice-aggregate-write-result
+slice-aggregate-write-result c = simp length-take (omega (arith, c .before .before .before .before .before .before .before .before .pre))
 
 returns : tie.Need-returns
 unfolding orderIn rowsIn paramsIn
-returns c = rw (number-lent (c .before .before .before .before .before .before .before .before .before .before .before .before .args .sheet .now)) at (c .before .before .write-result .ensures)
+returns c = rw (made-lent (c .before .before .before .before .before .before .before .before .before .before .before .before .args .sheet .now)) at (c .before .before .write-result .ensures)
 
 pub write-parts-spec : {M : Type 1} → statement M
 write-parts-spec =
@@ -28,7 +28,7 @@ write-parts-spec =
     (λ c. search needs)
     (λ c. search needs)
     (λ c. search needs)
-    part-is
+    slice-aggregate-write-result
     (λ c κs. search needs)
     (λ c. search needs)
     returns)

@@ -14,7 +14,7 @@ returns c = rw (ne-eqb _ _ (c .before .before .before .before .before .if1 .take
 
 returns-2 : tie.Need-returns-2
 unfolding closedOf orderOf
-returns-2 c = rw (eq-eqb _ _ (c .before .before .before .before .if1 .left), c .plus3 .ensures, c .before .plus2 .ensures, c .before .before .plus .ensures, c .before .before .before .minus2 .ensures) (refl, record { order = refl; rows = refl; params = refl; number = refl })
+returns-2 c = rw (eq-eqb _ _ (c .before .before .before .before .if1 .left), c .plus3 .ensures, c .before .plus2 .ensures, c .before .before .plus .ensures, c .before .before .before .minus2 .ensures) (refl, record { order = refl; rows = refl; params = refl; made = refl })
 
 pub close-node-spec : {M : Type 1} → statement M
 close-node-spec =

@@ -39,8 +39,8 @@ same-uses c = c .before .before .before .before .before .before .before .before 
 same-spare : tie.Need-same-length-5
 same-spare c = c .before .before .before .before .before .before .before .before .before .before .before .spare .given
 
-same-made : tie.Need-same-length-6
-same-made c = c .before .before .before .before .before .before .before .before .before .made .given
+same-sheet : tie.Need-same-length-6
+same-sheet c = c .before .before .before .before .before .before .before .before .before .sheet .given
 
 same-places : tie.Need-same-length-7
 same-places c = c .before .before .before .before .before .before .before .places .given
@@ -51,8 +51,8 @@ same-ways c = c .before .before .before .before .before .ways .given
 same-hints : tie.Need-same-length-9
 same-hints c = c .before .before .before .hints .given
 
-same-sheet : tie.Need-same-length-10
-same-sheet c = c .before .sheet .given
+same-number : tie.Need-same-length-10
+same-number c = c .before .number2 .given
 
 returns-2 : tie.Need-returns-2
 returns-2 c =
@@ -76,9 +76,9 @@ expand-definition-spec =
     same-bound
     same-uses
     same-spare
-    same-made
+    same-sheet
     same-places
     same-ways
     same-hints
-    same-sheet
+    same-number
     returns-2)

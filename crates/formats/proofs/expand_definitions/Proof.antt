@@ -31,10 +31,10 @@ same-length-4 : tie.Need-same-length-4
 same-length-4 c = c .before .before .before .before .before .before .before .before .spare .given
 
 same-length-5 : tie.Need-same-length-5
-same-length-5 c = c .before .before .before .before .before .before .made .given
+same-length-5 c = c .before .before .before .before .before .before .sheet .given
 
 same-length-6 : tie.Need-same-length-6
-same-length-6 c = c .before .sheet .given
+same-length-6 c = c .before .number2 .given
 
 returns : tie.Need-returns
 returns c = expands (c .before .before .before .before .before .before .before .before .before .before .before .before .before .before .before .before .before .before .before .before .before .before .before .before .before .before .before .before .before .before .before .before .before .before .before .before .before .before .before .before .before .pre .0) (c .before .before .before .before .before .before .before .before .before .before .before .before .before .before .before .before .before .before .before .before .before .before .before .before .before .before .before .before .before .before .take-kinds .ensures) (clear-new 1280 (omega arith)) (let l = length-replicate {0} {A = ℕ} 512 0 in omega arith) (let l = length-replicate {0} {A = ℕ} 1280 0 in omega arith) (c .before .before .before .before .before .before .before .before .before .before .before .before .before .before .before .before .before .before .before .before .before .before .before .before .before .before .before .number .ensures) (c .before .before .before .before .before .before .before .before .before .before .before .before .before .before .before .before .expand-in-order .ensures)

@@ -4,19 +4,19 @@ use mathlib.Core.Path.{refl, _∙_}
 use native.Mathlib.Omega.{arith}
 use borrow.Author.Needs.{needs}
 use Rattle.contents.proofs.Listed.{next-less}
-use Rattle.tables.specs.Parts.{orderIn, rowsIn, paramsIn, numberIn}
+use Rattle.tables.specs.Parts.{orderIn, rowsIn, paramsIn, madeIn}
 use Rattle.body.proofs.Rounds.{Lengths}
 use Rattle.inorder.proofs.Order.{Going, going, going-format, going-step, going-refused, going-all, kept}
 use Rattle.inorder.proofs.expand_in_order.Statement.{statement}
 use Rattle.inorder.proofs.expand_in_order.Tie as tie
 
 abbrev Inv-loop : tie.InvT-loop
-Inv-loop s ends path₀ binders₀ bound₀ uses₀ spare₀ made₀ places₀ ways₀ hints₀ sheet₀ d₀ w₀ n₀ path binders bound uses spare made places ways hints sheet d w n =
-    Going s made₀ places₀ (rowsIn sheet₀) (paramsIn sheet₀) (orderIn sheet₀) w₀ made places ways hints (rowsIn sheet) (paramsIn sheet) (numberIn sheet) (orderIn sheet) w n d
-    × Lengths path₀ binders₀ bound₀ uses₀ spare₀ made₀ places₀ ways₀ hints₀ sheet₀ path binders bound uses spare made places ways hints sheet
+Inv-loop s ends path₀ binders₀ bound₀ uses₀ spare₀ sheet₀ places₀ ways₀ hints₀ number₀ d₀ w₀ n₀ path binders bound uses spare sheet places ways hints number d w n =
+    Going s (madeIn sheet₀) places₀ (rowsIn sheet₀) (paramsIn sheet₀) (orderIn sheet₀) w₀ (madeIn sheet) places ways hints (rowsIn sheet) (paramsIn sheet) number (orderIn sheet) w n d
+    × Lengths path₀ binders₀ bound₀ uses₀ spare₀ sheet₀ places₀ ways₀ hints₀ number₀ path binders bound uses spare sheet places ways hints number
 
 abbrev μ-loop : tie.MeasureT-loop
-μ-loop s ends path₀ binders₀ bound₀ uses₀ spare₀ made₀ places₀ ways₀ hints₀ sheet₀ d₀ w₀ n₀ path binders bound uses spare made places ways hints sheet d w n =
+μ-loop s ends path₀ binders₀ bound₀ uses₀ spare₀ sheet₀ places₀ ways₀ hints₀ number₀ d₀ w₀ n₀ path binders bound uses spare sheet places ways hints number d w n =
     d .left
 
 loop-holds : tie.Need-loop-holds Inv-loop μ-loop
@@ -28,11 +28,11 @@ loop-holds c = (
     bound = refl;
     uses = refl;
     spare = refl;
-    made = refl;
+    sheet = refl;
     places = refl;
     ways = refl;
     hints = refl;
-    sheet = refl;
+    number = refl;
   },
 )
 
@@ -57,8 +57,8 @@ same-uses c = c .before .before .before .before .before .before .before .before 
 same-spare : tie.Need-same-length-5 Inv-loop μ-loop
 same-spare c = c .before .before .before .before .before .before .before .before .before .before .before .before .before .before .spare .given ∙ c .before .before .before .before .before .before .before .before .before .before .before .before .before .before .before .before .before .before .before .before .before .before .before .before .before .before .before .before .before .before .before .before .before .before .before .before .before .before .loop .inv .1 .spare
 
-same-made : tie.Need-same-length-6 Inv-loop μ-loop
-same-made c = c .before .before .before .before .before .before .before .before .before .before .before .before .made .given ∙ c .before .before .before .before .before .before .before .before .before .before .before .before .before .before .before .before .before .before .before .before .before .before .before .before .before .before .before .before .before .before .before .before .before .before .before .before .before .before .loop .inv .1 .made
+same-sheet : tie.Need-same-length-6 Inv-loop μ-loop
+same-sheet c = c .before .before .before .before .before .before .before .before .before .before .before .before .sheet .given ∙ c .before .before .before .before .before .before .before .before .before .before .before .before .before .before .before .before .before .before .before .before .before .before .before .before .before .before .before .before .before .before .before .before .before .before .before .before .before .before .loop .inv .1 .sheet
 
 same-places : tie.Need-same-length-7 Inv-loop μ-loop
 same-places c = c .before .before .before .before .before .before .before .before .before .before .places .given ∙ c .before .before .before .before .before .before .before .before .before .before .before .before .before .before .before .before .before .before .before .before .before .before .before .before .before .before .before .before .before .before .before .before .before .before .before .before .before .before .loop .inv .1 .places
@@ -69,8 +69,8 @@ same-ways c = c .before .before .before .before .before .before .before .before 
 same-hints : tie.Need-same-length-9 Inv-loop μ-loop
 same-hints c = c .before .before .before .before .before .before .hints .given ∙ c .before .before .before .before .before .before .before .before .before .before .before .before .before .before .before .before .before .before .before .before .before .before .before .before .before .before .before .before .before .before .before .before .before .before .before .before .before .before .loop .inv .1 .hints
 
-same-sheet : tie.Need-same-length-10 Inv-loop μ-loop
-same-sheet c = c .before .before .before .before .sheet .given ∙ c .before .before .before .before .before .before .before .before .before .before .before .before .before .before .before .before .before .before .before .before .before .before .before .before .before .before .before .before .before .before .before .before .before .before .before .before .before .before .loop .inv .1 .sheet
+same-number : tie.Need-same-length-10 Inv-loop μ-loop
+same-number c = c .before .before .before .before .number .given ∙ c .before .before .before .before .before .before .before .before .before .before .before .before .before .before .before .before .before .before .before .before .before .before .before .before .before .before .before .before .before .before .before .before .before .before .before .before .before .before .loop .inv .1 .number
 
 returns : tie.Need-returns Inv-loop μ-loop
 returns c = going-refused (c .before .before .before .before .before .before .before .before .before .before .before .before .before .before .before .before .before .before .before .before .before .before .before .before .before .before .before .before .before .before .before .before .before .before .before .before .before .before .loop .inv .0) (c .before .before .before .before .before .before .before .before .before .before .before .before .before .before .before .before .before .before .before .before .before .before .before .before .before .before .before .before .before .before .before .before .before .before .before .before .if1 .taken) (c .before .before .before .before .before .before .before .before .before .before .before .before .before .before .before .before .before .before .before .before .before .before .before .before .before .before .before .before .before .before .before .before .before .before .before .byte .ensures) (rw (c .before .c .given .1) at (c .before .before .before .before .before .before .before .before .before .before .before .before .before .before .before .before .before .before .before .before .before .before .before .expand-definition .ensures))
@@ -88,11 +88,11 @@ loop-again c =
         bound = c .before .before .before .before .before .before .before .before .before .before .before .before .before .before .before .before .before .before .bound .given ∙ i .1 .bound;
         uses = c .before .before .before .before .before .before .before .before .before .before .before .before .before .before .before .before .uses .given ∙ i .1 .uses;
         spare = c .before .before .before .before .before .before .before .before .before .before .before .before .before .before .spare .given ∙ i .1 .spare;
-        made = c .before .before .before .before .before .before .before .before .before .before .before .before .made .given ∙ i .1 .made;
+        sheet = c .before .before .before .before .before .before .before .before .before .before .before .before .sheet .given ∙ i .1 .sheet;
         places = c .before .before .before .before .before .before .before .before .before .before .places .given ∙ i .1 .places;
         ways = c .before .before .before .before .before .before .before .before .ways .given ∙ i .1 .ways;
         hints = c .before .before .before .before .before .before .hints .given ∙ i .1 .hints;
-        sheet = c .before .before .before .before .sheet .given ∙ i .1 .sheet;
+        number = c .before .before .before .before .number .given ∙ i .1 .number;
       },
     )
 
@@ -111,8 +111,8 @@ end-uses c = c .before .before .loop .inv .1 .uses
 end-spare : tie.Need-same-length-15 Inv-loop μ-loop
 end-spare c = c .before .before .loop .inv .1 .spare
 
-end-made : tie.Need-same-length-16 Inv-loop μ-loop
-end-made c = c .before .before .loop .inv .1 .made
+end-sheet : tie.Need-same-length-16 Inv-loop μ-loop
+end-sheet c = c .before .before .loop .inv .1 .sheet
 
 end-places : tie.Need-same-length-17 Inv-loop μ-loop
 end-places c = c .before .before .loop .inv .1 .places
@@ -123,8 +123,8 @@ end-ways c = c .before .before .loop .inv .1 .ways
 end-hints : tie.Need-same-length-19 Inv-loop μ-loop
 end-hints c = c .before .before .loop .inv .1 .hints
 
-end-sheet : tie.Need-same-length-20 Inv-loop μ-loop
-end-sheet c = c .before .before .loop .inv .1 .sheet
+end-number : tie.Need-same-length-20 Inv-loop μ-loop
+end-number c = c .before .before .loop .inv .1 .number
 
 returns-2 : tie.Need-returns-2 Inv-loop μ-loop
 returns-2 c = going-all (c .before .before .loop .inv .0) (omega (arith, c .if1 .left))
@@ -146,11 +146,11 @@ expand-in-order-spec =
     same-bound
     same-uses
     same-spare
-    same-made
+    same-sheet
     same-places
     same-ways
     same-hints
-    same-sheet
+    same-number
     returns
     (λ c. search needs)
     loop-less
@@ -160,9 +160,9 @@ expand-in-order-spec =
     end-bound
     end-uses
     end-spare
-    end-made
+    end-sheet
     end-places
     end-ways
     end-hints
-    end-sheet
+    end-number
     returns-2)

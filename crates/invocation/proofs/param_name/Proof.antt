@@ -5,20 +5,20 @@ use borrow.Author.Needs.{needs}
 use Rattle.invocation.proofs.param_name.Statement.{statement}
 use Rattle.invocation.proofs.param_name.Tie as tie
 
-mul-entry : tie.Need-mul-entry
-mul-entry c = search needs
+mul-pair : tie.Need-mul-pair
+mul-pair c = search needs
 
-entry-requires : tie.Need-entry-requires
-entry-requires c κs = search needs
+pair-requires : tie.Need-pair-requires
+pair-requires c κs = search needs
 
-mul-entry-2 : tie.Need-mul-entry-2
-mul-entry-2 c = search needs
+mul-pair-2 : tie.Need-mul-pair-2
+mul-pair-2 c = search needs
 
-add-entry : tie.Need-add-entry
-add-entry c = search needs
+add-pair : tie.Need-add-pair
+add-pair c = search needs
 
-entry-requires-2 : tie.Need-entry-requires-2
-entry-requires-2 c κs = search needs
+pair-requires-2 : tie.Need-pair-requires-2
+pair-requires-2 c κs = search needs
 
 cast-bytes-at : tie.Need-cast-bytes-at
 cast-bytes-at c = search needs
@@ -30,17 +30,17 @@ bytes-at-requires : tie.Need-bytes-at-requires
 bytes-at-requires c κs = search needs
 
 returns : tie.Need-returns
-returns c = c .bytes-at .ensures ∙ rw (c .before .entry2 .ensures, c .before .before .entry .ensures)
+returns c = c .bytes-at .ensures ∙ rw (c .before .pair2 .ensures, c .before .before .pair .ensures)
 
 pub param-name-spec : {M : Type 1} → statement M
 param-name-spec =
     tie.close
     (tie.spec
-    mul-entry
-    entry-requires
-    mul-entry-2
-    add-entry
-    entry-requires-2
+    mul-pair
+    pair-requires
+    mul-pair-2
+    add-pair
+    pair-requires-2
     cast-bytes-at
     cast-bytes-at-2
     bytes-at-requires

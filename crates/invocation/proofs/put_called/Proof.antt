@@ -10,23 +10,23 @@ use Rattle.invocation.proofs.put_called.Tie as tie
 mul-base : tie.Need-mul-base
 mul-base c = search needs
 
-add-entry : tie.Need-add-entry
-add-entry c = search needs
+add-pair : tie.Need-add-pair
+add-pair c = search needs
 
-entry-requires : tie.Need-entry-requires
-entry-requires c κs = search needs
+pair-requires : tie.Need-pair-requires
+pair-requires c κs = search needs
 
-add-entry-2 : tie.Need-add-entry-2
-add-entry-2 c = search needs
+add-pair-2 : tie.Need-add-pair-2
+add-pair-2 c = search needs
 
-entry-requires-2 : tie.Need-entry-requires-2
-entry-requires-2 c κs = search needs
+pair-requires-2 : tie.Need-pair-requires-2
+pair-requires-2 c κs = search needs
 
-add-entry-3 : tie.Need-add-entry-3
-add-entry-3 c = search needs
+add-pair-3 : tie.Need-add-pair-3
+add-pair-3 c = search needs
 
-entry-requires-3 : tie.Need-entry-requires-3
-entry-requires-3 c κs = search needs
+pair-requires-3 : tie.Need-pair-requires-3
+pair-requires-3 c κs = search needs
 
 cast-name-at : tie.Need-cast-name-at
 cast-name-at c = search needs
@@ -49,7 +49,7 @@ same-length c = search needs
 returns : tie.Need-returns
 returns c =
     wrote-as
-    (called-is _ _ _ _ _ _ _ _ _ (c .before .before .before .before .before .before .before .before .before .before .before .before .before .before .before .entry .ensures) (c .before .before .before .before .before .before .before .before .before .before .before .before .before .before .entry2 .ensures) (c .before .before .before .before .before .before .before .before .before .before .before .before .before .entry3 .ensures) (c .before .before .before .before .before .before .before .before .before .before .before .before .name-at .ensures))
+    (called-is _ _ _ _ _ _ _ _ _ (c .before .before .before .before .before .before .before .before .before .before .before .before .before .before .before .pair .ensures) (c .before .before .before .before .before .before .before .before .before .before .before .before .before .before .pair2 .ensures) (c .before .before .before .before .before .before .before .before .before .before .before .before .before .pair3 .ensures) (c .before .before .before .before .before .before .before .before .before .before .before .before .name-at .ensures))
     (glue (c .before .before .before .before .before .before .before .before .before .before .put-byte .ensures) (glue (c .before .before .before .before .before .before .put-name .ensures) (c .before .before .put-names .ensures)))
 
 pub put-called-spec : {M : Type 1} → statement M
@@ -57,12 +57,12 @@ put-called-spec =
     tie.close
     (tie.spec
     mul-base
-    add-entry
-    entry-requires
-    add-entry-2
-    entry-requires-2
-    add-entry-3
-    entry-requires-3
+    add-pair
+    pair-requires
+    add-pair-2
+    pair-requires-2
+    add-pair-3
+    pair-requires-3
     cast-name-at
     name-at-requires
     put-byte-requires

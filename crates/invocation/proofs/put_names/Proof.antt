@@ -5,6 +5,7 @@ use Prim.Native.Nat.{suc, _+_, _≤_}
 use native.Mathlib.Omega.{arith}
 use lib.ListN.{length}
 use Rattle.writer.proofs.Wrote.{glue, place-within, same-length as wrote-long}
+use Rattle.tables.specs.Parts.{pairs}
 use Rattle.tables.specs.Rows.{namesFrom}
 use Rattle.invocation.specs.Invocation.{namesBytes}
 use Rattle.writer.proofs.Rest.{Rest, rest-all, rest-on, rest-end}
@@ -14,7 +15,7 @@ use Rattle.invocation.proofs.put_names.Statement.{statement}
 use Rattle.invocation.proofs.put_names.Tie as tie
 
 abbrev Inv-loop : tie.InvT-loop
-Inv-loop s params first count out₀ at left₀ j₀ o₀ out left j o = (length out ≡ length out₀) × (j + left ≡ j₀ + left₀) × (o ≤ suc (length out)) × Rest out₀ o₀ (namesBytes (namesFrom s params j₀ left₀)) out o (namesBytes (namesFrom s params j left))
+Inv-loop s params first count out₀ at left₀ j₀ o₀ out left j o = (length out ≡ length out₀) × (j + left ≡ j₀ + left₀) × (o ≤ suc (length out)) × Rest out₀ o₀ (namesBytes (namesFrom s (pairs params) j₀ left₀)) out o (namesBytes (namesFrom s (pairs params) j left))
 
 abbrev μ-loop : tie.MeasureT-loop
 μ-loop s params first count out₀ at left₀ j₀ o₀ out left j o = left

@@ -5,7 +5,7 @@ use Prim.Native.Nat.{_-_, _≤_}
 use native.Mathlib.Omega.{arith}
 use lib.ListN.{length}
 use borrow.Author.Needs.{needs}
-use Rattle.tables.specs.Parts.{orderIn, rowsIn, paramsIn, numberIn, Parts}
+use Rattle.tables.specs.Parts.{orderIn, rowsIn, paramsIn, madeIn, Parts}
 use Rattle.lift.specs.Bound.{boundFrom, Filled, Within, Builds}
 use Rattle.lift.proofs.Binders.{first-found, found-sized}
 use Rattle.lift.proofs.Params.{filled-none, filled-missing, filled-more, use-short}
@@ -14,14 +14,14 @@ use Rattle.lift.proofs.build_param_defns.Tie as tie
 
 abbrev Inv-loop : tie.InvT-loop
 Inv-loop s uses k binders b sheet₀ first names₀ types₀ i₀ sheet names types i =
-    (i ≤ k) × Within i names types × Filled s uses i (boundFrom s binders 0 b) (paramsIn sheet₀) first (paramsIn sheet) names types × Parts sheet (orderIn sheet₀) (rowsIn sheet₀) (paramsIn sheet) (numberIn sheet₀)
+    (i ≤ k) × Within i names types × Filled s uses i (boundFrom s binders 0 b) (paramsIn sheet₀) first (paramsIn sheet) names types × Parts sheet (orderIn sheet₀) (rowsIn sheet₀) (paramsIn sheet) (madeIn sheet₀)
     × (length sheet ≡ length sheet₀)
 
 abbrev μ-loop : tie.MeasureT-loop
 μ-loop s uses k binders b sheet₀ first names₀ types₀ i₀ sheet names types i = k - i
 
 loop-holds : tie.Need-loop-holds Inv-loop μ-loop
-loop-holds c = (omega arith, record { names-least = omega arith; names-most = omega arith; types-least = omega arith; types-most = omega arith }, filled-none _ _ _ _ _, record { order = refl; rows = refl; params = refl; number = refl }, refl)
+loop-holds c = (omega arith, record { names-least = omega arith; names-most = omega arith; types-least = omega arith; types-most = omega arith }, filled-none _ _ _ _ _, record { order = refl; rows = refl; params = refl; made = refl }, refl)
 
 read : tie.Need-shared-slice-read-x Inv-loop μ-loop
 read c = omega (arith, c .before .before .before .before .before .before .before .pre .1)
@@ -75,7 +75,7 @@ loop-again c =
       filled-more (l .inv .2) (omega (arith, s .pre .1, c .before .before .before .before .before .before .before .before .before .before .before .loop-test .taken)) d
           (rw (← (n .ensures)) (first-found (s .args .s .now) (s .args .binders .now) (n .result .now) 0 (s .args .b) ∙ (rw e)))
           (u .params) q,
-      record { order = u .order ∙ l .inv .3 .order; rows = u .rows ∙ l .inv .3 .rows; params = refl; number = u .number ∙ l .inv .3 .number },
+      record { order = u .order ∙ l .inv .3 .order; rows = u .rows ∙ l .inv .3 .rows; params = refl; made = u .made ∙ l .inv .3 .made },
       c .before .before .sheet .given ∙ l .inv .4,
     )
 

@@ -6,6 +6,7 @@ use native.Mathlib.Omega.{arith}
 use borrow.Author.Needs.{needs}
 use Rattle.lift.proofs.Params.{builds-all, builds-none}
 use Rattle.lift.proofs.Entered.{refused-binder, refused-bytes, refused-defns, made-in-parts, cut-length}
+use Rattle.lift.proofs.Rows.{sheet-long}
 use Rattle.lift.proofs.enter_lift.Statement.{statement}
 use Rattle.lift.proofs.enter_lift.Tie as tie
 
@@ -40,7 +41,7 @@ same-3 : tie.Need-same-length-3
 same-3 c = c .before .before .before .sheet .given
 
 same-4 : tie.Need-same-length-4
-same-4 c = c .before .before .before .before .before .before .before .before .before .made .given
+same-4 c = c .before .before .before .before .before .before .before .before .before .sheet2 .given ∙ c .before .before .before .before .before .before .before .before .before .before .before .before .before .before .before .before .before .before .before .before .before .before .before .sheet .given
 
 same-5 : tie.Need-same-length-5
 same-5 c = c .before .before .before .before .before .before .before .places .given
@@ -52,7 +53,7 @@ same-7 : tie.Need-same-length-7
 same-7 c = c .before .before .before .hints .given
 
 same-8 : tie.Need-same-length-8
-same-8 c = c .before .sheet2 .given ∙ c .before .before .before .before .before .before .before .before .before .before .before .before .before .before .before .before .before .before .before .before .before .before .before .sheet .given
+same-8 c = c .before .number .given
 
 returns : tie.Need-returns
 returns c =
@@ -72,7 +73,7 @@ add-row-requires c κs =
     let p = s .pre in
     let t = p .0 in
     let b = builds-all _ (c .before .before .before .before .before .before .before .before .before .before .before .before .before .build-param-defns .ensures .0) (c .before .before .before .before .before .before .before .before .before .built .given .1) .1 in
-    (p .3, p .4, p .1, p .2, omega (arith, t .room), omega (arith, t .room, t .bytes-most), omega (arith, t .room, t .made-long), omega (arith, t .few .0), omega arith, omega (arith, t .few .1), t .places-long, t .hints-long)
+    (p .3, p .4, p .1, p .2, omega (arith, t .room), omega (arith, t .room, t .bytes-most), omega (arith, t .room, sheet-long (s .args .sheet .now) (t .made-long), c .before .before .before .before .before .before .before .before .before .before .before .before .sheet .given), omega (arith, t .few .0), omega arith, omega (arith, t .few .1), t .places-long, t .hints-long)
 
 returns-3 : tie.Need-returns-3
 returns-3 c = (refused-binder (builds-none _ _ _ _ _ _ _ _ (c .before .before .before .before .build-param-defns .ensures .0) (c .enum-told .given .1)), c .before .before .before .before .build-param-defns .ensures .1 .order)
@@ -86,7 +87,7 @@ returns-4 c =
     let m = c .before .before .before .before .before .before .before .before .before .before .before .before .before .before .before .before .before .before .before .before .built .given .0 in
     let k = c .before .before .before .before .before .before .before .before .before .before .before .before .before .before .before .before .before .before .before .before .before .before .before .before .build-param-defns .ensures .1 in
     let a = c .before .before .before .before .before .before .before .before .before .before .add-row .ensures in
-    (rw e at (made-in-parts (s .args .sheet .now) (c .before .before .before .before .before .before .before .before .before .before .before .before .before .before .before .before .before .before .before .before .before .before .before .before .build-param-defns .last .1 .1 .1 .1 .1 .0) (c .before .before .before .before .before .before .before .before .before .before .add-row .last .1 .1 .1 .1 .1 .1 .1 .1 .1 .1 .0) k (a .2) (p .0) (b .0) (b .1) (omega (arith, p .4)) (s .args .w .bytes + 6 + (s .args .n + 3 + m .0 + m .1 .0) + (s .args .n + m .0 + 5)) (omega arith) (c .before .before .before .before .before .before .before .before .before .before .before .before .before .before .before .before .before .if1 .left) (omega (arith, c .before .before .before .before .before .before .before .before .before .before .before .before .before .before .before .before .if2 .left)) (a .0)), a .1 ∙ k .order)
+    (rw e at (made-in-parts (s .args .sheet .now) (c .before .before .before .before .before .before .before .before .before .before .before .before .before .before .before .before .before .before .before .before .before .before .before .before .build-param-defns .last .1 .1 .1 .1 .1 .0) (c .before .before .before .before .before .before .before .before .before .before .add-row .last .1 .1 .1 .1 .1 .1 .0) k (a .2) (p .0) (b .0) (b .1) (omega (arith, p .4)) (s .args .w .bytes + 6 + (s .args .n + 3 + m .0 + m .1 .0) + (s .args .n + m .0 + 5)) (omega arith) (c .before .before .before .before .before .before .before .before .before .before .before .before .before .before .before .before .before .if1 .left) (omega (arith, c .before .before .before .before .before .before .before .before .before .before .before .before .before .before .before .before .if2 .left)) (a .0)), a .1 ∙ k .order)
 
 pub enter-lift-spec : {M : Type 1} → statement M
 enter-lift-spec =

@@ -20,7 +20,7 @@ returns c =
       order = e .order ∙ d .order ∙ b .order ∙ a .order;
       rows = e .rows ∙ d .rows ∙ b .rows ∙ a .rows;
       params = param-put (paramsIn (s .args .sheet .now)) (s .args .i) _ _ _ _ (a .params) (b .params) (d .params) (e .params) refl (omega arith) (omega (arith, z)) (omega (arith, z));
-      number = e .number ∙ d .number ∙ b .number ∙ a .number;
+      made = e .made ∙ d .made ∙ b .made ∙ a .made;
     }
 
 pub put-param-spec : {M : Type 1} → statement M

@@ -20,7 +20,7 @@ returns c =
       order = f .order ∙ e .order ∙ d .order ∙ b .order ∙ a .order;
       rows = row-put (rowsIn (s .args .sheet .now)) (s .args .i) _ _ _ _ _ (a .rows) (b .rows) (d .rows) (e .rows) (f .rows) (p .1) (p .2) (p .3) (p .4) (p .5);
       params = f .params ∙ e .params ∙ d .params ∙ b .params ∙ a .params;
-      number = f .number ∙ e .number ∙ d .number ∙ b .number ∙ a .number;
+      made = f .made ∙ e .made ∙ d .made ∙ b .made ∙ a .made;
     }
 
 pub put-row-spec : {M : Type 1} → statement M

@@ -10,32 +10,32 @@ use Rattle.lifted.proofs.put_lifted.Tie as tie
 mul-base : tie.Need-mul-base
 mul-base c = search needs
 
-entry-requires : tie.Need-entry-requires
-entry-requires c κs = search needs
+pair-requires : tie.Need-pair-requires
+pair-requires c κs = search needs
 
-add-entry : tie.Need-add-entry
-add-entry c = search needs
+add-pair : tie.Need-add-pair
+add-pair c = search needs
 
-entry-requires-2 : tie.Need-entry-requires-2
-entry-requires-2 c κs = search needs
+pair-requires-2 : tie.Need-pair-requires-2
+pair-requires-2 c κs = search needs
 
-add-entry-2 : tie.Need-add-entry-2
-add-entry-2 c = search needs
+add-pair-2 : tie.Need-add-pair-2
+add-pair-2 c = search needs
 
-entry-requires-3 : tie.Need-entry-requires-3
-entry-requires-3 c κs = search needs
+pair-requires-3 : tie.Need-pair-requires-3
+pair-requires-3 c κs = search needs
 
-add-entry-3 : tie.Need-add-entry-3
-add-entry-3 c = search needs
+add-pair-3 : tie.Need-add-pair-3
+add-pair-3 c = search needs
 
-entry-requires-4 : tie.Need-entry-requires-4
-entry-requires-4 c κs = search needs
+pair-requires-4 : tie.Need-pair-requires-4
+pair-requires-4 c κs = search needs
 
-add-entry-4 : tie.Need-add-entry-4
-add-entry-4 c = search needs
+add-pair-4 : tie.Need-add-pair-4
+add-pair-4 c = search needs
 
-entry-requires-5 : tie.Need-entry-requires-5
-entry-requires-5 c κs = search needs
+pair-requires-5 : tie.Need-pair-requires-5
+pair-requires-5 c κs = search needs
 
 cast-name-at : tie.Need-cast-name-at
 cast-name-at c = search needs
@@ -61,7 +61,7 @@ same-length c = search needs
 returns : tie.Need-returns
 returns c =
     wrote-as
-    (lifted-is _ _ _ _ _ _ _ _ (c .before .before .before .before .before .before .before .before .before .before .before .before .before .before .before .before .before .entry .ensures) (c .before .before .before .before .before .before .before .before .before .before .before .before .before .before .before .before .entry2 .ensures) (c .before .before .before .before .before .before .before .before .before .before .before .before .before .before .before .entry3 .ensures) (c .before .before .before .before .before .before .before .before .before .before .before .before .before .before .entry4 .ensures) (c .before .before .before .before .before .before .before .before .before .before .before .before .before .entry5 .ensures) (c .before .before .before .before .before .before .before .before .before .before .before .before .name-at .ensures))
+    (lifted-is _ _ _ _ _ _ _ _ (c .before .before .before .before .before .before .before .before .before .before .before .before .before .before .before .before .before .pair .ensures) (c .before .before .before .before .before .before .before .before .before .before .before .before .before .before .before .before .pair2 .ensures) (c .before .before .before .before .before .before .before .before .before .before .before .before .before .before .before .pair3 .ensures) (c .before .before .before .before .before .before .before .before .before .before .before .before .before .before .pair4 .ensures) (c .before .before .before .before .before .before .before .before .before .before .before .before .before .pair5 .ensures) (c .before .before .before .before .before .before .before .before .before .before .before .before .name-at .ensures))
     (glue (c .before .before .before .before .before .before .before .before .before .before .put-name .ensures) (glue (c .before .before .before .before .before .before .put-params .ensures) (c .before .before .put-spliced .ensures)))
 
 pub put-lifted-spec : {M : Type 1} → statement M
@@ -69,15 +69,15 @@ put-lifted-spec =
     tie.close
     (tie.spec
     mul-base
-    entry-requires
-    add-entry
-    entry-requires-2
-    add-entry-2
-    entry-requires-3
-    add-entry-3
-    entry-requires-4
-    add-entry-4
-    entry-requires-5
+    pair-requires
+    add-pair
+    pair-requires-2
+    add-pair-2
+    pair-requires-3
+    add-pair-3
+    pair-requires-4
+    add-pair-4
+    pair-requires-5
     cast-name-at
     name-at-requires
     put-name-requires

@@ -5,6 +5,7 @@ use Prim.Native.Nat.{suc, _+_, _≤_}
 use native.Mathlib.Omega.{arith}
 use lib.ListN.{length}
 use Rattle.writer.proofs.Wrote.{glue, place-within, same-length as wrote-long}
+use Rattle.tables.specs.Parts.{pairs}
 use Rattle.tables.specs.Rows.{namesFrom, typesFrom}
 use Rattle.splice.specs.Model.{tables}
 use Rattle.lifted.specs.Model.{paramsBytes}
@@ -15,7 +16,7 @@ use Rattle.lifted.proofs.put_params.Statement.{statement}
 use Rattle.lifted.proofs.put_params.Tie as tie
 
 abbrev Inv-loop : tie.InvT-loop
-Inv-loop s names rows params number first count out₀ at left₀ j₀ o₀ out left j o = (length out ≡ length out₀) × (j + left ≡ j₀ + left₀) × (o ≤ suc (length out)) × Rest out₀ o₀ (paramsBytes (tables s names rows params number) (namesFrom s params j₀ left₀) (typesFrom params j₀ left₀)) out o (paramsBytes (tables s names rows params number) (namesFrom s params j left) (typesFrom params j left))
+Inv-loop s names rows params number first count out₀ at left₀ j₀ o₀ out left j o = (length out ≡ length out₀) × (j + left ≡ j₀ + left₀) × (o ≤ suc (length out)) × Rest out₀ o₀ (paramsBytes (tables s names (pairs rows) (pairs params) number) (namesFrom s (pairs params) j₀ left₀) (typesFrom (pairs params) j₀ left₀)) out o (paramsBytes (tables s names (pairs rows) (pairs params) number) (namesFrom s (pairs params) j left) (typesFrom (pairs params) j left))
 
 abbrev μ-loop : tie.MeasureT-loop
 μ-loop s names rows params number first count out₀ at left₀ j₀ o₀ out left j o = left

@@ -6,23 +6,23 @@ use borrow.Author.Needs.{needs}
 use Rattle.lifted.proofs.put_type.Statement.{statement}
 use Rattle.lifted.proofs.put_type.Tie as tie
 
-mul-entry : tie.Need-mul-entry
-mul-entry c = search needs
+mul-pair : tie.Need-mul-pair
+mul-pair c = search needs
 
-add-entry : tie.Need-add-entry
-add-entry c = search needs
+add-pair : tie.Need-add-pair
+add-pair c = search needs
 
-entry-requires : tie.Need-entry-requires
-entry-requires c κs = search needs
+pair-requires : tie.Need-pair-requires
+pair-requires c κs = search needs
 
-mul-entry-2 : tie.Need-mul-entry-2
-mul-entry-2 c = search needs
+mul-pair-2 : tie.Need-mul-pair-2
+mul-pair-2 c = search needs
 
-add-entry-2 : tie.Need-add-entry-2
-add-entry-2 c = search needs
+add-pair-2 : tie.Need-add-pair-2
+add-pair-2 c = search needs
 
-entry-requires-2 : tie.Need-entry-requires-2
-entry-requires-2 c κs = search needs
+pair-requires-2 : tie.Need-pair-requires-2
+pair-requires-2 c κs = search needs
 
 cast-inner-end : tie.Need-cast-inner-end
 cast-inner-end c = search needs
@@ -40,13 +40,13 @@ same-length : tie.Need-same-length
 same-length c = search needs
 
 returns : tie.Need-returns
-returns c = wrote-as (type-own _ _ _ _ (c .before .before .before .before .before .before .before .entry .ensures) (c .before .before .before .before .before .before .entry2 .ensures) _ (c .before .before .before .before .before .if1 .taken) (c .before .before .before .before .inner-end .ensures)) (c .before .before .put-part .ensures)
+returns c = wrote-as (type-own _ _ _ _ (c .before .before .before .before .before .before .before .pair .ensures) (c .before .before .before .before .before .before .pair2 .ensures) _ (c .before .before .before .before .before .if1 .taken) (c .before .before .before .before .inner-end .ensures)) (c .before .before .put-part .ensures)
 
 cast-entry : tie.Need-cast-entry
 cast-entry c = search needs
 
-entry-requires-3 : tie.Need-entry-requires-3
-entry-requires-3 c κs = search needs
+entry-requires : tie.Need-entry-requires
+entry-requires c κs = search needs
 
 cast-inner-end-2 : tie.Need-cast-inner-end-2
 cast-inner-end-2 c = search needs
@@ -61,7 +61,7 @@ same-length-2 : tie.Need-same-length-2
 same-length-2 c = search needs
 
 returns-2 : tie.Need-returns-2
-returns-2 c = wrote-as (type-passed _ _ _ _ (c .before .before .before .before .before .before .before .before .before .entry .ensures) (c .before .before .before .before .before .before .before .before .entry2 .ensures) _ _ (c .before .before .before .before .before .before .before .if1 .left) (c .before .before .before .before .before .before .entry3 .ensures) (c .before .before .before .before .before .if2 .taken) (c .before .before .before .before .inner-end2 .ensures)) (c .before .before .put-spliced .ensures)
+returns-2 c = wrote-as (type-passed _ _ _ _ (c .before .before .before .before .before .before .before .before .before .pair .ensures) (c .before .before .before .before .before .before .before .before .pair2 .ensures) _ _ (c .before .before .before .before .before .before .before .if1 .left) (c .before .before .before .before .before .before .entry .ensures) (c .before .before .before .before .before .if2 .taken) (c .before .before .before .before .inner-end2 .ensures)) (c .before .before .put-spliced .ensures)
 
 sub-put-called : tie.Need-sub-put-called
 sub-put-called c = search needs
@@ -73,18 +73,18 @@ same-length-3 : tie.Need-same-length-3
 same-length-3 c = search needs
 
 returns-3 : tie.Need-returns-3
-returns-3 c = wrote-as (type-called _ _ _ _ (c .before .before .before .before .before .before .before .before .entry .ensures) (c .before .before .before .before .before .before .before .entry2 .ensures) _ (c .before .before .before .before .before .before .if1 .left) (c .before .before .before .before .before .entry3 .ensures) (c .before .before .before .before .if2 .left)) (c .before .before .put-called .ensures)
+returns-3 c = wrote-as (type-called _ _ _ _ (c .before .before .before .before .before .before .before .before .pair .ensures) (c .before .before .before .before .before .before .before .pair2 .ensures) _ (c .before .before .before .before .before .before .if1 .left) (c .before .before .before .before .before .entry .ensures) (c .before .before .before .before .if2 .left)) (c .before .before .put-called .ensures)
 
 pub put-type-spec : {M : Type 1} → statement M
 put-type-spec =
     tie.close
     (tie.spec
-    mul-entry
-    add-entry
-    entry-requires
-    mul-entry-2
-    add-entry-2
-    entry-requires-2
+    mul-pair
+    add-pair
+    pair-requires
+    mul-pair-2
+    add-pair-2
+    pair-requires-2
     cast-inner-end
     inner-end-requires
     cast-put-part
@@ -92,7 +92,7 @@ put-type-spec =
     same-length
     returns
     cast-entry
-    entry-requires-3
+    entry-requires
     cast-inner-end-2
     inner-end-requires-2
     put-spliced-requires

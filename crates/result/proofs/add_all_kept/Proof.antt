@@ -8,11 +8,12 @@ use Rattle.splice.specs.Model.{tables}
 use Rattle.result.specs.Model.{keptFrom}
 use Rattle.result.proofs.Adds.{Left, left-all, left-on, left-end, kept-start, kept-more, kept-done, kept-one}
 use borrow.Author.Needs.{needs}
+use Rattle.tables.specs.Parts.{pairs}
 use Rattle.result.proofs.add_all_kept.Statement.{statement}
 use Rattle.result.proofs.add_all_kept.Tie as tie
 
 abbrev Inv-loop : tie.InvT-loop
-Inv-loop s names rows params number n out₀ at i₀ o₀ out i o = (length out ≡ length out₀) × (i ≤ n) × Left out₀ 0 at (keptFrom (tables s names rows params number) 0 n) out i o (keptFrom (tables s names rows params number) i (n - i))
+Inv-loop s names rows params number n out₀ at i₀ o₀ out i o = (length out ≡ length out₀) × (i ≤ n) × Left out₀ 0 at (keptFrom (tables s names (pairs rows) (pairs params) number) 0 n) out i o (keptFrom (tables s names (pairs rows) (pairs params) number) i (n - i))
 
 abbrev μ-loop : tie.MeasureT-loop
 μ-loop s names rows params number n out₀ at i₀ o₀ out i o = n - i

@@ -8,11 +8,12 @@ use Rattle.splice.specs.Model.{tables}
 use Rattle.result.specs.Model.{liftedFrom}
 use Rattle.result.proofs.Adds.{Left, left-all, left-on, left-end, left-at, lifted-start, lifted-more, lifted-done, lifted-one}
 use borrow.Author.Needs.{needs}
+use Rattle.tables.specs.Parts.{pairs}
 use Rattle.result.proofs.add_all_lifted.Statement.{statement}
 use Rattle.result.proofs.add_all_lifted.Tie as tie
 
 abbrev Inv-loop : tie.InvT-loop
-Inv-loop s names rows params number order n kept out₀ at i₀ o₀ out i o = (length out ≡ length out₀) × (i ≤ n) × Left out₀ kept at (liftedFrom (tables s names rows params number) order 0 n) out (kept + i) o (liftedFrom (tables s names rows params number) order i (n - i))
+Inv-loop s names rows params number order n kept out₀ at i₀ o₀ out i o = (length out ≡ length out₀) × (i ≤ n) × Left out₀ kept at (liftedFrom (tables s names (pairs rows) (pairs params) number) (pairs order) 0 n) out (kept + i) o (liftedFrom (tables s names (pairs rows) (pairs params) number) (pairs order) i (n - i))
 
 abbrev μ-loop : tie.MeasureT-loop
 μ-loop s names rows params number order n kept out₀ at i₀ o₀ out i o = n - i

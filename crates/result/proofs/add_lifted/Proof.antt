@@ -5,8 +5,8 @@ use borrow.Author.Needs.{needs}
 use Rattle.result.proofs.add_lifted.Statement.{statement}
 use Rattle.result.proofs.add_lifted.Tie as tie
 
-entry-requires : tie.Need-entry-requires
-entry-requires c κs = search needs
+pair-requires : tie.Need-pair-requires
+pair-requires c κs = search needs
 
 put-lifted-requires : tie.Need-put-lifted-requires
 put-lifted-requires c κs = search needs
@@ -27,13 +27,13 @@ same-length : tie.Need-same-length
 same-length c = search needs
 
 returns : tie.Need-returns
-returns c = adds-as (lifted-of _ _ _ _ (c .before .before .before .before .before .before .before .before .entry .ensures)) (adds-one (c .before .before .before .before .before .before .put-lifted .ensures) (c .before .before .put-entry .ensures))
+returns c = adds-as (lifted-of _ _ _ _ (c .before .before .before .before .before .before .before .before .pair .ensures)) (adds-one (c .before .before .before .before .before .before .put-lifted .ensures) (c .before .before .put-entry .ensures))
 
 pub add-lifted-spec : {M : Type 1} → statement M
 add-lifted-spec =
     tie.close
     (tie.spec
-    entry-requires
+    pair-requires
     put-lifted-requires
     add-at
     mul-put-entry

@@ -12,11 +12,12 @@ use Rattle.writer.proofs.Rest.{wrote-as, Rest, rest-all, rest-on, rest-same}
 use Rattle.splice.proofs.Steps.{gap-next, gap-call, gap-end, spliced-is}
 use Rattle.ahead.proofs.Next.{next-is}
 use borrow.Author.Needs.{needs}
+use Rattle.tables.specs.Parts.{pairs}
 use Rattle.splice.proofs.put_spliced.Statement.{statement}
 use Rattle.splice.proofs.put_spliced.Tie as tie
 
 abbrev Inv-loop : tie.InvT-loop
-Inv-loop s names rows params number from to out₀ at gap₀ p₀ o₀ out gap p o = (length out ≡ length out₀) × (gap ≤ p) × (p < to → getD number p 0 ≡ 0 → ⊥) × Rest out₀ at (spliced (tables s names rows params number) from to) out o (part gap (min p to) s ++ onFrom (tables s names rows params number) p to)
+Inv-loop s names rows params number from to out₀ at gap₀ p₀ o₀ out gap p o = (length out ≡ length out₀) × (gap ≤ p) × (p < to → getD number p 0 ≡ 0 → ⊥) × Rest out₀ at (spliced (tables s names (pairs rows) (pairs params) number) from to) out o (part gap (min p to) s ++ onFrom (tables s names (pairs rows) (pairs params) number) p to)
 
 abbrev μ-loop : tie.MeasureT-loop
 μ-loop s names rows params number from to out₀ at gap₀ p₀ o₀ out gap p o = to - p
@@ -42,20 +43,20 @@ sub-put-call c = let f : c .before .before .before .before .entry .result ≡ 0 
 put-call-requires : tie.Need-put-call-requires Inv-loop μ-loop
 put-call-requires c κs = search needs
 
-sub-entry : tie.Need-sub-entry Inv-loop μ-loop
-sub-entry c = let f : c .before .before .before .before .before .before .before .before .entry .result ≡ 0 → ⊥ = λ z. c .before .before .before .before .before .before .before .before .before .before .loop .inv .2 (c .before .before .before .before .before .before .before .before .before .loop-test .taken) (sym (c .before .before .before .before .before .before .before .before .entry .ensures) ∙ z) in omega arith
+sub-pair : tie.Need-sub-pair Inv-loop μ-loop
+sub-pair c = let f : c .before .before .before .before .before .before .before .before .entry .result ≡ 0 → ⊥ = λ z. c .before .before .before .before .before .before .before .before .before .before .loop .inv .2 (c .before .before .before .before .before .before .before .before .before .loop-test .taken) (sym (c .before .before .before .before .before .before .before .before .entry .ensures) ∙ z) in omega arith
 
-cast-entry : tie.Need-cast-entry Inv-loop μ-loop
-cast-entry c = search needs
+cast-pair : tie.Need-cast-pair Inv-loop μ-loop
+cast-pair c = search needs
 
-mul-entry : tie.Need-mul-entry Inv-loop μ-loop
-mul-entry c = search needs
+mul-pair : tie.Need-mul-pair Inv-loop μ-loop
+mul-pair c = search needs
 
-add-entry : tie.Need-add-entry Inv-loop μ-loop
-add-entry c = search needs
+add-pair : tie.Need-add-pair Inv-loop μ-loop
+add-pair c = search needs
 
-entry-requires-2 : tie.Need-entry-requires-2 Inv-loop μ-loop
-entry-requires-2 c κs = search needs
+pair-requires : tie.Need-pair-requires Inv-loop μ-loop
+pair-requires c κs = search needs
 
 cast-most : tie.Need-cast-most Inv-loop μ-loop
 cast-most c = search needs
@@ -84,7 +85,7 @@ loop-again c =
       wrote-long w ∙ wrote-long v ∙ l .inv .0,
       n .0,
       n .1,
-      rest-same (rest-on _ (rest-on _ (l .inv .3) (gap-call _ _ _ _ _ t (sym k) (λ z. l .inv .2 t (sym k ∙ z)) _ _ (c .before .before .entry2 .ensures) (c .before .most .ensures)) v) refl w) (gap-next _ _ _ _ _ (omega arith) e),
+      rest-same (rest-on _ (rest-on _ (l .inv .3) (gap-call _ _ _ _ _ t (sym k) (λ z. l .inv .2 t (sym k ∙ z)) _ _ (c .before .before .pair .ensures) (c .before .most .ensures)) v) refl w) (gap-next _ _ _ _ _ (omega arith) e),
     )
 
 put-part-requires-2 : tie.Need-put-part-requires-2 Inv-loop μ-loop
@@ -109,11 +110,11 @@ put-spliced-spec =
     put-part-requires
     sub-put-call
     put-call-requires
-    sub-entry
-    cast-entry
-    mul-entry
-    add-entry
-    entry-requires-2
+    sub-pair
+    cast-pair
+    mul-pair
+    add-pair
+    pair-requires
     cast-most
     add-most
     most-requires

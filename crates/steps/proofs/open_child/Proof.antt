@@ -33,7 +33,7 @@ same-4 : tie.Need-same-length-4
 same-4 c = c .before .before .before .before .before .before .before .before .before .before .before .before .before .before .spare .given
 
 same-5 : tie.Need-same-length-5
-same-5 c = c .before .before .before .before .before .before .before .before .before .before .before .before .made .given
+same-5 c = c .before .before .before .before .before .before .before .before .before .before .before .before .sheet .given
 
 same-6 : tie.Need-same-length-6
 same-6 c = c .before .before .before .before .before .before .before .before .before .before .places .given
@@ -45,7 +45,7 @@ same-8 : tie.Need-same-length-8
 same-8 c = c .before .before .before .before .before .before .hints .given
 
 same-9 : tie.Need-same-length-9
-same-9 c = c .before .before .before .before .sheet .given
+same-9 c = c .before .before .before .before .number .given
 
 returns : tie.Need-returns
 returns c = (child-refused (c .before .before .before .before .before .before .before .before .before .before .before .before .before .before .before .before .before .before .before .before .before .before .before .before .before .before .before .before .before .before .before .before .before .before .before .before .before .before .before .before .before .before .before .before .before .before .before .before .pre .0 .source) (end-past _ _ (c .before .before .before .before .before .before .before .before .before .before .before .before .before .before .before .before .before .before .before .before .before .before .before .before .before .before .before .before .before .before .before .before .before .before .before .end-of .ensures) (c .before .before .before .before .before .before .before .before .before .before .before .before .before .before .before .before .before .before .before .before .before .before .before .before .before .before .before .before .before .before .before .before .before .before .combinator-past .ensures)) (sym (c .before .before .before .before .before .before .before .before .before .before .before .before .before .before .before .before .before .before .before .before .before .before .before .before .before .before .before .before .before .before .before .before .before .contains-anonymous-format .ensures) ∙ c .before .before .before .before .before .before .before .before .before .before .before .before .before .before .before .before .before .before .before .before .before .before .before .before .before .before .before .before .before .before .before .before .if1 .taken) (c .before .before .before .before .before .before .before .before .before .before .before .before .before .before .before .before .before .before .before .before .before .lift-anonymous-combinator .ensures .0) _ (c .before .named .given .1), c .before .before .before .before .before .before .before .before .before .before .before .before .before .before .before .before .before .before .before .before .before .lift-anonymous-combinator .ensures .1)
@@ -66,7 +66,7 @@ same-13 : tie.Need-same-length-13
 same-13 c = c .before .before .before .before .before .before .before .before .before .before .before .before .before .before .before .spare .given
 
 same-14 : tie.Need-same-length-14
-same-14 c = c .before .before .before .before .before .before .before .before .before .before .before .before .before .made .given
+same-14 c = c .before .before .before .before .before .before .before .before .before .before .before .before .before .sheet .given
 
 same-15 : tie.Need-same-length-15
 same-15 c = c .before .before .before .before .before .before .before .before .before .before .before .places .given
@@ -78,7 +78,7 @@ same-17 : tie.Need-same-length-17
 same-17 c = c .before .before .before .before .before .before .before .hints .given
 
 same-18 : tie.Need-same-length-18
-same-18 c = c .before .before .before .before .before .sheet .given
+same-18 c = c .before .before .before .before .before .number .given
 
 returns-2 : tie.Need-returns-2
 returns-2 c = (child-lifted (c .before .before .before .before .before .before .before .before .before .before .before .before .before .before .before .before .before .before .before .before .before .before .before .before .before .before .before .before .before .before .before .before .before .before .before .before .before .before .before .before .before .before .before .before .before .before .before .before .before .pre .0 .source) (end-past _ _ (c .before .before .before .before .before .before .before .before .before .before .before .before .before .before .before .before .before .before .before .before .before .before .before .before .before .before .before .before .before .before .before .before .before .before .before .before .end-of .ensures) (c .before .before .before .before .before .before .before .before .before .before .before .before .before .before .before .before .before .before .before .before .before .before .before .before .before .before .before .before .before .before .before .before .before .before .before .combinator-past .ensures)) (sym (c .before .before .before .before .before .before .before .before .before .before .before .before .before .before .before .before .before .before .before .before .before .before .before .before .before .before .before .before .before .before .before .before .before .before .contains-anonymous-format .ensures) ∙ c .before .before .before .before .before .before .before .before .before .before .before .before .before .before .before .before .before .before .before .before .before .before .before .before .before .before .before .before .before .before .before .before .before .if1 .taken) (c .before .before .before .before .before .before .before .before .before .before .before .before .before .before .before .before .before .before .before .before .before .before .lift-anonymous-combinator .ensures .0) (c .before .before .named2 .given .1) refl (c .open-node .ensures) (c .before .before .before .before .before .before .before .before .before .before .before .before .before .before .before .before .before .before .before .before .before .path .given), c .before .before .before .before .before .before .before .before .before .before .before .before .before .before .before .before .before .before .before .before .before .before .lift-anonymous-combinator .ensures .1)
