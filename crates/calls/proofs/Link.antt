@@ -23,7 +23,7 @@ use Rattle.marks.specs.Steps.{State, callAt}
 use Rattle.walk.specs.Steps.{walk, moved, entered, silent, back}
 use Rattle.calls.specs.Walk.{times, fieldAt, caseBy, caseAt, wrapBy, arrayBy, macroBy, combinatorAt, argumentAt, innerAt, skipAt}
 use Rattle.pieces.specs.Pieces.{Piece, call, macro-call, pieces, piecesI, piecesF, piecesC, places}
-use Rattle.calls.specs.Walked.{Walked, Skipped}
+use Rattle.calls.specs.Walked.{Walked, Gone, Skipped}
 use Rattle.laws.proofs.Splits.{s-name, s-text, s-len, s-selector, s-label, s-comb, s-inner}
 use Rattle.calls.proofs.Steps.{many-is, field-is, const-is, choice-is, inner-4, inner-5, inner-7, inner-8, inner-9, inner-10, inner-12, inner-15, inner-16, inner-leaf, chained-is, tail-plain, tail-chain, combinator-suc, argument-suc, times-zero, times-suc}
 use Rattle.calls.proofs.Over.{deepest, Over, stay, skip, enter, shut, up, chain, then, mark}
@@ -244,23 +244,19 @@ module _ (s : List ℕ) (short : length s ≤ 65535) where
     overA (inner i f) = argument-walks s i f (overI i) (overA f)
 
   -- a combinator
-  pub walked : (c : Combinator) (k : ℕ) → levels c ≤ k → (w : Walk) (m z : List ℕ) → Here s (w .at) (wCombinator c z) → w .n + length (places (w .at) (pieces c [])) ≤ length m
-      → Walked s c k z w m (combinatorAt k s w m .0) (combinatorAt k s w m .1)
+  pub gone : (c : Combinator) (k : ℕ) → levels c ≤ k → (w : Walk) (m z : List ℕ) → Here s (w .at) (wCombinator c z) → w .n ≤ length m → Gone s c k z w m (combinatorAt k s w m .0) (combinatorAt k s w m .1)
   unfolding size places
-  walked c k h w m z e room =
+  gone c k h w m z e room =
       let o = over c k h w m z e in
       let e′ : Here s (w .at) (wCombinator c [] ++ z) = rw (← (s-comb c [] z)) e in
       let f : places (w .at) (pieces c []) ≡ o .found = o .splits [] ∙ append-nil (o .found) in
-      let r : w .n + length (o .found) ≤ length m = rw (← f) room in
-      let t = o .marks (omega arith) in
-      record {
-        place = place (wCombinator c []) e′ (o .rest);
-        rest = o .rest;
-        deep = o .left;
-        chains = o .plain;
-        count = rw f (place-fits t r);
-        marks = rw f (t .holds);
-      }
+      record { place = place (wCombinator c []) e′ (o .rest); rest = o .rest; deep = o .left; chains = o .plain; wrote = rw f (o .marks (omega arith)) }
+
+  pub walked : (c : Combinator) (k : ℕ) → levels c ≤ k → (w : Walk) (m z : List ℕ) → Here s (w .at) (wCombinator c z) → w .n + length (places (w .at) (pieces c [])) ≤ length m
+      → Walked s c k z w m (combinatorAt k s w m .0) (combinatorAt k s w m .1)
+  walked c k h w m z e room =
+      let g = gone c k h w m z e (omega arith) in
+      record { place = g .place; rest = g .rest; deep = g .deep; chains = g .chains; count = place-fits (g .wrote) room; marks = g .wrote .holds }
 
   -- an inner with nothing recorded
   pub skipped : (i : Inner) (k : ℕ) → levelsI i ≤ k → (w : Walk) (m z : List ℕ) → Here s (w .at) (wInner i z) → Skipped s i k z w m (skipAt k s w m .0) (skipAt k s w m .1)

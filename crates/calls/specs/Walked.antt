@@ -9,7 +9,7 @@ use Rattle.definition.specs.Write.{wInner}
 use Rattle.definition.specs.Size.{size, levels, levelsI}
 use Rattle.definition.specs.Bodies.{chainsOk}
 use Rattle.seek.specs.Here.{Here}
-use Rattle.writer.specs.Buf.{put}
+use Rattle.writer.specs.Buf.{put, Wrote}
 use Rattle.walk.specs.declared.Walk.{Walk}
 use Rattle.pieces.specs.Pieces.{pieces, places}
 
@@ -21,6 +21,14 @@ pub record Walked (s : List ℕ) (c : Combinator) (k : ℕ) (z : List ℕ) (w : 
   pub chains : g .plain ≡ w .plain && chainsOk c
   pub count : g .n ≡ w .n + length (places (w .at) (pieces c []))
   pub marks : l ≡ put m (w .n) (places (w .at) (pieces c []))
+
+-- the same with a row of any length: what has no room is not recorded, and the count is then one past the row's end
+pub record Gone (s : List ℕ) (c : Combinator) (k : ℕ) (z : List ℕ) (w : Walk) (m : List ℕ) (g : Walk) (l : List ℕ) : Type 0 where
+  pub place : g .at ≡ w .at + size c
+  pub rest : Here s (g .at) z
+  pub deep : g .left ≡ min (w .left) (k - levels c)
+  pub chains : g .plain ≡ w .plain && chainsOk c
+  pub wrote : Wrote m (w .n) (places (w .at) (pieces c [])) l (g .n)
 
 -- the same over an inner with nothing recorded
 pub record Skipped (s : List ℕ) (i : Inner) (k : ℕ) (z : List ℕ) (w : Walk) (m : List ℕ) (g : Walk) (l : List ℕ) : Type 0 where

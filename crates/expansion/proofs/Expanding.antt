@@ -84,9 +84,9 @@ module _ {ms : List Macro} {s marks : List ℕ} {i x : ℕ} {ps : List Piece} {z
       ∙ ap (λ (l : List ℕ). front l (expanded ms (n .rest) [])) (sym on)
 
 -- over a call that is replaced
-module _ {macros pl hs : List ℕ} {rows : ℕ} {book marks areas row out : List ℕ} {o i : ℕ} (copied : ℕ) {def : ℕ} (mo : MacroOf book (getD marks i 0) macros pl hs rows (At def)) {out₁ out₂ : List ℕ} {q o₂ : ℕ}
-    (w : Wrote out o (part copied (getD marks i 0) book) out₁ q) (ca : Called macros def book (getD marks i 0) areas row out₁ q out₂ o₂) where
-  module _ (ar : Areas macros book areas row) {ms : List Macro} (rs : Rows macros pl hs rows ms) {x : ℕ} {ps : List Piece} {z : List ℕ} (n : Next ms book marks i x ps z) where
+module _ {macros pl hs : List ℕ} {rows : ℕ} {book marks areas out : List ℕ} {o i : ℕ} (copied : ℕ) {def : ℕ} (mo : MacroOf book (getD marks i 0) macros pl hs rows (At def)) {out₁ out₂ : List ℕ} {q o₂ : ℕ}
+    (w : Wrote out o (part copied (getD marks i 0) book) out₁ q) (ca : Called macros def book (getD marks i 0) areas out₁ q out₂ o₂) where
+  module _ (ar : Areas macros book areas) {ms : List Macro} (rs : Rows macros pl hs rows ms) {x : ℕ} {ps : List Piece} {z : List ℕ} (n : Next ms book marks i x ps z) where
     -- the inner of the instance is written
     wrote-inner : (v : Replaced macros ms (n .met) def) → Puts out₁ q (instance (v .known .params) (v .args) (v .known .body) >>= λ c. done (wInner (innerOf c) [])) out₂ o₂
     unfolding levels
@@ -107,9 +107,9 @@ module _ {macros pl hs : List ℕ} {rows : ℕ} {book marks areas row out : List
         let v = mo .says ms rs (n .met) (written invocation (n .rest) z) (n .is-call) (n .here) in
         omega (arith, puts-most out₁ out₂ q o₂ (instance (v .known .params) (v .args) (v .known .body) >>= λ c. done (wInner (innerOf c) [])) (wrote-inner v))
 
-module _ {macros pl hs : List ℕ} {rows : ℕ} {book : List ℕ} {to : ℕ} {marks areas row out : List ℕ} {copied o i : ℕ} where
+module _ {macros pl hs : List ℕ} {rows : ℕ} {book : List ℕ} {to : ℕ} {marks areas out : List ℕ} {copied o i : ℕ} where
   -- the end
-  pub expanding-all : length marks ≤ i + 1 → {out′ : List ℕ} {r : ℕ} → Wrote out o (part copied to book) out′ r → Expanding macros pl hs rows book to marks areas row out copied o i out′ r
+  pub expanding-all : length marks ≤ i + 1 → {out′ : List ℕ} {r : ℕ} → Wrote out o (part copied to book) out′ r → Expanding macros pl hs rows book to marks areas out copied o i out′ r
   unfolding places written rewritten
   expanding-all k {out′} {r} w = record { says = λ ar ms rs x ps z h c m f dp. last ms ps x z h c m f }
     where
@@ -124,8 +124,8 @@ module _ {macros pl hs : List ℕ} {rows : ℕ} {book : List ℕ} {to : ℕ} {ma
 
   module _ (k : i + 1 < length marks) where
     -- a call that stays
-    pub expanding-on : MacroOf book (getD marks i 0) macros pl hs rows Unknown → {out′ : List ℕ} {r : ℕ} → Expanding macros pl hs rows book to marks areas row out copied o (i + 2) out′ r
-        → Expanding macros pl hs rows book to marks areas row out copied o i out′ r
+    pub expanding-on : MacroOf book (getD marks i 0) macros pl hs rows Unknown → {out′ : List ℕ} {r : ℕ} → Expanding macros pl hs rows book to marks areas out copied o (i + 2) out′ r
+        → Expanding macros pl hs rows book to marks areas out copied o i out′ r
     expanding-on mo e = record {
       says = λ ar ms rs x ps z h c m f dp.
           let n = next-of ms book marks i k z ps x h m dp in
@@ -134,21 +134,21 @@ module _ {macros pl hs : List ℕ} {rows : ℕ} {book : List ℕ} {to : ℕ} {ma
     }
 
     module _ {def : ℕ} (mo : MacroOf book (getD marks i 0) macros pl hs rows (At def)) {out₁ out₂ : List ℕ} {q o₂ : ℕ} (w : Wrote out o (part copied (getD marks i 0) book) out₁ q)
-        (ca : Called macros def book (getD marks i 0) areas row out₁ q out₂ o₂) (l : length out₂ ≡ length out₁) where
+        (ca : Called macros def book (getD marks i 0) areas out₁ q out₂ o₂) (l : length out₂ ≡ length out₁) where
       -- a call that is replaced
-      pub expanding-call : {areas₁ row₁ : List ℕ} → length areas₁ ≡ length areas → length row₁ ≡ length row → {out′ : List ℕ} {r : ℕ}
-          → Expanding macros pl hs rows book to marks areas₁ row₁ out₂ (getD marks (i + 1) 0) o₂ (i + 2) out′ r → Expanding macros pl hs rows book to marks areas row out copied o i out′ r
-      expanding-call la lr {out′} {r} e = record {
+      pub expanding-call : {areas₁ : List ℕ} → length areas₁ ≡ length areas → {out′ : List ℕ} {r : ℕ}
+          → Expanding macros pl hs rows book to marks areas₁ out₂ (getD marks (i + 1) 0) o₂ (i + 2) out′ r → Expanding macros pl hs rows book to marks areas out copied o i out′ r
+      expanding-call la {out′} {r} e = record {
         says = λ ar ms rs x ps z h c m f dp.
             let n = next-of ms book marks i k z ps x h m dp in
-            let ar₁ : Areas macros book _ _ = record { macros-short = ar .macros-short; book-short = ar .book-short; areas-long = la ∙ ar .areas-long; marks-long = lr ∙ ar .marks-long } in
+            let ar₁ : Areas macros book _ = record { macros-short = ar .macros-short; book-short = ar .book-short; areas-long = la ∙ ar .areas-long } in
             let p = e .says ar₁ ms rs (getD marks (i + 1) 0) (n .rest) z (next-here n) (omega arith) (n .are) (f ∙ n .ends) (n .deeps) in
             let g : front (part (getD marks (i + 1) 0) (getD marks (i + 1) 0) book) (expanded ms (n .rest) []) ≡ expanded ms (n .rest) [] = rw (part-none (getD marks (i + 1) 0) book) (front-none (expanded ms (n .rest) [])) in
             replaced copied mo w ca ar rs n l c out′ r (rw g at p);
       }
 
       -- and that leaves no room
-      pub expanding-stop : length out₂ < o₂ → Expanding macros pl hs rows book to marks areas row out copied o i out₂ o₂
+      pub expanding-stop : length out₂ < o₂ → Expanding macros pl hs rows book to marks areas out copied o i out₂ o₂
       expanding-stop g = record {
         says = λ ar ms rs x ps z h c m f dp.
             let n = next-of ms book marks i k z ps x h m dp in
@@ -161,4 +161,4 @@ pub record Going (macros pl hs : List ℕ) (rows : ℕ) (book : List ℕ) (to : 
   pub areas-long : length areas ≡ length areas₀
   pub row-long : length row ≡ length row₀
   pub out-long : length out ≡ length out₀
-  pub goes : (out′ : List ℕ) (r : ℕ) → Expanding macros pl hs rows book to marks areas row out copied o i out′ r → Expanding macros pl hs rows book to marks areas₀ row₀ out₀ copied₀ o₀ i₀ out′ r
+  pub goes : (out′ : List ℕ) (r : ℕ) → Expanding macros pl hs rows book to marks areas out copied o i out′ r → Expanding macros pl hs rows book to marks areas₀ out₀ copied₀ o₀ i₀ out′ r

@@ -45,6 +45,6 @@ abbrev pub front : List ℕ → Out (List ℕ) → Out (List ℕ)
 front b t = t >>= λ r. done (b ++ r)
 
 -- rule 2: the pieces that are left stand from some place on, up to `to`; what stands from `copied` up to there is not copied yet
-pub record Expanding (macros pl hs : List ℕ) (rows : ℕ) (book : List ℕ) (to : ℕ) (marks areas row out : List ℕ) (copied o i : ℕ) (out′ : List ℕ) (r : ℕ) : Type 0 where
-  pub says : Areas macros book areas row → (ms : List Macro) → Rows macros pl hs rows ms → (x : ℕ) (ps : List Piece) (z : List ℕ) → Here book x (written invocation ps z) → copied ≤ x
+pub record Expanding (macros pl hs : List ℕ) (rows : ℕ) (book : List ℕ) (to : ℕ) (marks areas out : List ℕ) (copied o i : ℕ) (out′ : List ℕ) (r : ℕ) : Type 0 where
+  pub says : Areas macros book areas → (ms : List Macro) → Rows macros pl hs rows ms → (x : ℕ) (ps : List Piece) (z : List ℕ) → Here book x (written invocation ps z) → copied ≤ x
       → drop i marks ≡ places x ps → to ≡ x + length (written invocation ps []) → DeepP ps → Puts out o (front (part copied x book) (expanded ms ps [])) out′ r

@@ -43,7 +43,7 @@ pub fn expand_macros_in_combinator(
     out: &mut [u8],
     start: usize,
 ) -> usize
-    ensures { λ r. ⌜ Expanding (now (macros .entry)) (now (places .entry)) (now (ways .entry)) rows (now (book .entry)) to (now (marks .entry)) (now (areas .entry)) (now (row .entry)) (now (out .entry)) from start 0 (now (out .exit)) r ⌝ }
+    ensures { λ r. ⌜ Expanding (now (macros .entry)) (now (places .entry)) (now (ways .entry)) rows (now (book .entry)) to (now (marks .entry)) (now (areas .entry)) (now (out .entry)) from start 0 (now (out .exit)) r ⌝ }
 {
     let mut copied = from;
     let mut o = start;

@@ -37,7 +37,7 @@ next-word n i k = rw (next-byte n i (i + 1) refl (omega arith), next-byte n (i +
 
 pub words-on : (n : Name) (i g h : ℕ) → i + 4 ≤ length n → hashOf n ≡ hashFrom g h (drop i n)
     → hashOf n ≡ hashFrom (mixed g (getD n i 0 + 256 * getD n (i + 1) 0 + 65536 * (getD n (i + 2) 0 + 256 * getD n (i + 2 + 1) 0)))
-        (spread h (getD n i 0 + 256 * getD n (i + 1) 0 + 65536 * (getD n (i + 2) 0 + 256 * getD n (i + 2 + 1) 0))) (drop (i + 4) n)
+    (spread h (getD n i 0 + 256 * getD n (i + 1) 0 + 65536 * (getD n (i + 2) 0 + 256 * getD n (i + 2 + 1) 0))) (drop (i + 4) n)
 words-on n i g h k e =
     rw (← (third i)) (e ∙ ap (hashFrom g h) (next-word n i k) ∙ word-more g h (getD n i 0) (getD n (i + 1) 0) (getD n (i + 2) 0) (getD n (i + 3) 0) (drop (i + 4) n))
 

@@ -75,11 +75,11 @@ format-apart n ps c z = rw (s-list wParam s-param ps [] (wCombinator c z)) (s-na
 part-upto : {s : List ℕ} {p q : ℕ} (b z : List ℕ) → Here s p (b ++ z) → Here s q z → part p q s ≡ b
 part-upto b z h k = rw (place b h k) (part-here b z h)
 
-module _ {macros pl hs : List ℕ} {rows : ℕ} {book : List ℕ} {at : ℕ} {areas marks row out : List ℕ} {o : ℕ} {params body : ℕ} (ep : params ≡ namePast book at) (pp : ParamsPast book params body)
+module _ {macros pl hs : List ℕ} {rows : ℕ} {book : List ℕ} {at : ℕ} {areas marks out : List ℕ} {o : ℕ} {params body : ℕ} (ep : params ≡ namePast book at) (pp : ParamsPast book params body)
     {out₁ : List ℕ} {q : ℕ} (wo : Wrote out o (part at body book) out₁ q) (m₁ : List ℕ) (lm : length m₁ ≡ length marks) (w : Walk) {m₂ : List ℕ} (hw : w ≡ combinatorAt 64 book (walk body 0 64 true) m₁ .0)
-    (hm : m₂ ≡ combinatorAt 64 book (walk body 0 64 true) m₁ .1) {fm : List ℕ} (ef : fm ≡ take (w .n) m₂) {out₂ : List ℕ} {r : ℕ} (ex : Expanding macros pl hs rows book (w .at) fm areas row out₁ body q 0 out₂ r)
+    (hm : m₂ ≡ combinatorAt 64 book (walk body 0 64 true) m₁ .1) {fm : List ℕ} (ef : fm ≡ take (w .n) m₂) {out₂ : List ℕ} {r : ℕ} (ex : Expanding macros pl hs rows book (w .at) fm areas out₁ body q 0 out₂ r)
     (lo : length out₂ ≡ length out₁) where
-  module _ {ms : List Macro} (wh : Whole macros pl hs rows book areas marks row out ms) (n : Name) (ps : List Param) (c : Combinator) (z : List ℕ) (h : Here book at (wDefinition (format n ps c) z))
+  module _ {ms : List Macro} (wh : Whole macros pl hs rows book areas marks out ms) (n : Name) (ps : List Param) (c : Combinator) (z : List ℕ) (h : Here book at (wDefinition (format n ps c) z))
       (dp : levelsP ps ≤ 64) (dc : levels c ≤ 64) where
     body-here : Here book body (wCombinator c z)
     unfolding wDefinition
@@ -121,7 +121,7 @@ module _ {macros pl hs : List ℕ} {rows : ℕ} {book : List ℕ} {at : ℕ} {ar
       → ((n : Name) (ps : List Param) (d : Combinator) → levels d ≤ 127 → Wrote out₁ q (wCombinator d []) out₂ r → Wrote out o (wDefinition (format n ps d) []) out₂ r
       → ((m₃ : List ℕ) → length m₃ ≡ length marks → (v : Walk) → r ≤ length out₂ → v ≡ combinatorAt 129 out₂ (walk q 0 129 true) m₃ .0 → v .left ≡ min 129 (129 - levels d))
       → Puts out o (shallow d >>= λ e. done (wDefinition (format n ps e) [])) out′ r′)
-      → Formatted macros pl hs rows book at areas marks row out o out′ r′
+      → Formatted macros pl hs rows book at areas marks out o out′ r′
   unfolding expandOne shallow
   by-body out′ r′ f g = record { says = λ ms wh n ps c z h dp dc. go wh n ps c z h dp dc (expand c ms) refl (got wh n ps c z h dp dc) }
     where
@@ -130,14 +130,14 @@ module _ {macros pl hs : List ℕ} {rows : ℕ} {book : List ℕ} {at : ℕ} {ar
       flat true n ps d p = p
       flat false n ps d p = p
 
-      go : {ms : List Macro} (wh : Whole macros pl hs rows book areas marks row out ms) (n : Name) (ps : List Param) (c : Combinator) (z : List ℕ) (h : Here book at (wDefinition (format n ps c) z)) (dp : levelsP ps ≤ 64) (dc : levels c ≤ 64)
+      go : {ms : List Macro} (wh : Whole macros pl hs rows book areas marks out ms) (n : Name) (ps : List Param) (c : Combinator) (z : List ℕ) (h : Here book at (wDefinition (format n ps c) z)) (dp : levelsP ps ≤ 64) (dc : levels c ≤ 64)
           → (x : Out Combinator) → expand c ms ≡ x → Puts out₁ q (x >>= λ d. done (wCombinator d [])) out₂ r → Puts out o (expandOne (format n ps c) ms >>= λ e. done (wDefinition e [])) out′ r′
       go wh n ps c z h dp dc (refused k) e p = rw e (f p)
       go wh n ps c z h dp dc (done d) e p =
           let dd = deep wh n ps c z h dp dc d e in
           rw e (flat (leb (levels d) 64) n ps d (g n ps d dd p (both wh n ps c z h dp dc d p) (λ m₃ l v k hv. left-is wh n ps c z h dp dc d dd p k m₃ l v hv)))
 
-  pub formatted-cut : length out₂ < r → Formatted macros pl hs rows book at areas marks row out o out₂ r
+  pub formatted-cut : length out₂ < r → Formatted macros pl hs rows book at areas marks out o out₂ r
   unfolding shallow
   formatted-cut k = by-body out₂ r (λ e. e ∙ ap suc (same-length wo)) (λ n ps d dd wd wf le. by-level (leb (levels d) 64) n ps d wd wf)
     where
@@ -147,10 +147,10 @@ module _ {macros pl hs : List ℕ} {rows : ℕ} {book : List ℕ} {at : ℕ} {ar
       by-level false n ps d wd wf = omega (arith, place-is wd, lo, same-length wo)
 
   module _ (k : r ≤ length out₂) (m₃ : List ℕ) (lm₃ : length m₃ ≡ length marks) (v : Walk) (hv : v ≡ combinatorAt 129 out₂ (walk q 0 129 true) m₃ .0) where
-    pub formatted-deep : v .left < 65 → {x : ℕ} → x ≡ suc (length out₂) → Formatted macros pl hs rows book at areas marks row out o out₂ x
+    pub formatted-deep : v .left < 65 → {x : ℕ} → x ≡ suc (length out₂) → Formatted macros pl hs rows book at areas marks out o out₂ x
     unfolding shallow
     formatted-deep l {x} e = by-body out₂ x (λ f. e ∙ ap suc (lo ∙ same-length wo)) (λ n ps d dd wd wf le. rw (lt-leb (levels d) 64 (omega (arith, le m₃ lm₃ v k hv))) (e ∙ ap suc (lo ∙ same-length wo)))
 
-    pub formatted-done : 65 ≤ v .left → Formatted macros pl hs rows book at areas marks row out o out₂ r
+    pub formatted-done : 65 ≤ v .left → Formatted macros pl hs rows book at areas marks out o out₂ r
     unfolding shallow
     formatted-done l = by-body out₂ r (λ e. e ∙ ap suc (same-length wo)) (λ n ps d dd wd wf le. rw (le-leb (levels d) 64 (omega (arith, le m₃ lm₃ v k hv))) wf)

@@ -32,19 +32,19 @@ use Rattle.pieces.proofs.Marked.{part-here}
 use Rattle.contents.proofs.Listed.{past-is, listed-kind, listed-size, listed-body, listed-deep, entries-size, all-left, next-left, no-more, some-more}
 
 -- one definition
-module _ {kind size : ℕ} {macros pl hs : List ℕ} {rows : ℕ} {book : List ℕ} {at : ℕ} {areas marks row out : List ℕ} {o : ℕ} {out′ : List ℕ} {r : ℕ} where
-  pub kept-format : kind ≡ 1 → Formatted macros pl hs rows book at areas marks row out o out′ r → Kept kind size macros pl hs rows book at areas marks row out o out′ r
+module _ {kind size : ℕ} {macros pl hs : List ℕ} {rows : ℕ} {book : List ℕ} {at : ℕ} {areas marks out : List ℕ} {o : ℕ} {out′ : List ℕ} {r : ℕ} where
+  pub kept-format : kind ≡ 1 → Formatted macros pl hs rows book at areas marks out o out′ r → Kept kind size macros pl hs rows book at areas marks out o out′ r
   unfolding kindByte kindOf levelsBook
   kept-format e f = record { says = λ ms wh d z h k n s l. go ms wh d z h k l }
     where
-      go : (ms : List Macro) → Whole macros pl hs rows book areas marks row out ms → (d : Definition) (z : List ℕ) → Here book at (wDefinition d z) → kind ≡ kindByte (kindOf d) → levelsBook (d ∷ []) ≤ 64
+      go : (ms : List Macro) → Whole macros pl hs rows book areas marks out ms → (d : Definition) (z : List ℕ) → Here book at (wDefinition d z) → kind ≡ kindByte (kindOf d) → levelsBook (d ∷ []) ≤ 64
           → Puts out o (expandOne d ms >>= λ x. done (wDefinition x [])) out′ r
       go ms wh (format n ps c) z h k l = f .says ms wh n ps c z h (omega arith) (omega arith)
       go ms wh (constant n x) z h k l = absurd (omega arith)
       go ms wh (byte-order x) z h k l = absurd (omega arith)
       go ms wh (macro n ps c) z h k l = absurd (omega arith)
 
-  pub kept-copied : (kind ≡ 1 → ⊥) → {end : ℕ} → end ≡ pastAt book at size → Wrote out o (part at end book) out′ r → Kept kind size macros pl hs rows book at areas marks row out o out′ r
+  pub kept-copied : (kind ≡ 1 → ⊥) → {end : ℕ} → end ≡ pastAt book at size → Wrote out o (part at end book) out′ r → Kept kind size macros pl hs rows book at areas marks out o out′ r
   unfolding kindByte kindOf expandOne sizeOf
   kept-copied f {end} e w = record { says = λ ms wh d z h k n s l. go ms d z h k n s }
     where
@@ -201,13 +201,13 @@ kept-count (byte-order x ∷ ds) ms = and-one (expandOne (byte-order x) ms) (sha
 kept-count (macro n ps c ∷ ds) ms = kept-count ds ms
 
 -- the first of those that are left
-first : {kind size : ℕ} {macros pl hs : List ℕ} {rows : ℕ} {book areas marks row out : List ℕ} {o : ℕ} {out₁ : List ℕ} {r₁ : ℕ} {d : Definitions}
-    → Kept kind size macros pl hs rows book (d .at) areas marks row out o out₁ r₁ → kind ≡ byteAt book (d .entry) → size ≡ numberAt book (pastAt book (d .entry) 4) → (kind ≡ 4 → ⊥)
-    → (ms : List Macro) → Whole macros pl hs rows book areas marks row out ms → {x : Definition} {ds : List Definition} → Left book d (x ∷ ds) → Puts out o (expandOne x ms >>= λ y. done (wDefinition y [])) out₁ r₁
+first : {kind size : ℕ} {macros pl hs : List ℕ} {rows : ℕ} {book areas marks out : List ℕ} {o : ℕ} {out₁ : List ℕ} {r₁ : ℕ} {d : Definitions}
+    → Kept kind size macros pl hs rows book (d .at) areas marks out o out₁ r₁ → kind ≡ byteAt book (d .entry) → size ≡ numberAt book (pastAt book (d .entry) 4) → (kind ≡ 4 → ⊥)
+    → (ms : List Macro) → Whole macros pl hs rows book areas marks out ms → {x : Definition} {ds : List Definition} → Left book d (x ∷ ds) → Puts out o (expandOne x ms >>= λ y. done (wDefinition y [])) out₁ r₁
 first kp hk hz f ms wh {x} l = let i = l .listed in kp .says ms wh x _ (listed-body i) (hk ∙ listed-kind i) f (hz ∙ listed-size i) (listed-deep i)
 
-module _ {macros pl hs : List ℕ} {rows : ℕ} {book areas marks row out : List ℕ} {d : Definitions} {e o : ℕ} where
-  pub listing-none : d .left ≤ 0 → Listing macros pl hs rows book areas marks row out d e o out o
+module _ {macros pl hs : List ℕ} {rows : ℕ} {book areas marks out : List ℕ} {d : Definitions} {e o : ℕ} where
+  pub listing-none : d .left ≤ 0 → Listing macros pl hs rows book areas marks out d e o out o
   unfolding shallowAll wAll wEntries
   listing-none k = record { says = λ ms wh ds l h ho. none ms ds l ho }
     where
@@ -216,38 +216,38 @@ module _ {macros pl hs : List ℕ} {rows : ℕ} {book areas marks row out : List
       none ms (x ∷ ds) l ho = absurd (no-more k l)
 
   module _ (k : 0 < d .left) {kind : ℕ} (hk : kind ≡ byteAt book (d .entry)) {d₁ : Definitions} (hd : d₁ ≡ nextOf book d) where
-    pub listing-macro : kind ≡ 4 → {out′ : List ℕ} {r : ℕ} → Listing macros pl hs rows book areas marks row out d₁ e o out′ r → Listing macros pl hs rows book areas marks row out d e o out′ r
+    pub listing-macro : kind ≡ 4 → {out′ : List ℕ} {r : ℕ} → Listing macros pl hs rows book areas marks out d₁ e o out′ r → Listing macros pl hs rows book areas marks out d e o out′ r
     listing-macro f {out′} {r} next = record { says = λ ms wh ds l h ho. step ms wh ds l h ho }
       where
-        step : (ms : List Macro) → Whole macros pl hs rows book areas marks row out ms → (ds : List Definition) → Left book d ds → e + 6 * keptOf ds ≤ o → o ≤ length out → Writes out e o (shallowAll ds ms) out′ r
+        step : (ms : List Macro) → Whole macros pl hs rows book areas marks out ms → (ds : List Definition) → Left book d ds → e + 6 * keptOf ds ≤ o → o ≤ length out → Writes out e o (shallowAll ds ms) out′ r
         step ms wh [] l h ho = absurd (some-more k l)
         step ms wh (x ∷ ds) l h ho =
             let s = shallow-macro x ds ms (sym (hk ∙ listed-kind (l .listed)) ∙ f) in
             rw (s .0) (next .says ms wh ds (next-left hd l) (omega (arith, s .1)) ho)
 
-    module _ (f : kind ≡ 4 → ⊥) {size : ℕ} (hz : size ≡ numberAt book (pastAt book (d .entry) 4)) {out₁ : List ℕ} {r₁ : ℕ} (kp : Kept kind size macros pl hs rows book (d .at) areas marks row out o out₁ r₁) (lo : length out₁ ≡ length out) where
-      pub listing-stop : length out₁ < r₁ → Listing macros pl hs rows book areas marks row out d e o out₁ r₁
+    module _ (f : kind ≡ 4 → ⊥) {size : ℕ} (hz : size ≡ numberAt book (pastAt book (d .entry) 4)) {out₁ : List ℕ} {r₁ : ℕ} (kp : Kept kind size macros pl hs rows book (d .at) areas marks out o out₁ r₁) (lo : length out₁ ≡ length out) where
+      pub listing-stop : length out₁ < r₁ → Listing macros pl hs rows book areas marks out d e o out₁ r₁
       listing-stop g = record { says = λ ms wh ds l h ho. step ms wh ds l }
         where
-          step : (ms : List Macro) → Whole macros pl hs rows book areas marks row out ms → (ds : List Definition) → Left book d ds → Writes out e o (shallowAll ds ms) out₁ r₁
+          step : (ms : List Macro) → Whole macros pl hs rows book areas marks out ms → (ds : List Definition) → Left book d ds → Writes out e o (shallowAll ds ms) out₁ r₁
           step ms wh [] l = absurd (some-more k l)
           step ms wh (x ∷ ds) l = rw (shallow-kept x ds ms (λ q. f (hk ∙ listed-kind (l .listed) ∙ q)) .0) (too-long out out₁ o r₁ e (expandOne x ms) (shallowAll ds ms) (first kp hk hz f ms wh l) (omega arith))
 
       pub listing-step : r₁ ≤ length out₁ → {out₂ : List ℕ} {e₂ : ℕ} → Wrote out₁ e (entryBytes kind o (r₁ - o)) out₂ e₂
-          → {areas₁ marks₁ row₁ : List ℕ} → length areas₁ ≡ length areas → length marks₁ ≡ length marks → length row₁ ≡ length row
-          → {out′ : List ℕ} {r : ℕ} → Listing macros pl hs rows book areas₁ marks₁ row₁ out₂ d₁ e₂ r₁ out′ r → Listing macros pl hs rows book areas marks row out d e o out′ r
-      listing-step g {out₂} {e₂} w₂ {areas₁} {marks₁} {row₁} la lm lr {out′} {r} next = record { says = λ ms wh ds l h ho. step ms wh ds l h }
+          → {areas₁ marks₁ : List ℕ} → length areas₁ ≡ length areas → length marks₁ ≡ length marks
+          → {out′ : List ℕ} {r : ℕ} → Listing macros pl hs rows book areas₁ marks₁ out₂ d₁ e₂ r₁ out′ r → Listing macros pl hs rows book areas marks out d e o out′ r
+      listing-step g {out₂} {e₂} w₂ {areas₁} {marks₁} la lm {out′} {r} next = record { says = λ ms wh ds l h ho. step ms wh ds l h }
         where
-          still : (ms : List Macro) → Whole macros pl hs rows book areas marks row out ms → Whole macros pl hs rows book areas₁ marks₁ row₁ out₂ ms
+          still : (ms : List Macro) → Whole macros pl hs rows book areas marks out ms → Whole macros pl hs rows book areas₁ marks₁ out₂ ms
           still ms wh = record {
-            sized = record { macros-short = wh .sized .macros-short; book-short = wh .sized .book-short; areas-long = la ∙ wh .sized .areas-long; marks-long = lr ∙ wh .sized .marks-long };
+            sized = record { macros-short = wh .sized .macros-short; book-short = wh .sized .book-short; areas-long = la ∙ wh .sized .areas-long };
             marks-book = omega (arith, wh .marks-book);
             marks-out = omega (arith, wh .marks-out, same-length w₂);
             out-short = omega (arith, wh .out-short, same-length w₂);
             table = wh .table;
           }
 
-          by-one : (ms : List Macro) → Whole macros pl hs rows book areas marks row out ms → (x : Definition) (ds : List Definition) → Left book d (x ∷ ds) → e + 6 * suc (keptOf ds) ≤ o
+          by-one : (ms : List Macro) → Whole macros pl hs rows book areas marks out ms → (x : Definition) (ds : List Definition) → Left book d (x ∷ ds) → e + 6 * suc (keptOf ds) ≤ o
               → (v : Out Definition) → Yields (λ y. kindOf y ≡ kindOf x) v → Puts out o (v >>= λ y. done (wDefinition y [])) out₁ r₁ → Writes out e o (andOne v (shallowAll ds ms)) out′ r
           by-one ms wh x ds l h (refused c) i p = absurd (omega arith)
           by-one ms wh x ds l h (done y) i p =
@@ -257,14 +257,14 @@ module _ {macros pl hs : List ℕ} {rows : ℕ} {book areas marks row out : List
               (omega (arith, place-2 y (wh .out-short) p (omega arith) w (omega arith), r₁-is y (wh .out-short) p (omega arith) w)) (omega (arith, same-length w₂)) in
               one-more y (wh .out-short) p (omega arith) w (keptOf ds) (shallowAll ds ms) (kept-count ds ms) h out′ r z
 
-          step : (ms : List Macro) → Whole macros pl hs rows book areas marks row out ms → (ds : List Definition) → Left book d ds → e + 6 * keptOf ds ≤ o → Writes out e o (shallowAll ds ms) out′ r
+          step : (ms : List Macro) → Whole macros pl hs rows book areas marks out ms → (ds : List Definition) → Left book d ds → e + 6 * keptOf ds ≤ o → Writes out e o (shallowAll ds ms) out′ r
           step ms wh [] l h = absurd (some-more k l)
           step ms wh (x ∷ ds) l h =
               let s = shallow-kept x ds ms (λ q. f (hk ∙ listed-kind (l .listed) ∙ q)) in
               rw (s .0) (by-one ms wh x ds l (omega (arith, s .1)) (expandOne x ms) (kind-kept x ms) (first kp hk hz f ms wh l))
 
-pub booked : {macros pl hs : List ℕ} {rows : ℕ} {book areas marks row out : List ℕ} {d : Definitions} {o : ℕ} → d ≡ allOf book
-    → {out′ : List ℕ} {r : ℕ} → Listing macros pl hs rows book areas marks row out d 2 o out′ r → Booked macros pl hs rows book areas marks row out o out′ r
+pub booked : {macros pl hs : List ℕ} {rows : ℕ} {book areas marks out : List ℕ} {d : Definitions} {o : ℕ} → d ≡ allOf book
+    → {out′ : List ℕ} {r : ℕ} → Listing macros pl hs rows book areas marks out d 2 o out′ r → Booked macros pl hs rows book areas marks out o out′ r
 booked hd l = record { says = λ ms wh ds e b eo ho. l .says ms wh ds (all-left hd ds e b) (omega arith) ho }
 
 -- the loop over the definitions
@@ -273,4 +273,4 @@ pub record Going (macros pl hs : List ℕ) (rows : ℕ) (book areas₀ marks₀ 
   pub marks-long : length marks ≡ length marks₀
   pub row-long : length row ≡ length row₀
   pub out-long : length out ≡ length out₀
-  pub goes : (out′ : List ℕ) (r : ℕ) → Listing macros pl hs rows book areas marks row out d e o out′ r → Listing macros pl hs rows book areas₀ marks₀ row₀ out₀ d₀ e₀ o₀ out′ r
+  pub goes : (out′ : List ℕ) (r : ℕ) → Listing macros pl hs rows book areas marks out d e o out′ r → Listing macros pl hs rows book areas₀ marks₀ out₀ d₀ e₀ o₀ out′ r

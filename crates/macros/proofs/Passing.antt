@@ -156,9 +156,9 @@ finished out out₂ n o end es e eo w k =
     let c : wBook es ≡ (wU16 n [] ++ E) ++ B = rw (← e, ← p) (book-apart es) in
     (w .0 ∙ z, w .1 ∙ t ∙ rw (c, z))
 
-module _ {lib book out out₁ out₂ pl hs pl₁ hs₁ areas marks row : List ℕ} {rows n o end q : ℕ} (tb : Tabled lib pl hs pl₁ hs₁ rows) (lp : length pl ≡ 512) (lh : length hs ≡ 1280) (cl : Clear hs)
-    (lr : length row ≡ 8192) {k : ℕ} (kp : KeptOf book k) (nk : n ≡ min k 512) (w : Wrote out 0 (wU16 n []) out₁ q) (eo : o ≡ 2 + 6 * n) (ro : o ≤ length out)
-    (bk : Booked lib pl₁ hs₁ rows book areas marks row out₁ o out₂ end) (lo : length out₂ ≡ length out₁) where
+module _ {lib book out out₁ out₂ pl hs pl₁ hs₁ areas marks : List ℕ} {rows n o end q : ℕ} (tb : Tabled lib pl hs pl₁ hs₁ rows) (lp : length pl ≡ 512) (lh : length hs ≡ 1280) (cl : Clear hs)
+    {k : ℕ} (kp : KeptOf book k) (nk : n ≡ min k 512) (w : Wrote out 0 (wU16 n []) out₁ q) (eo : o ≡ 2 + 6 * n) (ro : o ≤ length out)
+    (bk : Booked lib pl₁ hs₁ rows book areas marks out₁ o out₂ end) (lo : length out₂ ≡ length out₁) where
   module _ (ms ds : List Definition) (el : lib ≡ wBook ms) (im : IsBook ms) (eb : book ≡ wBook ds) (id : IsBook ds) (al : length areas ≡ 32768) (ol : length out ≤ 16384) (mb : length book ≤ 2 * length marks) (mo : length out ≤ 2 * length marks) where
     kept : n ≡ keptOf ds
     kept = omega (arith, kp .says ds eb id, kept-few ds, id .few)
@@ -170,7 +170,6 @@ module _ {lib book out out₁ out₂ pl hs pl₁ hs₁ areas marks row : List �
             macros-short = omega (arith, ap length el, size-length ms, im .short);
             book-short = omega (arith, ap length eb, size-length ds, id .short);
             areas-long = al;
-            marks-long = lr;
           };
           marks-book = mb;
           marks-out = omega (arith, same-length w);

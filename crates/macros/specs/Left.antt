@@ -42,20 +42,20 @@ shallowAll (byte-order x ∷ ds) ms = andOne (expandOne (byte-order x) ms) (shal
 shallowAll (macro n ps c ∷ ds) ms = shallowAll ds ms
 
 -- what an expansion of the whole book needs
-pub record Whole (macros pl hs : List ℕ) (rows : ℕ) (book areas marks row out : List ℕ) (ms : List Macro) : Type 0 where
-  pub sized : Areas macros book areas row
+pub record Whole (macros pl hs : List ℕ) (rows : ℕ) (book areas marks out : List ℕ) (ms : List Macro) : Type 0 where
+  pub sized : Areas macros book areas
   -- a combinator of n bytes has at most n / 2 marks
   pub marks-book : length book ≤ 2 * length marks
   pub marks-out : length out ≤ 2 * length marks
   pub out-short : length out ≤ 16384
   pub table : Rows macros pl hs rows ms
 
-pub record Formatted (macros pl hs : List ℕ) (rows : ℕ) (book : List ℕ) (at : ℕ) (areas marks row out : List ℕ) (o : ℕ) (out′ : List ℕ) (r : ℕ) : Type 0 where
-  pub says : (ms : List Macro) → Whole macros pl hs rows book areas marks row out ms → (n : Name) (ps : List Param) (c : Combinator) (z : List ℕ) → Here book at (wDefinition (format n ps c) z)
+pub record Formatted (macros pl hs : List ℕ) (rows : ℕ) (book : List ℕ) (at : ℕ) (areas marks out : List ℕ) (o : ℕ) (out′ : List ℕ) (r : ℕ) : Type 0 where
+  pub says : (ms : List Macro) → Whole macros pl hs rows book areas marks out ms → (n : Name) (ps : List Param) (c : Combinator) (z : List ℕ) → Here book at (wDefinition (format n ps c) z)
       → levelsP ps ≤ 64 → levels c ≤ 64 → Puts out o (expandOne (format n ps c) ms >>= λ e. done (wDefinition e [])) out′ r
 
-pub record Kept (kind size : ℕ) (macros pl hs : List ℕ) (rows : ℕ) (book : List ℕ) (at : ℕ) (areas marks row out : List ℕ) (o : ℕ) (out′ : List ℕ) (r : ℕ) : Type 0 where
-  pub says : (ms : List Macro) → Whole macros pl hs rows book areas marks row out ms → (d : Definition) (z : List ℕ) → Here book at (wDefinition d z)
+pub record Kept (kind size : ℕ) (macros pl hs : List ℕ) (rows : ℕ) (book : List ℕ) (at : ℕ) (areas marks out : List ℕ) (o : ℕ) (out′ : List ℕ) (r : ℕ) : Type 0 where
+  pub says : (ms : List Macro) → Whole macros pl hs rows book areas marks out ms → (d : Definition) (z : List ℕ) → Here book at (wDefinition d z)
       → kind ≡ kindByte (kindOf d) → (kind ≡ 4 → ⊥) → size ≡ sizeOf d → levelsBook (d ∷ []) ≤ 64 → Puts out o (expandOne d ms >>= λ e. done (wDefinition e [])) out′ r
 
 -- the entries stand in out from e on, the bodies from o on, if the bodies fit; else the place is past the end
@@ -68,10 +68,10 @@ Writes out e o (refused k) out′ r = length out < r
 Writes out e o (done es) out′ r = WritesBy out e o es out′ r (leb (o + length (wAll wDefinition es [])) (length out))
 
 -- the definitions that are left
-pub record Listing (macros pl hs : List ℕ) (rows : ℕ) (book areas marks row out : List ℕ) (d : Definitions) (e o : ℕ) (out′ : List ℕ) (r : ℕ) : Type 0 where
-  pub says : (ms : List Macro) → Whole macros pl hs rows book areas marks row out ms → (ds : List Definition) → Left book d ds → e + 6 * keptOf ds ≤ o → o ≤ length out
+pub record Listing (macros pl hs : List ℕ) (rows : ℕ) (book areas marks out : List ℕ) (d : Definitions) (e o : ℕ) (out′ : List ℕ) (r : ℕ) : Type 0 where
+  pub says : (ms : List Macro) → Whole macros pl hs rows book areas marks out ms → (ds : List Definition) → Left book d ds → e + 6 * keptOf ds ≤ o → o ≤ length out
       → Writes out e o (shallowAll ds ms) out′ r
 
-pub record Booked (macros pl hs : List ℕ) (rows : ℕ) (book areas marks row out : List ℕ) (o : ℕ) (out′ : List ℕ) (r : ℕ) : Type 0 where
-  pub says : (ms : List Macro) → Whole macros pl hs rows book areas marks row out ms → (ds : List Definition) → book ≡ wBook ds → IsBook ds → o ≡ 2 + 6 * keptOf ds → o ≤ length out
+pub record Booked (macros pl hs : List ℕ) (rows : ℕ) (book areas marks out : List ℕ) (o : ℕ) (out′ : List ℕ) (r : ℕ) : Type 0 where
+  pub says : (ms : List Macro) → Whole macros pl hs rows book areas marks out ms → (ds : List Definition) → book ≡ wBook ds → IsBook ds → o ≡ 2 + 6 * keptOf ds → o ≤ length out
       → Writes out 2 o (shallowAll ds ms) out′ r

@@ -28,7 +28,7 @@ fn expand_format(
     out: &mut [u8],
     o: usize,
 ) -> usize
-    ensures { λ r. ⌜ Formatted (now (macros .entry)) (now (places .entry)) (now (ways .entry)) rows (now (book .entry)) at (now (areas .entry)) (now (marks .entry)) (now (row .entry)) (now (out .entry)) o (now (out .exit)) r ⌝ }
+    ensures { λ r. ⌜ Formatted (now (macros .entry)) (now (places .entry)) (now (ways .entry)) rows (now (book .entry)) at (now (areas .entry)) (now (marks .entry)) (now (out .entry)) o (now (out .exit)) r ⌝ }
 {
     let params = name_past(book, at);
     let body = params_past(book, params, marks);
@@ -77,7 +77,7 @@ fn expand_definition(
     out: &mut [u8],
     o: usize,
 ) -> usize
-    ensures { λ r. ⌜ Kept kind size (now (macros .entry)) (now (places .entry)) (now (ways .entry)) rows (now (book .entry)) at (now (areas .entry)) (now (marks .entry)) (now (row .entry)) (now (out .entry)) o (now (out .exit)) r ⌝ }
+    ensures { λ r. ⌜ Kept kind size (now (macros .entry)) (now (places .entry)) (now (ways .entry)) rows (now (book .entry)) at (now (areas .entry)) (now (marks .entry)) (now (out .entry)) o (now (out .exit)) r ⌝ }
 {
     if kind == 1 {
         return expand_format(
@@ -111,7 +111,7 @@ pub fn expand_all(
     out: &mut [u8],
     bodies: usize,
 ) -> usize
-    ensures { λ r. ⌜ Booked (now (macros .entry)) (now (places .entry)) (now (ways .entry)) rows (now (book .entry)) (now (areas .entry)) (now (marks .entry)) (now (row .entry)) (now (out .entry)) bodies (now (out .exit)) r ⌝ }
+    ensures { λ r. ⌜ Booked (now (macros .entry)) (now (places .entry)) (now (ways .entry)) rows (now (book .entry)) (now (areas .entry)) (now (marks .entry)) (now (out .entry)) bodies (now (out .exit)) r ⌝ }
 {
     let mut d = all_definitions(book);
     let mut e = 2;

@@ -34,7 +34,7 @@ fn expand_marked(
     }
     let mut places = [0u16; 512];
     let mut ways = [0u32; 1280];
-    let mut row = [0u16; 8192];
+    let mut row = [0u16; 1024];
     let rows = table(macros, &mut places, &mut ways);
     put_u16(n as u16, out, 0);
     let end = book::expand_all(

@@ -100,14 +100,16 @@ module _ (b : List ℕ) (n size : ℕ) (out : List ℕ) (p : Passes b n) (small 
       written (refused k) o q s = absurd (let z : _≡_ {A = ℕ} 0 1 = cc in omega arith)
       written (done es) o q s =
           let i = expanded-is-book b small es (sym (opened-is b n (p .wide)) ∙ fit-done size (opened b n) es o) .0 in
-          let k : len ≡ length (wBook es) = cc in
-          (record {
-            left = es;
-            is = o;
-            isBook = i;
-            holds = rw (s, k) (take-append-seam (wBook es) (drop (length (wBook es)) area));
-            fits = omega (arith, i .short);
-          }, omega (arith, fit-size size (opened b n) es o))
+          let k : len ≡ length (wBook es) = cc in (
+            record {
+              left = es;
+              is = o;
+              isBook = i;
+              holds = rw (s, k) (take-append-seam (wBook es) (drop (length (wBook es)) area));
+              fits = omega (arith, i .short);
+            },
+            omega (arith, fit-size size (opened b n) es o),
+          )
 
       stands : size ≤ 16384 → Expands (fitting size (opened b n)) out len × (len ≤ size)
       stands h = written (fitting size (opened b n)) refl (sym t ∙ passed h .0) (passed h .1)

@@ -1,11 +1,13 @@
 -- What an instance of a macro says of the trees that stand in the bytes: its call, its inner.
 use mathlib.Core.Path.{_≡_}
 use mathlib.Core.List.{List, []}
-use mathlib.Core.Bool.{true}
+use mathlib.Core.Bool.{Bool, true, false}
 use Prim.Native.Nat.{ℕ, suc, _≤_}
+use lib.Dec.{leb}
 use lib.ListN.{length}
-use Rattle.definition.specs.Out.{Out, refused, done, _>>=_}
-use Rattle.definition.specs.Tree.{Name, Inners, macro-invocation}
+use Rattle.definition.specs.Code.{macro-growth}
+use Rattle.definition.specs.Out.{Out, refused, done, _>>=_, given}
+use Rattle.definition.specs.Tree.{Name, Combinator, Inners, macro-invocation}
 use Rattle.definition.specs.Write.{wName, wAll, wInner, wInners}
 use Rattle.definition.specs.Size.{levelsA}
 use Rattle.definition.specs.Macros.{Macro, instance, innerOf}
@@ -13,7 +15,8 @@ use Rattle.seek.specs.Here.{Here}
 use Rattle.writer.specs.Buf.{Wrote}
 use Rattle.areas.specs.First.{first}
 use Rattle.substitution.specs.declared.Turn.{Turn}
-use Rattle.substitution.specs.Turned.{Areas, Holds}
+use Rattle.substitution.specs.Turned.{Areas, Holds, marksOf}
+use Rattle.instance.specs.Instance.{instanceBy, Made}
 use Rattle.instance.specs.Paired.{Defined}
 
 -- a write, or code 6: then the place after is past the end
@@ -28,12 +31,26 @@ pub record Open (macros book areas marks : List ℕ) (t : Turn) (m : Macro) (xs 
   pub args : Here book (t .arg) (wInners xs z)
   pub holds : Holds (first areas) marks (t .len) (t .n) (m .body)
 
+-- where the row of marks has room for those of the body
+abbrev pub Begun : List ℕ → List ℕ → List ℕ → List ℕ → Turn → Macro → Inners → List ℕ → Bool → Type 0
+Begun macros book areas marks t m xs z true = (t .good ≡ true) × Open macros book areas marks t m xs z
+Begun macros book areas marks t m xs z false = t .good ≡ false
+
 pub record Opened (macros : List ℕ) (def : ℕ) (book : List ℕ) (call : ℕ) (areas marks areas′ marks′ : List ℕ) (t : Turn) : Type 0 where
-  pub good : t .good ≡ true
-  pub says : length macros ≤ 16384 → length areas ≡ 32768 → length marks ≡ 8192 → (m : Macro) → Defined macros def m → (n : Name) (xs : Inners) (z : List ℕ) → Here book call (wInner (macro-invocation n xs) z)
-      → Open macros book areas′ marks′ t m xs z
+  pub says : length macros ≤ 16384 → length areas ≡ 32768 → (m : Macro) → Defined macros def m → (n : Name) (xs : Inners) (z : List ℕ) → Here book call (wInner (macro-invocation n xs) z)
+      → Begun macros book areas′ marks′ t m xs z (leb (marksOf (m .body)) (length marks))
+
+-- rule 4 with a row that has room for k marks
+unfoldable pub instanceIn : ℕ → Macro → Inners → Out Combinator
+instanceIn k m xs = do
+  c ← given (leb (marksOf (m .body)) k) macro-growth (m .body)
+  instanceBy k (m .params) xs c
+
+pub record Makes (macros : List ℕ) (def : ℕ) (book : List ℕ) (call : ℕ) (areas marks areas′ marks′ : List ℕ) (r : Turn) : Type 0 where
+  pub says : Areas macros book areas → (m : Macro) → Defined macros def m → (n : Name) (xs : Inners) (z : List ℕ) → Here book call (wInner (macro-invocation n xs) z) → levelsA xs ≤ 64
+      → Made (first areas′) marks′ r (instanceIn (length marks) m xs)
 
 -- rule 3: "replaced by the macro body's inner"
-pub record Called (macros : List ℕ) (def : ℕ) (book : List ℕ) (call : ℕ) (areas marks out : List ℕ) (o : ℕ) (out′ : List ℕ) (r : ℕ) : Type 0 where
-  pub says : Areas macros book areas marks → (m : Macro) → Defined macros def m → (n : Name) (xs : Inners) (z : List ℕ) → Here book call (wInner (macro-invocation n xs) z) → levelsA xs ≤ 64
+pub record Called (macros : List ℕ) (def : ℕ) (book : List ℕ) (call : ℕ) (areas out : List ℕ) (o : ℕ) (out′ : List ℕ) (r : ℕ) : Type 0 where
+  pub says : Areas macros book areas → (m : Macro) → Defined macros def m → (n : Name) (xs : Inners) (z : List ℕ) → Here book call (wInner (macro-invocation n xs) z) → levelsA xs ≤ 64
       → Puts out o (instance (m .params) xs (m .body) >>= λ c. done (wInner (innerOf c) [])) out′ r

@@ -10,9 +10,15 @@ use skip::skip_over;
 use skip::walk_over;
 use substitution::Turn;
 use writer::put_part;
-ghost use Rattle.replaced.specs.Call.{Opened, Called};
+ghost use mathlib.Core.Bool.{true};
+ghost use Rattle.writer.specs.Buf.{part, Wrote};
+ghost use Rattle.areas.specs.First.{first};
+ghost use Rattle.walk.specs.Steps.{walk};
+ghost use Rattle.calls.specs.Walk.{skipAt};
+ghost use Rattle.replaced.specs.Call.{Opened, Makes, Called};
 
-// The body of the macro that is defined at `def` goes to the first area, and the first turn is that of its first parameter and the call's first argument.
+// The body of the macro that is defined at `def` goes to the first area, and the first turn is that of its first parameter and the call's first
+// argument. It is not good where the body has more calls than the marks have room for.
 fn opened(
     macros: &[u8],
     def: usize,
@@ -34,16 +40,67 @@ fn opened(
     let q = past(book, call, 1);
     let j = name_past(book, q);
     let arg = past(book, j, 2);
+    let count = w.n;
     Turn {
         param: first,
         arg,
         len: w.at,
-        n: w.n,
-        good: true,
+        n: count,
+        good: count <= marks.len(),
     }
 }
 
-// Writes the inner of the instance. The body's own chain stays behind.
+// The instance at a call of the macro, in the first area; not good over a limit, or with more calls on the way than the marks have room for.
+fn make_instance(
+    macros: &[u8],
+    def: usize,
+    book: &[u8],
+    call: usize,
+    areas: &mut [u8],
+    marks: &mut [u16],
+) -> Turn
+    ensures { λ r. ⌜ Makes (now (macros .entry)) def (now (book .entry)) call (now (areas .entry)) (now (marks .entry)) (now (areas .exit)) (now (marks .exit)) r ⌝ }
+{
+    let t = opened(macros, def, book, call, areas, marks);
+    let good = t.good;
+    if good {
+        let n = pairs(macros, def, book, call);
+        return instance(macros, book, t, n, areas, marks);
+    }
+    t
+}
+
+// The inner of what stands in the first area. The body's own chain stays behind.
+fn put_inner(areas: &[u8], marks: &mut [u16], out: &mut [u8], o: usize) -> usize
+    ensures { λ r. ⌜ Wrote (now (out .entry)) o (part 0 (skipAt 64 (first (now (areas .entry))) (walk 0 0 64 true) (now (marks .entry)) .0 .at) (first (now (areas .entry)))) (now (out .exit)) r ⌝ }
+{
+    let u = skip_over(first_area(areas), 0, marks);
+    let end = u.at;
+    put_part(first_area(areas), 0, end, out, o)
+}
+
+// An instance that may have as many calls on the way as the limits let there be.
+fn expand_longer(
+    macros: &[u8],
+    def: usize,
+    book: &[u8],
+    call: usize,
+    areas: &mut [u8],
+    out: &mut [u8],
+    o: usize,
+) -> usize
+    ensures { λ r. ⌜ Called (now (macros .entry)) def (now (book .entry)) call (now (areas .entry)) (now (out .entry)) o (now (out .exit)) r ⌝ }
+{
+    let mut marks = [0u16; 8192];
+    let made = make_instance(macros, def, book, call, areas, &mut marks);
+    let good = made.good;
+    if good {
+        return put_inner(&areas[..], &mut marks, out, o);
+    }
+    out.len() + 1
+}
+
+// Writes the inner of the instance. Where the marks have too little room for it, it is made once more with marks of its own.
 pub fn expand_call(
     macros: &[u8],
     def: usize,
@@ -54,16 +111,12 @@ pub fn expand_call(
     out: &mut [u8],
     o: usize,
 ) -> usize
-    ensures { λ r. ⌜ Called (now (macros .entry)) def (now (book .entry)) call (now (areas .entry)) (now (marks .entry)) (now (out .entry)) o (now (out .exit)) r ⌝ }
+    ensures { λ r. ⌜ Called (now (macros .entry)) def (now (book .entry)) call (now (areas .entry)) (now (out .entry)) o (now (out .exit)) r ⌝ }
 {
-    let t = opened(macros, def, book, call, areas, marks);
-    let n = pairs(macros, def, book, call);
-    let made = instance(macros, book, t, n, areas, marks);
+    let made = make_instance(macros, def, book, call, areas, marks);
     let good = made.good;
     if good {
-        let u = skip_over(first_area(&areas[..]), 0, marks);
-        let end = u.at;
-        return put_part(first_area(&areas[..]), 0, end, out, o);
+        return put_inner(&areas[..], marks, out, o);
     }
-    out.len() + 1
+    expand_longer(macros, def, book, call, areas, out, o)
 }

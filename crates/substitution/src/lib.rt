@@ -91,7 +91,8 @@ fn stopped(t: Turn) -> Turn
     }
 }
 
-// One parameter's turn: the combinator in the first area is made anew in the second, and goes back to the first. Over 16,384 bytes or 64 levels it is not good.
+// One parameter's turn: the combinator in the first area is made anew in the second, and goes back to the first. Over 16,384 bytes or 64 levels, or with more
+// calls than the marks have room for, it is not good.
 pub fn substitute_next(
     macros: &[u8],
     book: &[u8],
@@ -120,12 +121,16 @@ pub fn substitute_next(
     put_back(areas, o);
     let w = walk_over(first_area(&areas[..]), 0, 129, marks);
     let left = w.left;
+    let count = w.n;
+    if marks.len() < count {
+        return stopped(t);
+    }
     let next = name_past(macros, param);
     Turn {
         param: next,
         arg: end,
         len: w.at,
-        n: w.n,
+        n: count,
         good: 65 <= left,
     }
 }

@@ -47,7 +47,7 @@ loop-again c =
       areas-long = c .before .before .before .before .before .before .areas .given ∙ l .areas-long;
       row-long = c .before .before .before .before .row .given ∙ l .row-long;
       out-long = c .before .before .out2 .given ∙ c .before .before .before .before .before .before .before .before .before .before .before .before .out .given ∙ l .out-long;
-      goes = λ d r e. l .goes d r (expanding-call t (rw (c .before .before .before .before .before .before .before .before .before .before .before .before .before .before .before .before .found .given .1) at (c .before .before .before .before .before .before .before .before .before .before .before .before .before .before .before .before .before .before .macro-of .ensures)) (c .before .before .before .before .before .before .before .before .before .before .before .before .before .put-part .ensures) (c .before .before .before .before .before .before .before .expand-call .ensures) (c .before .before .out2 .given) (c .before .before .before .before .before .before .areas .given) (c .before .before .before .before .row .given) e);
+      goes = λ d r e. l .goes d r (expanding-call t (rw (c .before .before .before .before .before .before .before .before .before .before .before .before .before .before .before .before .found .given .1) at (c .before .before .before .before .before .before .before .before .before .before .before .before .before .before .before .before .before .before .macro-of .ensures)) (c .before .before .before .before .before .before .before .before .before .before .before .before .before .put-part .ensures) (c .before .before .before .before .before .before .before .expand-call .ensures) (c .before .before .out2 .given) (c .before .before .before .before .before .before .areas .given) e);
     }
 
 loop-again-2 : tie.Need-loop-again-2 Inv-loop μ-loop

@@ -64,7 +64,7 @@ loop-again-2 c =
       out-long = c .before .out2 .given ∙ c .before .before .before .before .before .before .out .given ∙ l .out-long;
       goes = λ d r x. l .goes d r
           (listing-step (c .before .before .before .before .before .before .before .before .before .before .before .before .before .before .before .before .before .before .before .before .before .before .before .if1 .taken) (c .before .before .before .before .before .before .before .before .before .before .before .before .before .before .before .before .before .before .before .before .before .before .byte .ensures) (c .before .before .before .before .before .before .before .before .before .before .before .before .before .before .before .before .before .before .before .next-definition .ensures) (c .before .before .before .before .before .before .before .before .before .before .before .before .before .before .before .before .before .before .if2 .left) (c .before .before .before .before .before .before .before .before .before .before .before .before .before .before .before .before .before .before .before .before .number .ensures ∙ rw (c .before .before .before .before .before .before .before .before .before .before .before .before .before .before .before .before .before .before .before .before .before .past .ensures)) (c .before .before .before .before .before .before .before .before .before .before .before .before .before .expand-definition .ensures) (c .before .before .before .before .before .before .out .given)
-          (c .before .before .before .before .if3 .left) (c .before .before .put-entry .ensures) (c .before .before .before .before .before .before .before .before .before .before .before .before .areas .given) (c .before .before .before .before .before .before .before .before .before .before .marks .given) (c .before .before .before .before .before .before .before .before .row .given) x);
+          (c .before .before .before .before .if3 .left) (c .before .before .put-entry .ensures) (c .before .before .before .before .before .before .before .before .before .before .before .before .areas .given) (c .before .before .before .before .before .before .before .before .before .before .marks .given) x);
     }
 
 same-length-5 : tie.Need-same-length-5 Inv-loop μ-loop
