@@ -1,25 +1,27 @@
 -- Turns one after the other.
 -- Assumes nothing.
-use mathlib.Core.Path.{_≡_, refl, _∙_}
+use mathlib.Core.Path.{_≡_, refl, sym, _∙_}
+use mathlib.Core.Logic.{⊎-elim}
 use mathlib.Core.List.{List, [], _∷_}
-use mathlib.Core.Bool.{Bool, true, false, _&&_}
+use mathlib.Core.Bool.{Bool, true, false}
 use Prim.Native.Nat.{ℕ, _-_, _≤_, _<_, min}
 use native.Mathlib.Omega.{arith}
 use lib.Dec.{leb}
 use lib.ListN.{length}
-use borrow.Author.Tests.{le-leb, leb-true}
+use borrow.Author.Tests.{leb-true, leb-false}
 use Rattle.definition.specs.Code.{macro-growth}
 use Rattle.definition.specs.Out.{Out, refused, done, _>>=_, given}
 use Rattle.definition.specs.Tree.{Name, Combinator, Inners, no-inner, inner}
 use Rattle.definition.specs.Write.{wName, wAll, wInners, countA}
-use Rattle.definition.specs.Size.{size, levels, levelsA}
+use Rattle.definition.specs.Size.{size, levelsA}
 use Rattle.definition.specs.Macros.{subst, limited, instance}
 use Rattle.seek.specs.Here.{Here}
 use Rattle.laws.proofs.Steps.{no-done}
-use Rattle.lookup.proofs.Names.{not-both}
+use Rattle.lookup.proofs.Names.{yes-no, not-both}
 use Rattle.pieces.proofs.Room.{room-enough}
 use Rattle.areas.specs.First.{first}
 use Rattle.substitution.specs.declared.Turn.{Turn}
+use Rattle.substitution.proofs.Turns.{over-size, roomy, cut-by}
 use Rattle.substitution.specs.Turned.{Areas, Holds, marksOf, limitedBy, Went, Turned}
 use Rattle.instance.specs.Instance.{instanceBy, Made, Instanced}
 
@@ -77,13 +79,11 @@ pub record Making (macros book areas₀ marks₀ : List ℕ) (t₀ : Turn) (left
 -- ---- what a row says of the rule itself
 -- a row of 8,192 has room for every combinator within the limits
 pub long-row : (k : ℕ) → 8192 ≤ k → (c : Combinator) → limitedBy k c ≡ limited c
-unfolding limited limitedBy
-long-row k h c = of (leb (size c) 16384) (leb (levels c) 64) refl
-  where
-    of : (a b : Bool) → leb (size c) 16384 ≡ a → (given (a && b) macro-growth c >>= λ d. given (leb (marksOf d) k) macro-growth d) ≡ given (a && b) macro-growth c
-    of true true e = rw (le-leb (marksOf c) k (omega (arith, room-enough c 0, leb-true (size c) 16384 e)))
-    of true false e = refl
-    of false b e = refl
+long-row k h c =
+    ⊎-elim
+    (λ (e : leb (size c) 16384 ≡ true). roomy c k (omega (arith, room-enough c 0, leb-true (size c) 16384 e)))
+    (λ (e : leb (size c) 16384 ≡ false). let o = over-size c (leb-false (size c) 16384 e) in cut-by c k o ∙ sym o)
+    (yes-no (leb (size c) 16384))
 
 pub instance-long : (k : ℕ) → 8192 ≤ k → (ps : List Name) (xs : Inners) (c : Combinator) → instanceBy k ps xs c ≡ instance ps xs c
 unfolding instance instanceBy

@@ -11,7 +11,7 @@ use lib.ListN.{length}
 use borrow.Author.Tests.{le-leb, lt-leb, leb-true, leb-false}
 use Rattle.definition.specs.Code.{macro-growth}
 use Rattle.definition.specs.Out.{Out, refused, done, _>>=_, given}
-use Rattle.definition.specs.Tree.{Name, Combinator, plain, chained, Inners, macro-invocation}
+use Rattle.definition.specs.Tree.{Combinator, plain, chained, Inners}
 use Rattle.definition.specs.Write.{wInner, wCombinator, countA}
 use Rattle.definition.specs.Size.{size, levels, levelsI, levelsA}
 use Rattle.definition.specs.Macros.{Macro, instance, innerOf}
@@ -34,7 +34,7 @@ use Rattle.pieces.proofs.Marked.{part-here}
 use Rattle.substitution.specs.declared.Turn.{Turn}
 use Rattle.substitution.specs.Turned.{Areas, marksOf}
 use Rattle.instance.specs.Instance.{instanceBy, Made, Instanced}
-use Rattle.instance.specs.Paired.{Defined, Paired}
+use Rattle.instance.specs.Paired.{Paired}
 use Rattle.replaced.specs.Call.{Puts, Begun, Opened, instanceIn, Makes, Called}
 use Rattle.substitution.proofs.Stands.{inner-here}
 use Rattle.pieces.proofs.Room.{size-here, room-enough}

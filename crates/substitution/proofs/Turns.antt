@@ -55,7 +55,7 @@ pub from-zero : (n : ℕ) → n ≡ 0 + n
 from-zero n = omega arith
 
 module _ (d : Combinator) where
-  over-size : 16384 < size d → limited d ≡ refused macro-growth
+  pub over-size : 16384 < size d → limited d ≡ refused macro-growth
   unfolding limited
   over-size h = rw (lt-leb (size d) 16384 h)
 
@@ -73,7 +73,7 @@ module _ (d : Combinator) where
       of false = refl
 
   -- no more than it has room for
-  roomy : (k : ℕ) → marksOf d ≤ k → limitedBy k d ≡ limited d
+  pub roomy : (k : ℕ) → marksOf d ≤ k → limitedBy k d ≡ limited d
   unfolding limited limitedBy
   roomy k h = of (leb (size d) 16384 && leb (levels d) 64)
     where
@@ -82,7 +82,7 @@ module _ (d : Combinator) where
       of false = refl
 
   -- a limit that is passed is passed by any row
-  cut-by : (k : ℕ) → limited d ≡ refused macro-growth → limitedBy k d ≡ refused macro-growth
+  pub cut-by : (k : ℕ) → limited d ≡ refused macro-growth → limitedBy k d ≡ refused macro-growth
   unfolding limitedBy
   cut-by k e = rw e
 

@@ -30,19 +30,20 @@ cut zero m t = let e : 0 + m ≡ m = omega arith in rw e
 cut (suc b) m [] = let e : suc b + m ≡ suc (b + m) = omega arith in rw e (take-nil m)
 cut (suc b) m (y ∷ t) = let e : suc b + m ≡ suc (b + m) = omega arith in rw e (cut b m t)
 
--- a part before it, and what stands behind it
-module _ {t : List ℕ} {a n i x : ℕ} {t′ : List ℕ} (s : StoredIn t a n i x t′) where
+-- what stands before a place up to which nothing has changed
+module _ (t t′ : List ℕ) (a : ℕ) (e : take a t′ ≡ take a t) where
   front : (b : ℕ) → b ≤ a → take b t′ ≡ take b t
-  front b h = sym (take-take b a t′ h) ∙ ap (λ (z : List ℕ). take b z) (s .before) ∙ take-take b a t h
-
-  rest : (b : ℕ) → a + 2 * n ≤ b → drop b t′ ≡ drop b t
-  rest b h =
-      let e : a + 2 * n + (b - (a + 2 * n)) ≡ b = omega arith in
-      ap (λ (k : ℕ). drop k t′) (sym e) ∙ sym (drop-drop (b - (a + 2 * n)) (a + 2 * n) t′) ∙ ap (λ (z : List ℕ). drop (b - (a + 2 * n)) z) (s .behind) ∙ drop-drop (b - (a + 2 * n)) (a + 2 * n) t
-      ∙ ap (λ (k : ℕ). drop k t) e
+  front b h = sym (take-take b a t′ h) ∙ ap (λ (z : List ℕ). take b z) e ∙ take-take b a t h
 
   taken : (b m : ℕ) → b + m ≤ a → take m (drop b t′) ≡ take m (drop b t)
   taken b m h = cut b m t′ ∙ ap (λ (z : List ℕ). drop b z) (front (b + m) h) ∙ sym (cut b m t)
+
+-- what stands behind a part
+rest : {t : List ℕ} {a n i x : ℕ} {t′ : List ℕ} → StoredIn t a n i x t′ → (b : ℕ) → a + 2 * n ≤ b → drop b t′ ≡ drop b t
+rest {t} {a} {n} {i} {x} {t′} s b h =
+    let e : a + 2 * n + (b - (a + 2 * n)) ≡ b = omega arith in
+    ap (λ (k : ℕ). drop k t′) (sym e) ∙ sym (drop-drop (b - (a + 2 * n)) (a + 2 * n) t′) ∙ ap (λ (z : List ℕ). drop (b - (a + 2 * n)) z) (s .behind) ∙ drop-drop (b - (a + 2 * n)) (a + 2 * n) t
+    ∙ ap (λ (k : ℕ). drop k t) e
 
 -- ---- each of the three
 module _ {t : List ℕ} {i x : ℕ} {t′ : List ℕ} where
@@ -58,7 +59,7 @@ module _ {t : List ℕ} {i x : ℕ} {t′ : List ℕ} where
   pub rows-stored : StoredIn t 1024 2560 i x t′ → Parts t′ (orderIn t) (set (rowsIn t) i x) (paramsIn t) (madeIn t)
   unfolding orderIn rowsIn paramsIn madeIn
   rows-stored s = record {
-    order = ap pairs (front s 1024 (omega arith));
+    order = ap pairs (front t t′ 1024 (s .before) 1024 (omega arith));
     rows = s .part;
     params = ap (λ (z : List ℕ). pairs (take 26216 z)) (rest s 6144 (omega arith));
     made = rest s 32360 (omega arith);
@@ -67,8 +68,8 @@ module _ {t : List ℕ} {i x : ℕ} {t′ : List ℕ} where
   pub params-stored : StoredIn t 6144 13108 i x t′ → Parts t′ (orderIn t) (rowsIn t) (set (paramsIn t) i x) (madeIn t)
   unfolding orderIn rowsIn paramsIn madeIn
   params-stored s = record {
-    order = ap pairs (front s 1024 (omega arith));
-    rows = ap pairs (taken s 1024 5120 (omega arith));
+    order = ap pairs (front t t′ 6144 (s .before) 1024 (omega arith));
+    rows = ap pairs (taken t t′ 6144 (s .before) 1024 5120 (omega arith));
     params = s .part;
     made = rest s 32360 (omega arith);
   }
@@ -76,18 +77,7 @@ module _ {t : List ℕ} {i x : ℕ} {t′ : List ℕ} where
 -- the names have no end but the table's
 pub made-stored : (t t′ m : List ℕ) → take 32360 t′ ≡ take 32360 t → drop 32360 t′ ≡ m → Parts t′ (orderIn t) (rowsIn t) (paramsIn t) m
 unfolding orderIn rowsIn paramsIn madeIn
-made-stored t t′ m e f = record {
-  order = ap pairs (first 1024 (omega arith));
-  rows = ap pairs (within 1024 5120 (omega arith));
-  params = ap pairs (within 6144 26216 (omega arith));
-  made = f;
-}
-  where
-    first : (b : ℕ) → b ≤ 32360 → take b t′ ≡ take b t
-    first b h = sym (take-take b 32360 t′ h) ∙ ap (λ (z : List ℕ). take b z) e ∙ take-take b 32360 t h
-
-    within : (b m : ℕ) → b + m ≤ 32360 → take m (drop b t′) ≡ take m (drop b t)
-    within b m h = cut b m t′ ∙ ap (λ (z : List ℕ). drop b z) (first (b + m) h) ∙ sym (cut b m t)
+made-stored t t′ m e f = record { order = ap pairs (front t t′ 32360 e 1024 (omega arith)); rows = ap pairs (taken t t′ 32360 e 1024 5120 (omega arith)); params = ap pairs (taken t t′ 32360 e 6144 26216 (omega arith)); made = f }
 
 -- ---- how long the parts of a long table are
 pub part-lengths : (t : List ℕ) → 32360 ≤ length t → (length (orderIn t) ≡ 512) × (length (rowsIn t) ≡ 2560) × (length (paramsIn t) ≡ 13108) × (length (madeIn t) ≡ length t - 32360)
