@@ -33,7 +33,7 @@ length-names s [] = refl
 length-names s (x ∷ l) = let h = length-names s l in omega arith
 
 module _ (s : List ℕ) (p : ℕ) (c : Combinator) (z : List ℕ) (small : (i : ℕ) → byteAt s i < 256) (short : length s < 16777216) (deep : levels c ≤ 64) (h : Here s p (wCombinator c z)) where
-  module _ (bound uses : List ℕ) (labels : length s + 512 ≤ length bound) where
+  module _ (bound uses : List ℕ) (labels : length s + 64 ≤ length bound) where
     gathered : Gathered s z (free c) (leftover c) 0 0 false bound uses (collectAt s p bound uses)
     unfolding collectAt
     gathered = gather s small short c 64 deep (walk p 0 0 false) bound uses z record { here = h; few = omega (arith, here-length h); room = labels; finds = finds-none s bound; fits = omega arith }

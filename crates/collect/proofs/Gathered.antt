@@ -38,7 +38,7 @@ pub record Gathered (s z : List ℕ) (ns : List Name) (l : Bool) (n b : ℕ) (f 
 pub record Ready (s : List ℕ) (p : ℕ) (l : List ℕ) (n b : ℕ) (bound uses : List ℕ) : Type 0 where
   pub here : Here s p l
   pub few : 4 * b + length l ≤ length s
-  pub room : length s + 512 ≤ length bound
+  pub room : length s + 64 ≤ length bound
   pub finds : Finds s bound b
   pub fits : n ≤ suc (length uses)
 

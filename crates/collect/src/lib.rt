@@ -222,7 +222,7 @@ fn argument(s: &[u8], w: Walk, levels: usize, bound: &mut [u32], uses: &mut [u32
 
 // The uses of names that are free in the combinator at a place, one for each use, or that a macro call is left in it.
 // Each use takes a byte of s at least and each Dependent field four: 16,384 places for uses are enough for any book, and 16,896 for its labels,
-// four for each and 512 more.
+// four for each and 64 more.
 pub fn collect_params(s: &[u8], at: usize, bound: &mut [u32], uses: &mut [u32]) -> Collected
     ensures { λ r. ⌜ (r ≡ answerOf (collectAt (now (s .entry)) at (now (bound .entry)) (now (uses .entry)) .0)) × (now (bound .exit) ≡ collectAt (now (s .entry)) at (now (bound .entry)) (now (uses .entry)) .1) × (now (uses .exit) ≡ collectAt (now (s .entry)) at (now (bound .entry)) (now (uses .entry)) .2) ⌝ }
 {

@@ -25,15 +25,15 @@ use Rattle.labels.proofs.Steps.{link-none, link-far, link-other, link-h
 
 -- two tables with the same first b labels, and the same that leads to them
 pub record Same (t u : List ℕ) (b : ℕ) : Type 0 where
-  pub labels : (i : ℕ) → i < b → getD t (512 + 4 * i) 0 ≡ getD u (512 + 4 * i) 0
-  pub links : (x : ℕ) → x < 512 + 4 * b → linkAt t b x ≡ linkAt u b x
+  pub labels : (i : ℕ) → i < b → getD t (64 + 4 * i) 0 ≡ getD u (64 + 4 * i) 0
+  pub links : (x : ℕ) → x < 64 + 4 * b → linkAt t b x ≡ linkAt u b x
 
 -- a name is found exactly where it is one of the first b labels; and what leads on from a label leads to a later one
 pub record Finds (s t : List ℕ) (b : ℕ) : Type 0 where
   pub is : (n : Name) → isLabel s n t b ≡ elem n (labelsIn s t b)
-  pub later : (i e : ℕ) → i < b → e ≤ 1 → 0 < linkAt t b (513 + 4 * i + e) → suc i < linkAt t b (513 + 4 * i + e)
+  pub later : (i e : ℕ) → i < b → e ≤ 1 → 0 < linkAt t b (65 + 4 * i + e) → suc i < linkAt t b (65 + 4 * i + e)
 
-head-small : (n : Name) → headOf n < 512
+head-small : (n : Name) → headOf n < 64
 unfolding headOf
 head-small n = let h = hash-small n in omega arith
 
@@ -41,22 +41,22 @@ head-small n = let h = hash-small n in omega arith
 pub record Fork (b x : ℕ) : Type 0 where
   pub of : ℕ
   pub bit : ℕ
-  pub is : x ≡ 513 + 4 * of + bit
+  pub is : x ≡ 65 + 4 * of + bit
   pub low : of < b
   pub small : bit ≤ 1
 
 abbrev Slot : ℕ → ℕ → Type 0
-Slot b x = (x < 512) ⊎ Fork b x
+Slot b x = (x < 64) ⊎ Fork b x
 
-slot-low : (b x : ℕ) → Slot b x → x < 512 + 4 * b
+slot-low : (b x : ℕ) → Slot b x → x < 64 + 4 * b
 slot-low b x (inl h) = omega arith
 slot-low b x (inr f) = omega (arith, f .is, f .low, f .small)
 
-slot-other : (b x j : ℕ) → Slot b x → x ≡ 515 + 4 * j → ⊥
+slot-other : (b x j : ℕ) → Slot b x → x ≡ 67 + 4 * j → ⊥
 slot-other b x j (inl h) e = omega arith
 slot-other b x j (inr f) e = omega (arith, f .is, f .small)
 
-slot-label : (b x j : ℕ) → Slot b x → x ≡ 512 + 4 * j → ⊥
+slot-label : (b x j : ℕ) → Slot b x → x ≡ 64 + 4 * j → ⊥
 slot-label b x j (inl h) e = omega arith
 slot-label b x j (inr f) e = omega (arith, f .is, f .small)
 
@@ -66,7 +66,7 @@ module _ (t : List ℕ) (x : ℕ) where
   v = getD t x 0
 
   abbrev back : ℕ
-  back = getD t (515 + 4 * (v - 1)) 0
+  back = getD t (67 + 4 * (v - 1)) 0
 
   link-known : (b : ℕ) → v ≤ b → back ≡ x → linkAt t b x ≡ v
   link-known b h e = link-here t b x refl h refl e
@@ -111,7 +111,7 @@ module _ (s : List ℕ) (n : Name) (t : List ℕ) (b : ℕ) where
   -- it goes from one such place to the next
   fork-slot : (d x : ℕ) → 0 < linkAt t b x → Slot b (forkAt n d (linkAt t b x - 1))
   unfolding forkAt
-  fork-slot d x h = inr (record { of = linkAt t b x - 1; bit = bitAt n (min d 4096 + 9); is = refl; low = omega (arith, link-most t x b); small = bit-small n (min d 4096 + 9) })
+  fork-slot d x h = inr (record { of = linkAt t b x - 1; bit = bitAt n (min d 4096 + 6); is = refl; low = omega (arith, link-most t x b); small = bit-small n (min d 4096 + 6) })
 
   -- which of three steps it takes
   way-cases : {P : Type 0} (x : ℕ) → (linkAt t b x ≡ 0 → P) → (0 < linkAt t b x → eqName n (labelAt s t (linkAt t b x - 1)) ≡ true → P) → (0 < linkAt t b x → eqName n (labelAt s t (linkAt t b x - 1)) ≡ false → P) → P
@@ -145,10 +145,10 @@ module _ (s : List ℕ) (n : Name) (t : List ℕ) (b : ℕ) where
   leads-by x h = rw (ne-eqb (linkAt t b x) 0 (λ q. omega arith))
 
   -- the number that leads on is larger with each step, so that b steps are enough
-  module _ (later : (i e : ℕ) → i < b → e ≤ 1 → 0 < linkAt t b (513 + 4 * i + e) → suc i < linkAt t b (513 + 4 * i + e)) where
+  module _ (later : (i e : ℕ) → i < b → e ≤ 1 → 0 < linkAt t b (65 + 4 * i + e) → suc i < linkAt t b (65 + 4 * i + e)) where
     next-later : (d x : ℕ) → 0 < linkAt t b x → 0 < linkAt t b (forkAt n d (linkAt t b x - 1)) → linkAt t b x < linkAt t b (forkAt n d (linkAt t b x - 1))
     unfolding forkAt
-    next-later d x h p = let q = later (linkAt t b x - 1) (bitAt n (min d 4096 + 9)) (omega (arith, link-most t x b)) (bit-small n (min d 4096 + 9)) p in omega arith
+    next-later d x h p = let q = later (linkAt t b x - 1) (bitAt n (min d 4096 + 6)) (omega (arith, link-most t x b)) (bit-small n (min d 4096 + 6)) p in omega arith
 
     enough : (k d x j : ℕ) → (0 < linkAt t b x → j < linkAt t b x) → b ≤ k + j → wayOf s n t b (suc k) d x ≡ wayOf s n t b k d x
     enough zero d x j h m =
@@ -170,7 +170,7 @@ module _ (s : List ℕ) (n : Name) (t : List ℕ) (b : ℕ) where
         (λ q e. rw (on-is k d x q e) (ends k (d + 1) (forkAt n d (linkAt t b x - 1)) (linkAt t b x) (next-later d x q) (let g = h q in omega arith) (rw (on-is k d x q e) at p)))
 
 -- ---- two tables
-labels-by : (s t u : List ℕ) (b : ℕ) → ((i : ℕ) → i < b → getD t (512 + 4 * i) 0 ≡ getD u (512 + 4 * i) 0) → labelsIn s t b ≡ labelsIn s u b
+labels-by : (s t u : List ℕ) (b : ℕ) → ((i : ℕ) → i < b → getD t (64 + 4 * i) 0 ≡ getD u (64 + 4 * i) 0) → labelsIn s t b ≡ labelsIn s u b
 unfolding labelsIn labelAt
 labels-by s t u zero q = refl
 labels-by s t u (suc b) q = rw (q b (omega arith), labels-by s t u b (λ i h. q i (omega arith)))
@@ -213,7 +213,7 @@ module _ (s : List ℕ) {t u : List ℕ} {b : ℕ} (q : Same t u b) where
         ∙ f .is n
         ∙ ap (elem n) (sym labels-same);
     later = λ i e h k p.
-        let l = q .links (513 + 4 * i + e) (omega arith) in
+        let l = q .links (65 + 4 * i + e) (omega arith) in
         rw l (f .later i e h k (rw l at p));
   }
 
@@ -241,8 +241,8 @@ finds-none s t = record {
 -- ---- a label that is bound, with room for it
 abbrev pub labelled : List ℕ → ℕ → List ℕ → ℕ → List ℕ
 labelled s at t b =
-    let y = slotOf s (nameAt s at) t b (515 + 4 * b) in
-    set (set (set (set (set t (512 + 4 * b) at) (513 + 4 * b) 0) (514 + 4 * b) 0) y (suc b)) (515 + 4 * b) y
+    let y = slotOf s (nameAt s at) t b (67 + 4 * b) in
+    set (set (set (set (set t (64 + 4 * b) at) (65 + 4 * b) 0) (66 + 4 * b) 0) y (suc b)) (67 + 4 * b) y
 
 module _ (s : List ℕ) (at : ℕ) (t : List ℕ) (b : ℕ) (near : at < 4294967296) (few : 516 + 4 * b < 4294967296) (room : 516 + 4 * b ≤ length t) where
   abbrev T : List ℕ
@@ -255,30 +255,30 @@ module _ (s : List ℕ) (at : ℕ) (t : List ℕ) (b : ℕ) (near : at < 4294967
   x₀ = endOf s m t b
 
   abbrev y : ℕ
-  y = slotOf s m t b (515 + 4 * b)
+  y = slotOf s m t b (67 + 4 * b)
 
   end-slot : Slot b x₀
   unfolding endOf
   end-slot = way-slot s m t b b 0 (headOf m) (inl (head-small m))
 
   -- where its way ends, or aside
-  y-cases : {P : Type 0} → (linkAt t b x₀ ≡ 0 → y ≡ x₀ → P) → (0 < linkAt t b x₀ → y ≡ 515 + 4 * b → P) → P
+  y-cases : {P : Type 0} → (linkAt t b x₀ ≡ 0 → y ≡ x₀ → P) → (0 < linkAt t b x₀ → y ≡ 67 + 4 * b → P) → P
   unfolding slotOf
   y-cases new old = ⊎-elim
       (λ (q : linkAt t b x₀ ≤ 0). let e : linkAt t b x₀ ≡ 0 = omega arith in new e (rw (eq-eqb (linkAt t b x₀) 0 e)))
       (λ (q : 0 < linkAt t b x₀). old q (rw (ne-eqb (linkAt t b x₀) 0 (λ e. omega arith))))
       (within (linkAt t b x₀) 0)
 
-  y-low : y ≤ 515 + 4 * b
+  y-low : y ≤ 67 + 4 * b
   y-low = y-cases (λ e q. let l = slot-low b x₀ end-slot in omega arith) (λ e q. omega arith)
 
-  y-label : (j : ℕ) → j ≤ b → (y ≡ 512 + 4 * j → ⊥)
+  y-label : (j : ℕ) → j ≤ b → (y ≡ 64 + 4 * j → ⊥)
   y-label j h e = y-cases (λ p q. slot-label b x₀ j end-slot (sym q ∙ e)) (λ p q. omega arith)
 
-  y-back : (j : ℕ) → j < b → (y ≡ 515 + 4 * j → ⊥)
+  y-back : (j : ℕ) → j < b → (y ≡ 67 + 4 * j → ⊥)
   y-back j h e = y-cases (λ p q. slot-other b x₀ j end-slot (sym q ∙ e)) (λ p q. omega arith)
 
-  y-own : (e : ℕ) → e ≤ 1 → (y ≡ 513 + 4 * b + e → ⊥)
+  y-own : (e : ℕ) → e ≤ 1 → (y ≡ 65 + 4 * b + e → ⊥)
   y-own e h r = y-cases (λ p q. let l = slot-low b x₀ end-slot in omega arith) (λ p q. omega arith)
 
   pub bind-is : bindAt s at t b ≡ (suc b, labelled s at t b)
@@ -286,67 +286,67 @@ module _ (s : List ℕ) (at : ℕ) (t : List ℕ) (b : ℕ) (near : at < 4294967
   bind-is =
       let place : at % 4294967296 ≡ at = omega arith in
       let count : (b + 1) % 4294967296 ≡ suc b = omega arith in
-      let one : 512 + 4 * b + 1 ≡ 513 + 4 * b = omega arith in
-      let two : 512 + 4 * b + 2 ≡ 514 + 4 * b = omega arith in
-      let three : 512 + 4 * b + 3 ≡ 515 + 4 * b = omega arith in
+      let one : 64 + 4 * b + 1 ≡ 65 + 4 * b = omega arith in
+      let two : 64 + 4 * b + 2 ≡ 66 + 4 * b = omega arith in
+      let three : 64 + 4 * b + 3 ≡ 67 + 4 * b = omega arith in
       let slot : y % 4294967296 ≡ y = omega (arith, y-low) in
-      rw (three, lt-leb (length t) (515 + 4 * b) (omega arith), place, count, one, two, slot, add-one b)
+      rw (three, lt-leb (length t) (67 + 4 * b) (omega arith), place, count, one, two, slot, add-one b)
 
   pub labelled-long : length (labelled s at t b) ≡ length t
   labelled-long = simp length-set
 
   -- what stands in the table then
   abbrev t₁ : List ℕ
-  t₁ = set t (512 + 4 * b) at
+  t₁ = set t (64 + 4 * b) at
 
   abbrev t₂ : List ℕ
-  t₂ = set t₁ (513 + 4 * b) 0
+  t₂ = set t₁ (65 + 4 * b) 0
 
   abbrev t₃ : List ℕ
-  t₃ = set t₂ (514 + 4 * b) 0
+  t₃ = set t₂ (66 + 4 * b) 0
 
   abbrev t₄ : List ℕ
   t₄ = set t₃ y (suc b)
 
-  at-back : getD T (515 + 4 * b) 0 ≡ y
-  at-back = getD-set-same t₄ (515 + 4 * b) y 0 (simp length-set (omega arith))
+  at-back : getD T (67 + 4 * b) 0 ≡ y
+  at-back = getD-set-same t₄ (67 + 4 * b) y 0 (simp length-set (omega arith))
 
-  at-y : (y ≡ 515 + 4 * b → ⊥) → getD T y 0 ≡ suc b
+  at-y : (y ≡ 67 + 4 * b → ⊥) → getD T y 0 ≡ suc b
   at-y e =
-      getD-set-other t₄ (515 + 4 * b) y y 0 e
+      getD-set-other t₄ (67 + 4 * b) y y 0 e
       ∙ getD-set-same t₃ y (suc b) 0 (simp length-set (let l = y-low in omega arith))
 
-  other : (j : ℕ) → (j ≡ 515 + 4 * b → ⊥) → (j ≡ y → ⊥) → getD T j 0 ≡ getD t₃ j 0
-  other j e f = getD-set-other t₄ (515 + 4 * b) j y 0 e ∙ getD-set-other t₃ y j (suc b) 0 f
+  other : (j : ℕ) → (j ≡ 67 + 4 * b → ⊥) → (j ≡ y → ⊥) → getD T j 0 ≡ getD t₃ j 0
+  other j e f = getD-set-other t₄ (67 + 4 * b) j y 0 e ∙ getD-set-other t₃ y j (suc b) 0 f
 
-  before : (j : ℕ) → j < 512 + 4 * b → (j ≡ y → ⊥) → getD T j 0 ≡ getD t j 0
+  before : (j : ℕ) → j < 64 + 4 * b → (j ≡ y → ⊥) → getD T j 0 ≡ getD t j 0
   before j h f =
       other j (λ e. omega arith) f
-      ∙ getD-set-other t₂ (514 + 4 * b) j 0 0 (λ e. omega arith)
-      ∙ getD-set-other t₁ (513 + 4 * b) j 0 0 (λ e. omega arith)
-      ∙ getD-set-other t (512 + 4 * b) j at 0 (λ e. omega arith)
+      ∙ getD-set-other t₂ (66 + 4 * b) j 0 0 (λ e. omega arith)
+      ∙ getD-set-other t₁ (65 + 4 * b) j 0 0 (λ e. omega arith)
+      ∙ getD-set-other t (64 + 4 * b) j at 0 (λ e. omega arith)
 
   at-label : labelAt s T b ≡ m
   unfolding labelAt
   at-label = ap (nameAt s)
-      (other (512 + 4 * b) (λ e. omega arith) (λ e. y-label b (omega arith) (sym e))
-      ∙ getD-set-other t₂ (514 + 4 * b) (512 + 4 * b) 0 0 (λ e. omega arith)
-      ∙ getD-set-other t₁ (513 + 4 * b) (512 + 4 * b) 0 0 (λ e. omega arith)
-      ∙ getD-set-same t (512 + 4 * b) at 0 (omega arith))
+      (other (64 + 4 * b) (λ e. omega arith) (λ e. y-label b (omega arith) (sym e))
+      ∙ getD-set-other t₂ (66 + 4 * b) (64 + 4 * b) 0 0 (λ e. omega arith)
+      ∙ getD-set-other t₁ (65 + 4 * b) (64 + 4 * b) 0 0 (λ e. omega arith)
+      ∙ getD-set-same t (64 + 4 * b) at 0 (omega arith))
 
-  at-zero : getD T (513 + 4 * b) 0 ≡ 0
+  at-zero : getD T (65 + 4 * b) 0 ≡ 0
   at-zero =
-      other (513 + 4 * b) (λ e. omega arith) (λ e. y-own 0 (omega arith) (omega arith))
-      ∙ getD-set-other t₂ (514 + 4 * b) (513 + 4 * b) 0 0 (λ e. omega arith)
-      ∙ getD-set-same t₁ (513 + 4 * b) 0 0 (simp length-set (omega arith))
+      other (65 + 4 * b) (λ e. omega arith) (λ e. y-own 0 (omega arith) (omega arith))
+      ∙ getD-set-other t₂ (66 + 4 * b) (65 + 4 * b) 0 0 (λ e. omega arith)
+      ∙ getD-set-same t₁ (65 + 4 * b) 0 0 (simp length-set (omega arith))
 
-  at-one : getD T (514 + 4 * b) 0 ≡ 0
+  at-one : getD T (66 + 4 * b) 0 ≡ 0
   at-one =
-      other (514 + 4 * b) (λ e. omega arith) (λ e. y-own 1 (omega arith) (omega arith))
-      ∙ getD-set-same t₂ (514 + 4 * b) 0 0 (simp length-set (omega arith))
+      other (66 + 4 * b) (λ e. omega arith) (λ e. y-own 1 (omega arith) (omega arith))
+      ∙ getD-set-same t₂ (66 + 4 * b) 0 0 (simp length-set (omega arith))
 
-  old-labels : (i : ℕ) → i < b → getD T (512 + 4 * i) 0 ≡ getD t (512 + 4 * i) 0
-  old-labels i h = before (512 + 4 * i) (omega arith) (λ e. y-label i (omega arith) (sym e))
+  old-labels : (i : ℕ) → i < b → getD T (64 + 4 * i) 0 ≡ getD t (64 + 4 * i) 0
+  old-labels i h = before (64 + 4 * i) (omega arith) (λ e. y-label i (omega arith) (sym e))
 
   old-label : (i : ℕ) → i < b → labelAt s T i ≡ labelAt s t i
   unfolding labelAt
@@ -357,22 +357,22 @@ module _ (s : List ℕ) (at : ℕ) (t : List ℕ) (b : ℕ) (near : at < 4294967
   labels-bind = rw (at-label, labels-by s T t b old-labels)
 
   -- what led on before leads on still, with that label counted or not
-  link-before : (c x : ℕ) → b ≤ c → c ≤ suc b → x < 512 + 4 * b → (x ≡ y → ⊥) → linkAt T c x ≡ linkAt t b x
+  link-before : (c x : ℕ) → b ≤ c → c ≤ suc b → x < 64 + 4 * b → (x ≡ y → ⊥) → linkAt T c x ≡ linkAt t b x
   link-before c x hb hc h f =
       let e = before x h f in
       ⊎-elim
       (λ (z : getD t x 0 ≤ 0). link-zero T x c (e ∙ omega arith) ∙ sym (link-zero t x b (omega arith)))
       (λ (z : 0 < getD t x 0). ⊎-elim
       (λ (k : getD t x 0 ≤ b).
-      let g : getD T (515 + 4 * (getD T x 0 - 1)) 0 ≡ getD t (515 + 4 * (getD t x 0 - 1)) 0 = rw e (before (515 + 4 * (getD t x 0 - 1)) (omega arith) (λ q. y-back (getD t x 0 - 1) (omega arith) (sym q))) in
+      let g : getD T (67 + 4 * (getD T x 0 - 1)) 0 ≡ getD t (67 + 4 * (getD t x 0 - 1)) 0 = rw e (before (67 + 4 * (getD t x 0 - 1)) (omega arith) (λ q. y-back (getD t x 0 - 1) (omega arith) (sym q))) in
       ⊎-elim
-      (λ (q : eqb (getD t (515 + 4 * (getD t x 0 - 1)) 0) x ≡ true).
-      let r = eqb-true (getD t (515 + 4 * (getD t x 0 - 1)) 0) x q in
+      (λ (q : eqb (getD t (67 + 4 * (getD t x 0 - 1)) 0) x ≡ true).
+      let r = eqb-true (getD t (67 + 4 * (getD t x 0 - 1)) 0) x q in
       link-known T x c (omega (arith, e)) (g ∙ r) ∙ e ∙ sym (link-known t x b k r))
-      (λ (q : eqb (getD t (515 + 4 * (getD t x 0 - 1)) 0) x ≡ false).
-      let r = eqb-false (getD t (515 + 4 * (getD t x 0 - 1)) 0) x q in
+      (λ (q : eqb (getD t (67 + 4 * (getD t x 0 - 1)) 0) x ≡ false).
+      let r = eqb-false (getD t (67 + 4 * (getD t x 0 - 1)) 0) x q in
       link-aside T x c (λ p. r (sym g ∙ p)) ∙ sym (link-aside t x b r))
-      (yes-no (eqb (getD t (515 + 4 * (getD t x 0 - 1)) 0) x)))
+      (yes-no (eqb (getD t (67 + 4 * (getD t x 0 - 1)) 0) x)))
       (λ (k : b < getD t x 0). over c x hc e k f ∙ sym (link-over t x b k))
       (within (getD t x 0) b))
       (within (getD t x 0) 0)
@@ -381,7 +381,7 @@ module _ (s : List ℕ) (at : ℕ) (t : List ℕ) (b : ℕ) (near : at < 4294967
       over c x hc e k f = ⊎-elim
           (λ (q : getD t x 0 ≤ c).
           let v : getD T x 0 ≡ suc b = omega arith in
-          let g : 515 + 4 * (getD T x 0 - 1) ≡ 515 + 4 * b = omega arith in
+          let g : 67 + 4 * (getD T x 0 - 1) ≡ 67 + 4 * b = omega arith in
           link-aside T x c (λ p. f (sym p ∙ ap (λ (j : ℕ). getD T j 0) g ∙ at-back)))
           (λ (q : c < getD t x 0). link-over T x c (omega arith))
           (within (getD t x 0) c)
@@ -389,14 +389,14 @@ module _ (s : List ℕ) (at : ℕ) (t : List ℕ) (b : ℕ) (near : at < 4294967
   -- what leads to the label itself, and what leads on from it
   link-new : linkAt t b x₀ ≡ 0 → y ≡ x₀ → linkAt T (suc b) x₀ ≡ suc b
   link-new e q =
-      let far : y ≡ 515 + 4 * b → ⊥ = λ r. let l = slot-low b x₀ end-slot in omega arith in
+      let far : y ≡ 67 + 4 * b → ⊥ = λ r. let l = slot-low b x₀ end-slot in omega arith in
       let v : getD T x₀ 0 ≡ suc b = rw (← q) (at-y far) in
-      let g : 515 + 4 * (getD T x₀ 0 - 1) ≡ 515 + 4 * b = omega arith in
+      let g : 67 + 4 * (getD T x₀ 0 - 1) ≡ 67 + 4 * b = omega arith in
       link-known T x₀ (suc b) (omega arith) (ap (λ (j : ℕ). getD T j 0) g ∙ at-back ∙ q) ∙ v
 
-  link-own : (e : ℕ) → e ≤ 1 → linkAt T (suc b) (513 + 4 * b + e) ≡ 0
-  link-own zero h = link-zero T (513 + 4 * b + 0) (suc b) (let q : 513 + 4 * b + 0 ≡ 513 + 4 * b = omega arith in rw q at-zero)
-  link-own (suc e) h = link-zero T (513 + 4 * b + suc e) (suc b) (let q : 513 + 4 * b + suc e ≡ 514 + 4 * b = omega arith in rw q at-one)
+  link-own : (e : ℕ) → e ≤ 1 → linkAt T (suc b) (65 + 4 * b + e) ≡ 0
+  link-own zero h = link-zero T (65 + 4 * b + 0) (suc b) (let q : 65 + 4 * b + 0 ≡ 65 + 4 * b = omega arith in rw q at-zero)
+  link-own (suc e) h = link-zero T (65 + 4 * b + suc e) (suc b) (let q : 65 + 4 * b + suc e ≡ 66 + 4 * b = omega arith in rw q at-one)
 
   -- counted no longer, it leaves the table as it was
   pub bind-back : Same (labelled s at t b) t b
@@ -408,10 +408,10 @@ module _ (s : List ℕ) (at : ℕ) (t : List ℕ) (b : ℕ) (near : at < 4294967
         (yes-no (eqb x y));
   }
     where
-      at-the-slot : (x : ℕ) → x < 512 + 4 * b → x ≡ y → linkAt T b x ≡ linkAt t b x
+      at-the-slot : (x : ℕ) → x < 64 + 4 * b → x ≡ y → linkAt T b x ≡ linkAt t b x
       at-the-slot x h q = y-cases
           (λ e r.
-          let far : y ≡ 515 + 4 * b → ⊥ = λ p. omega arith in
+          let far : y ≡ 67 + 4 * b → ⊥ = λ p. omega arith in
           let v : getD T x 0 ≡ suc b = rw q (at-y far) in
           link-over T x b (omega arith) ∙ sym (rw (q ∙ r) e))
           (λ e r. absurd (omega arith))
@@ -443,7 +443,7 @@ module _ (s : List ℕ) (at : ℕ) (t : List ℕ) (b : ℕ) (near : at < 4294967
           go : (k x : ℕ) → 0 < linkAt T (suc b) x → linkAt T (suc b) x - 1 ≡ b → eqName n (labelAt s T (linkAt T (suc b) x - 1)) ≡ false → leadsTo s n T (suc b) (wayOf s n T (suc b) k d x) ≡ false
           go zero x p i a = rw (way-done s n T (suc b) 0 d x (omega arith)) (leads-by s n T (suc b) x p ∙ a)
           go (suc k) x p i a =
-              let z : linkAt T (suc b) (forkAt n d (linkAt T (suc b) x - 1)) ≡ 0 = rw i (link-own (bitAt n (min d 4096 + 9)) (bit-small n (min d 4096 + 9))) in
+              let z : linkAt T (suc b) (forkAt n d (linkAt T (suc b) x - 1)) ≡ 0 = rw i (link-own (bitAt n (min d 4096 + 6)) (bit-small n (min d 4096 + 6))) in
               rw (on-is s n T (suc b) k d x p a, none-is s n T (suc b) k (d + 1) (forkAt n d (linkAt T (suc b) x - 1)) z) (leads-none s n T (suc b) (forkAt n d (linkAt T (suc b) x - 1)) z)
 
       kept-label : (x : ℕ) → 0 < linkAt t b x → labelAt s T (linkAt t b x - 1) ≡ labelAt s t (linkAt t b x - 1)
@@ -518,13 +518,13 @@ module _ (s : List ℕ) (at : ℕ) (t : List ℕ) (b : ℕ) (near : at < 4294967
       is = λ n. bound-is n ∙ ap (elem n) (sym labels-bind);
       later = λ i e h k p. ⊎-elim
           (λ (q : suc i ≤ b). ⊎-elim
-          (λ (z : eqb (513 + 4 * i + e) y ≡ true). y-cases
-          (λ a r. let w : linkAt T (suc b) (513 + 4 * i + e) ≡ suc b = rw (eqb-true (513 + 4 * i + e) y z ∙ r) (link-new a r) in omega arith)
-          (λ a r. absurd (let w = eqb-true (513 + 4 * i + e) y z in omega arith)))
-          (λ (z : eqb (513 + 4 * i + e) y ≡ false).
-          let l = link-before (suc b) (513 + 4 * i + e) (omega arith) (omega arith) (omega arith) (eqb-false (513 + 4 * i + e) y z) in
+          (λ (z : eqb (65 + 4 * i + e) y ≡ true). y-cases
+          (λ a r. let w : linkAt T (suc b) (65 + 4 * i + e) ≡ suc b = rw (eqb-true (65 + 4 * i + e) y z ∙ r) (link-new a r) in omega arith)
+          (λ a r. absurd (let w = eqb-true (65 + 4 * i + e) y z in omega arith)))
+          (λ (z : eqb (65 + 4 * i + e) y ≡ false).
+          let l = link-before (suc b) (65 + 4 * i + e) (omega arith) (omega arith) (omega arith) (eqb-false (65 + 4 * i + e) y z) in
           rw l (f .later i e q k (rw l at p)))
-          (yes-no (eqb (513 + 4 * i + e) y)))
-          (λ (q : b < suc i). absurd (let g : i ≡ b = omega arith in let w : linkAt T (suc b) (513 + 4 * i + e) ≡ 0 = rw g (link-own e k) in omega arith))
+          (yes-no (eqb (65 + 4 * i + e) y)))
+          (λ (q : b < suc i). absurd (let g : i ≡ b = omega arith in let w : linkAt T (suc b) (65 + 4 * i + e) ≡ 0 = rw g (link-own e k) in omega arith))
           (within (suc i) b);
     }

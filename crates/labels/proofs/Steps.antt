@@ -22,16 +22,16 @@ module _ (t : List ℕ) (b x : ℕ) {v : ℕ} (ev : v ≡ getD t x 0) where
   pub link-none : v ≡ 0 → linkAt t b x ≡ 0
   unfolding linkAt
   link-none e = ⊎-elim
-      (λ (q : eqb (getD t (515 + 4 * (v - 1)) 0) x ≡ true). rw (← ev, le-leb v b (omega arith), q, e))
-      (λ (q : eqb (getD t (515 + 4 * (v - 1)) 0) x ≡ false). rw (← ev, le-leb v b (omega arith), q))
-      (yes-no (eqb (getD t (515 + 4 * (v - 1)) 0) x))
+      (λ (q : eqb (getD t (67 + 4 * (v - 1)) 0) x ≡ true). rw (← ev, le-leb v b (omega arith), q, e))
+      (λ (q : eqb (getD t (67 + 4 * (v - 1)) 0) x ≡ false). rw (← ev, le-leb v b (omega arith), q))
+      (yes-no (eqb (getD t (67 + 4 * (v - 1)) 0) x))
 
   -- that of a label that is not in force
   pub link-far : b < v → linkAt t b x ≡ 0
   unfolding linkAt
   link-far h = rw (← ev, lt-leb v b h)
 
-  module _ (h : v ≤ b) {w : ℕ} (ew : w ≡ getD t (515 + 4 * (v - 1)) 0) where
+  module _ (h : v ≤ b) {w : ℕ} (ew : w ≡ getD t (67 + 4 * (v - 1)) 0) where
     -- that of a label to which another number leads
     pub link-other : (w ≡ x → ⊥) → linkAt t b x ≡ 0
     unfolding linkAt
@@ -105,11 +105,11 @@ module _ (s : List ℕ) (n : Name) (t : List ℕ) (b : ℕ) where
 
 -- the label that is bound
 module _ (s : List ℕ) (at : ℕ) (t : List ℕ) (b : ℕ) where
-  pub bind-none : length t ≤ 512 + 4 * b + 3 → (b ≡ bindAt s at t b .0) × (t ≡ bindAt s at t b .1)
+  pub bind-none : length t ≤ 64 + 4 * b + 3 → (b ≡ bindAt s at t b .0) × (t ≡ bindAt s at t b .1)
   unfolding bindAt
-  bind-none h = rw (le-leb (length t) (512 + 4 * b + 3) h) (refl, refl)
+  bind-none h = rw (le-leb (length t) (64 + 4 * b + 3) h) (refl, refl)
 
-  module _ (h : 512 + 4 * b + 3 < length t) {name : Name} (en : name ≡ nameAt s at) {x : ℕ} (ex : x ≡ slotOf s name t b (512 + 4 * b + 3)) where
-    pub bind-on : {t₁ t₂ t₃ t₄ t₅ : List ℕ} → t₁ ≡ set t (512 + 4 * b) (at % 4294967296) → t₂ ≡ set t₁ (512 + 4 * b + 1) 0 → t₃ ≡ set t₂ (512 + 4 * b + 2) 0 → t₄ ≡ set t₃ x ((b + 1) % 4294967296) → t₅ ≡ set t₄ (512 + 4 * b + 3) (x % 4294967296) → (b + 1 ≡ bindAt s at t b .0) × (t₅ ≡ bindAt s at t b .1)
+  module _ (h : 64 + 4 * b + 3 < length t) {name : Name} (en : name ≡ nameAt s at) {x : ℕ} (ex : x ≡ slotOf s name t b (64 + 4 * b + 3)) where
+    pub bind-on : {t₁ t₂ t₃ t₄ t₅ : List ℕ} → t₁ ≡ set t (64 + 4 * b) (at % 4294967296) → t₂ ≡ set t₁ (64 + 4 * b + 1) 0 → t₃ ≡ set t₂ (64 + 4 * b + 2) 0 → t₄ ≡ set t₃ x ((b + 1) % 4294967296) → t₅ ≡ set t₄ (64 + 4 * b + 3) (x % 4294967296) → (b + 1 ≡ bindAt s at t b .0) × (t₅ ≡ bindAt s at t b .1)
     unfolding bindAt
-    bind-on e₁ e₂ e₃ e₄ e₅ = rw (lt-leb (length t) (512 + 4 * b + 3) h, ← en, ← ex, ← e₁, ← e₂, ← e₃, ← e₄) (refl, e₅)
+    bind-on e₁ e₂ e₃ e₄ e₅ = rw (lt-leb (length t) (64 + 4 * b + 3) h, ← en, ← ex, ← e₁, ← e₂, ← e₃, ← e₄) (refl, e₅)

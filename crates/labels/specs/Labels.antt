@@ -12,13 +12,13 @@ use Rattle.lookup.specs.Name.{nameAt}
 use Rattle.seek.specs.At.{pick}
 use Rattle.hash.specs.Hash.{hashOf, bitAt}
 
--- the first 512 numbers are heads: that of a name is told by the nine highest bits of its hash
+-- the first 64 numbers are heads: that of a name is told by the six highest bits of its hash
 unfoldable pub headOf : Name → ℕ
-headOf n = hashOf n / 8388608
+headOf n = hashOf n / 67108864
 
 -- a label has four numbers behind them: the place of its name, two that lead on, and where the number stands that leads to it
 unfoldable pub labelAt : List ℕ → List ℕ → ℕ → Name
-labelAt s t i = nameAt s (getD t (512 + 4 * i) 0)
+labelAt s t i = nameAt s (getD t (64 + 4 * i) 0)
 
 -- the first so many labels, the last one first
 unfoldable pub labelsIn : List ℕ → List ℕ → ℕ → List Name
@@ -28,11 +28,11 @@ labelsIn s t (suc i) = labelAt s t i ∷ labelsIn s t i
 -- what leads on at x: one more than the number of one of the first b labels, which says that it is led to from there; or 0. Whatever else the
 -- table holds there leads nowhere, so that labels are taken back by counting fewer of them
 unfoldable pub linkAt : List ℕ → ℕ → ℕ → ℕ
-linkAt t b x = let v = getD t x 0 in pick (leb v b) (pick (eqb (getD t (515 + 4 * (v - 1)) 0) x) v 0) 0
+linkAt t b x = let v = getD t x 0 in pick (leb v b) (pick (eqb (getD t (67 + 4 * (v - 1)) 0) x) v 0) 0
 
 -- which number of label i leads on for a name, by its bits behind these nine, as far as a name has some
 unfoldable pub forkAt : Name → ℕ → ℕ → ℕ
-forkAt n d i = 513 + 4 * i + bitAt n (min d 4096 + 9)
+forkAt n d i = 65 + 4 * i + bitAt n (min d 4096 + 6)
 
 -- where the way of a name ends that has come to x after d steps, with k steps left: where nothing leads on, or to a label of that name
 unfoldable pub wayOf : List ℕ → Name → List ℕ → ℕ → ℕ → ℕ → ℕ → ℕ
@@ -60,7 +60,7 @@ slotOf s n t b aside = let x = endOf s n t b in pick (eqb (linkAt t b x) 0) x as
 -- the label at a place becomes number b: how many there are then, and the table. Past the table's end nothing is bound
 unfoldable pub bindAt : List ℕ → ℕ → List ℕ → ℕ → ℕ × List ℕ
 bindAt s at t b =
-    let first = 512 + 4 * b in
+    let first = 64 + 4 * b in
     let x = slotOf s (nameAt s at) t b (first + 3) in
     pick (leb (length t) (first + 3)) (b, t)
     (b + 1, set (set (set (set (set t first (at % 4294967296)) (first + 1) 0) (first + 2) 0) x ((b + 1) % 4294967296)) (first + 3) (x % 4294967296))

@@ -1,4 +1,4 @@
-// The labels in force, in one lent table of numbers. Its first 512 are heads, by the nine highest bits of a name's hash. Behind them each label has
+// The labels in force, in one lent table of numbers. Its first 64 are heads, by the six highest bits of a name's hash. Behind them each label has
 // four numbers: the place of its length byte, two that lead on, and where the number stands that leads to it. A number that leads on is one more
 // than that of a label, and counts where that label is in force and says that it is led to from there: so labels are taken back by counting fewer
 // of them. Each step looks at the next bit of the hash, and then of the name, 0 behind its end: so a name meets no more labels than the longest has
@@ -20,7 +20,7 @@ fn head_of(name: &[u8], hash: u32) -> usize
     ensures { λ r. ⌜ r ≡ headOf (now (name .entry)) ⌝ }
 {
     let h = hash as usize;
-    h / 8388608
+    h / 67108864
 }
 
 // A number of the table, or 0 past its end.
@@ -40,7 +40,7 @@ fn label_at<'a>(s: &'a [u8], table: &[u32], i: usize) -> &'a [u8]
     if table.len() <= i {
         return name_at(s, 0);
     }
-    let place = held(table, 512 + 4 * i);
+    let place = held(table, 64 + 4 * i);
     name_at(s, place)
 }
 
@@ -55,7 +55,7 @@ fn link_at(table: &[u32], b: usize, x: usize) -> usize
     if b < v {
         return 0;
     }
-    if held(table, 515 + 4 * (v - 1)) != x {
+    if held(table, 67 + 4 * (v - 1)) != x {
         return 0;
     }
     v
@@ -66,7 +66,7 @@ fn fork(name: &[u8], hash: u32, depth: usize, i: usize) -> usize
     requires { ⌜ (i ≤ 4294967295) × (hash ≡ hashOf (now name)) ⌝ }
     ensures { λ r. ⌜ r ≡ forkAt (now (name .entry)) depth i ⌝ }
 {
-    513 + 4 * i + bit(name, hash, least(depth, 4096) + 9)
+    65 + 4 * i + bit(name, hash, least(depth, 4096) + 6)
 }
 
 // Where a name's way ends: where nothing leads on, or to a label of that name.
@@ -133,7 +133,7 @@ pub fn bind_label(s: &[u8], at: usize, table: &mut [u32], b: usize) -> usize
     if table.len() <= b {
         return b;
     }
-    let first = 512 + 4 * b;
+    let first = 64 + 4 * b;
     if table.len() <= first + 3 {
         return b;
     }

@@ -30,7 +30,7 @@ use Rattle.pieces.specs.Pieces.{pieces, places, written, expanded}
 use Rattle.laws.proofs.Splits.{s-comb}
 use Rattle.pieces.proofs.Written.{written-is}
 use Rattle.pieces.proofs.Expanded.{expansion}
-use Rattle.calls.proofs.Link.{walked}
+use Rattle.calls.proofs.Link.{gone, walked}
 use Rattle.expansion.specs.Deep.{DeepM}
 use Rattle.kinds.specs.Rows.{keep, ofKinds, InRows}
 use Rattle.known.specs.Table.{Rows}
@@ -108,18 +108,17 @@ module _ {macros pl hs : List ℕ} {rows : ℕ} {book : List ℕ} {at : ℕ} {ar
     deep d e = omega (arith, expand-deep ms (rows-deep macros pl hs rows ms (wh .table)) c d e)
 
     -- how many levels the walk over the finished body leaves
-    left-is : (d : Combinator) → levels d ≤ 127 → Wrote out₁ q (wCombinator d []) out₂ r → r ≤ length out₂ → (m₃ : List ℕ) → length m₃ ≡ length marks
-        → (v : Walk) → v ≡ combinatorAt 129 out₂ (walk q 0 129 true) m₃ .0 → v .left ≡ min 129 (129 - levels d)
-    left-is d dd wd k m₃ lm₃ v hv =
+    left-is : (d : Combinator) → levels d ≤ 127 → Wrote out₁ q (wCombinator d []) out₂ r → r ≤ length out₂ → (m₃ : List ℕ) (v : Walk) → v ≡ combinatorAt 129 out₂ (walk q 0 129 true) m₃ .0
+        → v .left ≡ min 129 (129 - levels d)
+    left-is d dd wd k m₃ v hv =
         let l : length out₂ ≡ length out = lo ∙ same-length wo in
         let s : Here out₂ q (wCombinator d (drop (q + length (wCombinator d [])) out₁)) = rw (s-comb d [] (drop (q + length (wCombinator d [])) out₁)) (wrote-here wd (omega arith)) in
-        rw hv (walked out₂ (omega (arith, wh .out-short)) d 129 (omega arith) (walk q 0 129 true) m₃ (drop (q + length (wCombinator d [])) out₁) s
-        (omega (arith, room-enough d q, size-here d (drop (q + length (wCombinator d [])) out₁) s, wh .marks-out)) .deep)
+        rw hv (gone out₂ (omega (arith, wh .out-short)) d 129 (omega arith) (walk q 0 129 true) m₃ (drop (q + length (wCombinator d [])) out₁) s (omega arith) .deep)
 
   -- by what the expansion of the body is
   by-body : (out′ : List ℕ) (r′ : ℕ) → (r ≡ suc (length out₁) → r′ ≡ suc (length out))
       → ((n : Name) (ps : List Param) (d : Combinator) → levels d ≤ 127 → Wrote out₁ q (wCombinator d []) out₂ r → Wrote out o (wDefinition (format n ps d) []) out₂ r
-      → ((m₃ : List ℕ) → length m₃ ≡ length marks → (v : Walk) → r ≤ length out₂ → v ≡ combinatorAt 129 out₂ (walk q 0 129 true) m₃ .0 → v .left ≡ min 129 (129 - levels d))
+      → ((m₃ : List ℕ) (v : Walk) → r ≤ length out₂ → v ≡ combinatorAt 129 out₂ (walk q 0 129 true) m₃ .0 → v .left ≡ min 129 (129 - levels d))
       → Puts out o (shallow d >>= λ e. done (wDefinition (format n ps e) [])) out′ r′)
       → Formatted macros pl hs rows book at areas marks out o out′ r′
   unfolding expandOne shallow
@@ -135,7 +134,7 @@ module _ {macros pl hs : List ℕ} {rows : ℕ} {book : List ℕ} {at : ℕ} {ar
       go wh n ps c z h dp dc (refused k) e p = rw e (f p)
       go wh n ps c z h dp dc (done d) e p =
           let dd = deep wh n ps c z h dp dc d e in
-          rw e (flat (leb (levels d) 64) n ps d (g n ps d dd p (both wh n ps c z h dp dc d p) (λ m₃ l v k hv. left-is wh n ps c z h dp dc d dd p k m₃ l v hv)))
+          rw e (flat (leb (levels d) 64) n ps d (g n ps d dd p (both wh n ps c z h dp dc d p) (λ m₃ v k hv. left-is wh n ps c z h dp dc d dd p k m₃ v hv)))
 
   pub formatted-cut : length out₂ < r → Formatted macros pl hs rows book at areas marks out o out₂ r
   unfolding shallow
@@ -146,11 +145,11 @@ module _ {macros pl hs : List ℕ} {rows : ℕ} {book : List ℕ} {at : ℕ} {ar
       by-level true n ps d wd wf = wf
       by-level false n ps d wd wf = omega (arith, place-is wd, lo, same-length wo)
 
-  module _ (k : r ≤ length out₂) (m₃ : List ℕ) (lm₃ : length m₃ ≡ length marks) (v : Walk) (hv : v ≡ combinatorAt 129 out₂ (walk q 0 129 true) m₃ .0) where
+  module _ (k : r ≤ length out₂) (m₃ : List ℕ) (v : Walk) (hv : v ≡ combinatorAt 129 out₂ (walk q 0 129 true) m₃ .0) where
     pub formatted-deep : v .left < 65 → {x : ℕ} → x ≡ suc (length out₂) → Formatted macros pl hs rows book at areas marks out o out₂ x
     unfolding shallow
-    formatted-deep l {x} e = by-body out₂ x (λ f. e ∙ ap suc (lo ∙ same-length wo)) (λ n ps d dd wd wf le. rw (lt-leb (levels d) 64 (omega (arith, le m₃ lm₃ v k hv))) (e ∙ ap suc (lo ∙ same-length wo)))
+    formatted-deep l {x} e = by-body out₂ x (λ f. e ∙ ap suc (lo ∙ same-length wo)) (λ n ps d dd wd wf le. rw (lt-leb (levels d) 64 (omega (arith, le m₃ v k hv))) (e ∙ ap suc (lo ∙ same-length wo)))
 
     pub formatted-done : 65 ≤ v .left → Formatted macros pl hs rows book at areas marks out o out₂ r
     unfolding shallow
-    formatted-done l = by-body out₂ r (λ e. e ∙ ap suc (same-length wo)) (λ n ps d dd wd wf le. rw (le-leb (levels d) 64 (omega (arith, le m₃ lm₃ v k hv))) wf)
+    formatted-done l = by-body out₂ r (λ e. e ∙ ap suc (same-length wo)) (λ n ps d dd wd wf le. rw (le-leb (levels d) 64 (omega (arith, le m₃ v k hv))) wf)

@@ -242,7 +242,6 @@ module _ {macros pl hs : List ℕ} {rows : ℕ} {book areas marks out : List ℕ
           still ms wh = record {
             sized = record { macros-short = wh .sized .macros-short; book-short = wh .sized .book-short; areas-long = la ∙ wh .sized .areas-long };
             marks-book = omega (arith, wh .marks-book);
-            marks-out = omega (arith, wh .marks-out, same-length w₂);
             out-short = omega (arith, wh .out-short, same-length w₂);
             table = wh .table;
           }

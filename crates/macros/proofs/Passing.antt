@@ -159,7 +159,7 @@ finished out out₂ n o end es e eo w k =
 module _ {lib book out out₁ out₂ pl hs pl₁ hs₁ areas marks : List ℕ} {rows n o end q : ℕ} (tb : Tabled lib pl hs pl₁ hs₁ rows) (lp : length pl ≡ 512) (lh : length hs ≡ 1280) (cl : Clear hs)
     {k : ℕ} (kp : KeptOf book k) (nk : n ≡ min k 512) (w : Wrote out 0 (wU16 n []) out₁ q) (eo : o ≡ 2 + 6 * n) (ro : o ≤ length out)
     (bk : Booked lib pl₁ hs₁ rows book areas marks out₁ o out₂ end) (lo : length out₂ ≡ length out₁) where
-  module _ (ms ds : List Definition) (el : lib ≡ wBook ms) (im : IsBook ms) (eb : book ≡ wBook ds) (id : IsBook ds) (al : length areas ≡ 32768) (ol : length out ≤ 16384) (mb : length book ≤ 2 * length marks) (mo : length out ≤ 2 * length marks) where
+  module _ (ms ds : List Definition) (el : lib ≡ wBook ms) (im : IsBook ms) (eb : book ≡ wBook ds) (id : IsBook ds) (al : length areas ≡ 32768) (ol : length out ≤ 16384) (mb : length book ≤ 2 * length marks) where
     kept : n ≡ keptOf ds
     kept = omega (arith, kp .says ds eb id, kept-few ds, id .few)
 
@@ -172,7 +172,6 @@ module _ {lib book out out₁ out₂ pl hs pl₁ hs₁ areas marks : List ℕ} {
             areas-long = al;
           };
           marks-book = mb;
-          marks-out = omega (arith, same-length w);
           out-short = omega (arith, same-length w);
           table = tb .says ms el im lp lh cl;
         })
@@ -180,9 +179,9 @@ module _ {lib book out out₁ out₂ pl hs pl₁ hs₁ areas marks : List ℕ} {
 
   pub passed-grown : length out₂ < end → PassedBy (length marks) lib book areas out out₂ Grown
   passed-grown g = record {
-    says = λ ms ds el im eb id al ol mb mo.
+    says = λ ms ds el im eb id al ol mb.
         rw (fit-is (length out) ms ds ol (id .deep))
-        (go (shallowAll ds (macros ms [])) (λ es e. yielded (kept-count ds (macros ms [])) e ∙ sym (kept ms ds el im eb id al ol mb mo)) (written ms ds el im eb id al ol mb mo));
+        (go (shallowAll ds (macros ms [])) (λ es e. yielded (kept-count ds (macros ms [])) e ∙ sym (kept ms ds el im eb id al ol mb)) (written ms ds el im eb id al ol mb));
   }
     where
       go : (x : Out (List Definition)) → ((es : List Definition) → x ≡ done es → length es ≡ n) → Writes out₁ 2 o x out₂ end
@@ -196,9 +195,9 @@ module _ {lib book out out₁ out₂ pl hs pl₁ hs₁ areas marks : List ℕ} {
 
   pub passed-book : end ≤ length out₂ → PassedBy (length marks) lib book areas out out₂ (Book end)
   passed-book g = record {
-    says = λ ms ds el im eb id al ol mb mo.
+    says = λ ms ds el im eb id al ol mb.
         rw (fit-is (length out) ms ds ol (id .deep))
-        (go (shallowAll ds (macros ms [])) (λ es e. yielded (kept-count ds (macros ms [])) e ∙ sym (kept ms ds el im eb id al ol mb mo)) (written ms ds el im eb id al ol mb mo));
+        (go (shallowAll ds (macros ms [])) (λ es e. yielded (kept-count ds (macros ms [])) e ∙ sym (kept ms ds el im eb id al ol mb)) (written ms ds el im eb id al ol mb));
   }
     where
       go : (x : Out (List Definition)) → ((es : List Definition) → x ≡ done es → length es ≡ n) → Writes out₁ 2 o x out₂ end
@@ -216,7 +215,7 @@ module _ {lib book out out₁ out₂ pl hs pl₁ hs₁ areas marks : List ℕ} {
 module _ {lib book areas out : List ℕ} {marks n k : ℕ} (kp : KeptOf book k) (nk : n ≡ min k 512) (short : length out < 2 + 6 * n) where
   pub passed-short : PassedBy marks lib book areas out out Grown
   passed-short = record {
-    says = λ ms ds el im eb id al ol mb mo.
+    says = λ ms ds el im eb id al ol mb.
         rw (fit-is (length out) ms ds ol (id .deep))
         (go (shallowAll ds (macros ms [])) (λ es e. omega (arith, yielded (kept-count ds (macros ms [])) e, kp .says ds eb id, kept-few ds, id .few)));
   }
@@ -228,10 +227,10 @@ module _ {lib book areas out : List ℕ} {marks n k : ℕ} (kp : KeptOf book k) 
 
 -- with marks for any book, and with those for short ones
 pub passed-long : {lib book areas out out′ : List ℕ} {r : Expanded} → PassedBy 8192 lib book areas out out′ r → Passed lib book areas out out′ r
-passed-long {book = book} p = record { says = λ ms ds el im eb id al ol. p .says ms ds el im eb id al ol (omega (arith, ap length eb, size-length ds, id .short)) (omega arith) }
+passed-long {book = book} p = record { says = λ ms ds el im eb id al ol. p .says ms ds el im eb id al ol (omega (arith, ap length eb, size-length ds, id .short)) }
 
-pub passed-brief : {lib book areas out out′ : List ℕ} {r : Expanded} → length book ≤ 2048 → length out ≤ 2048 → PassedBy 1024 lib book areas out out′ r → Passed lib book areas out out′ r
-passed-brief h k p = record { says = λ ms ds el im eb id al ol. p .says ms ds el im eb id al ol (omega arith) (omega arith) }
+pub passed-brief : {lib book areas out out′ : List ℕ} {r : Expanded} → length book ≤ 512 → PassedBy 256 lib book areas out out′ r → Passed lib book areas out out′ r
+passed-brief h p = record { says = λ ms ds el im eb id al ol. p .says ms ds el im eb id al ol (omega arith) }
 
 -- the plain mode: the book's own macros
 pub plain-mode : (ds : List Definition) → pass ds ds ≡ expandList ds

@@ -44,9 +44,8 @@ shallowAll (macro n ps c ∷ ds) ms = shallowAll ds ms
 -- what an expansion of the whole book needs
 pub record Whole (macros pl hs : List ℕ) (rows : ℕ) (book areas marks out : List ℕ) (ms : List Macro) : Type 0 where
   pub sized : Areas macros book areas
-  -- a combinator of n bytes has at most n / 2 marks
+  -- a combinator of n bytes has at most n / 2 marks; the walk over what was made of it needs none
   pub marks-book : length book ≤ 2 * length marks
-  pub marks-out : length out ≤ 2 * length marks
   pub out-short : length out ≤ 16384
   pub table : Rows macros pl hs rows ms
 

@@ -44,7 +44,7 @@ pub record Passed (lib book areas out out′ : List ℕ) (r : Expanded) : Type 0
   pub says : (ms ds : List Definition) → lib ≡ wBook ms → IsBook ms → book ≡ wBook ds → IsBook ds → length areas ≡ 32768 → length out ≤ 16384
       → Leaves (fitting (length out) (pass ms ds)) out out′ r
 
--- with so many marks, which are enough for both books
+-- with so many marks, which are enough for the book
 pub record PassedBy (marks : ℕ) (lib book areas out out′ : List ℕ) (r : Expanded) : Type 0 where
   pub says : (ms ds : List Definition) → lib ≡ wBook ms → IsBook ms → book ≡ wBook ds → IsBook ds → length areas ≡ 32768 → length out ≤ 16384
-      → length book ≤ 2 * marks → length out ≤ 2 * marks → Leaves (fitting (length out) (pass ms ds)) out out′ r
+      → length book ≤ 2 * marks → Leaves (fitting (length out) (pass ms ds)) out out′ r

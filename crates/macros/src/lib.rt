@@ -55,12 +55,12 @@ fn expand_marked(
     Expanded::Book { len: end }
 }
 
-// With marks for a book of at most 2,048 bytes whose expansion has no more.
+// With marks for a book of at most 512 bytes.
 fn expand_short(macros: &[u8], book: &[u8], areas: &mut [u8], out: &mut [u8]) -> Expanded
-    requires { ⌜ (length (now book) ≤ 2048) × (length (now out) ≤ 2048) ⌝ }
+    requires { ⌜ length (now book) ≤ 512 ⌝ }
     ensures { λ r. ⌜ Passed (now (macros .entry)) (now (book .entry)) (now (areas .entry)) (now (out .entry)) (now (out .exit)) r ⌝ }
 {
-    let mut marks = [0u16; 1024];
+    let mut marks = [0u16; 256];
     expand_marked(macros, book, areas, &mut marks, out)
 }
 
@@ -87,10 +87,8 @@ pub fn expand_macros(macros: &[u8], book: &[u8], areas: &mut [u8], out: &mut [u8
             return Expanded::Book { len: book.len() };
         }
     }
-    if book.len() <= 2048 {
-        if out.len() <= 2048 {
-            return expand_short(macros, book, areas, out);
-        }
+    if book.len() <= 512 {
+        return expand_short(macros, book, areas, out);
     }
     expand_long(macros, book, areas, out)
 }

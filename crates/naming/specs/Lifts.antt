@@ -31,10 +31,10 @@ pub record Some (s : List ℕ) (at end : ℕ) : Type 0 where
   pub what : Combinator
   pub whole : Whole s at end what
 
--- the scratch tables of collection: 512 heads and four numbers a label for every four bytes, a use for every byte
+-- the scratch tables of collection: 64 heads and four numbers a label for every four bytes, a use for every byte
 pub record Scratch (s bound uses spare : List ℕ) : Type 0 where
   pub small : (i : ℕ) → byteAt s i < 256
-  pub labels : length s + 512 ≤ length bound
+  pub labels : length s + 64 ≤ length bound
   pub uses-long : length s ≤ length uses
   pub spare-long : length s ≤ length spare
 

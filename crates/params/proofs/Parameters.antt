@@ -48,7 +48,7 @@ module _ (s uses spare : List ℕ) (n : ℕ) (room : n ≤ length uses) (other :
   sorted-count = rw all (sym (length-names s (once s (ordered 24 s (take n uses)))) ∙ ap length (sorted-names s (take n uses) (rw (length-take-le n uses room) few)))
 
 module _ (s : List ℕ) (p : ℕ) (c : Combinator) (z : List ℕ) (small : (i : ℕ) → byteAt s i < 256) (short : length s < 16777216) (deep : levels c ≤ 64) (h : Here s p (wCombinator c z)) where
-  module _ (bound uses spare : List ℕ) (labels : length s + 512 ≤ length bound) where
+  module _ (bound uses spare : List ℕ) (labels : length s + 64 ≤ length bound) where
     pub params-leftover : leftover c ≡ true → paramsAt s p bound uses spare .0 ≡ Leftover
     unfolding paramsAt sortedOr
     params-leftover e = rw (collect-leftover s p c z small short deep h bound uses labels e)

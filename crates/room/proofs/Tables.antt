@@ -17,7 +17,7 @@ zero-at (suc n) zero = refl
 zero-at (suc n) (suc p) = zero-at n p
 
 -- tables of zeros for books of at most n bytes, and the ends of one walk over the book: no end is known before it
-pub lent : {s ends : List ℕ} (n m : ℕ) → n + 512 ≡ m → length s ≤ n → ((i : ℕ) → getD s i 0 < 256) → ends ≡ measuredBook s (replicate n 0)
+pub lent : {s ends : List ℕ} (n m : ℕ) → n + 64 ≡ m → length s ≤ n → ((i : ℕ) → getD s i 0 < 256) → ends ≡ measuredBook s (replicate n 0)
     → Lent s ends (replicate n 0) (replicate n 0) (replicate m 0) (replicate n 0) (replicate n 0)
 unfolding byteAt
 lent {s} n m e l b f =

@@ -9,7 +9,7 @@ ghost use lib.ListN.{length};
 ghost use Rattle.report.specs.Elaborates.{Expanded, Lifts};
 
 // The tables of a book of at most 128 bytes: for every byte an end, a number and a use; for every four bytes four numbers of a binder and of a
-// label, with 512 more for the labels' hashes.
+// label, with 64 more for the labels' hashes.
 fn lift_tiny(s: &[u8], sheet: &mut [u8], out: &mut [u8]) -> Elaborated
     requires { ⌜ Expanded (now s) × (length (now s) ≤ 128) × (40552 ≤ length (now sheet)) ⌝ }
     ensures { λ r. ⌜ Lifts (now (s .entry)) (now (out .entry)) (now (out .exit)) r ⌝ }
@@ -17,7 +17,7 @@ fn lift_tiny(s: &[u8], sheet: &mut [u8], out: &mut [u8]) -> Elaborated
     let mut ends = [0u16; 128];
     let mut number = [0u16; 128];
     let mut binders = [0u16; 128];
-    let mut bound = [0u32; 640];
+    let mut bound = [0u32; 192];
     let mut uses = [0u32; 128];
     let mut spare = [0u32; 128];
     measure_book(s, &mut ends);
@@ -42,7 +42,7 @@ fn lift_small(s: &[u8], sheet: &mut [u8], out: &mut [u8]) -> Elaborated
     let mut ends = [0u16; 512];
     let mut number = [0u16; 512];
     let mut binders = [0u16; 512];
-    let mut bound = [0u32; 1024];
+    let mut bound = [0u32; 576];
     let mut uses = [0u32; 512];
     let mut spare = [0u32; 512];
     measure_book(s, &mut ends);
@@ -67,7 +67,7 @@ fn lift_short(s: &[u8], sheet: &mut [u8], out: &mut [u8]) -> Elaborated
     let mut ends = [0u16; 2048];
     let mut number = [0u16; 2048];
     let mut binders = [0u16; 2048];
-    let mut bound = [0u32; 2560];
+    let mut bound = [0u32; 2112];
     let mut uses = [0u32; 2048];
     let mut spare = [0u32; 2048];
     measure_book(s, &mut ends);
@@ -92,7 +92,7 @@ fn lift_middle(s: &[u8], sheet: &mut [u8], out: &mut [u8]) -> Elaborated
     let mut ends = [0u16; 4096];
     let mut number = [0u16; 4096];
     let mut binders = [0u16; 4096];
-    let mut bound = [0u32; 4608];
+    let mut bound = [0u32; 4160];
     let mut uses = [0u32; 4096];
     let mut spare = [0u32; 4096];
     measure_book(s, &mut ends);
@@ -117,7 +117,7 @@ fn lift_long(s: &[u8], sheet: &mut [u8], out: &mut [u8]) -> Elaborated
     let mut ends = [0u16; 16384];
     let mut number = [0u16; 16384];
     let mut binders = [0u16; 16384];
-    let mut bound = [0u32; 16896];
+    let mut bound = [0u32; 16448];
     let mut uses = [0u32; 16384];
     let mut spare = [0u32; 16384];
     measure_book(s, &mut ends);

@@ -10,7 +10,7 @@ use Rattle.labels.proofs.label_at.Tie as tie
 
 returns : tie.Need-returns
 unfolding labelAt
-returns c = rw (List·getD-eq-default (c .before .before .before .before .args .table .now) 0 {n = 512 + 4 * (c .before .before .before .before .args .i)} (omega arith)) (c .name-at .ensures)
+returns c = rw (List·getD-eq-default (c .before .before .before .before .args .table .now) 0 {n = 64 + 4 * (c .before .before .before .before .args .i)} (omega arith)) (c .name-at .ensures)
 
 returns-2 : tie.Need-returns-2
 unfolding labelAt

@@ -9,7 +9,7 @@ use Rattle.room.proofs.lift_long.Statement.{statement}
 use Rattle.room.proofs.lift_long.Tie as tie
 
 lift-with-requires : tie.Need-lift-with-requires
-lift-with-requires c κs = let p = c .before .before .before .before .before .before .before .before .before .before .before .before .before .before .pre in (p .0, lent 16384 16896 refl (expanded-short (p .0)) (λ i. omega (arith, c .before .before .before .before .before .before .before .before .before .before .before .before .before .shared-slice-known .given i)) (c .before .before .before .before .before .before .before .before .before .measure-book .ensures), p .1)
+lift-with-requires c κs = let p = c .before .before .before .before .before .before .before .before .before .before .before .before .before .before .pre in (p .0, lent 16384 16448 refl (expanded-short (p .0)) (λ i. omega (arith, c .before .before .before .before .before .before .before .before .before .before .before .before .before .shared-slice-known .given i)) (c .before .before .before .before .before .before .before .before .before .measure-book .ensures), p .1)
 
 same-length : tie.Need-same-length
 same-length c = c .before .before .before .sheet .given

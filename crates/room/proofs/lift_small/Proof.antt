@@ -8,7 +8,7 @@ use Rattle.room.proofs.lift_small.Statement.{statement}
 use Rattle.room.proofs.lift_small.Tie as tie
 
 lift-with-requires : tie.Need-lift-with-requires
-lift-with-requires c κs = let p = c .before .before .before .before .before .before .before .before .before .before .before .before .before .before .pre in (p .0, lent 512 1024 refl (p .1) (λ i. omega (arith, c .before .before .before .before .before .before .before .before .before .before .before .before .before .shared-slice-known .given i)) (c .before .before .before .before .before .before .before .before .before .measure-book .ensures), p .2)
+lift-with-requires c κs = let p = c .before .before .before .before .before .before .before .before .before .before .before .before .before .before .pre in (p .0, lent 512 576 refl (p .1) (λ i. omega (arith, c .before .before .before .before .before .before .before .before .before .before .before .before .before .shared-slice-known .given i)) (c .before .before .before .before .before .before .before .before .before .measure-book .ensures), p .2)
 
 same-length : tie.Need-same-length
 same-length c = c .before .before .before .sheet .given

@@ -63,7 +63,7 @@ same-length-8 c = c .before .before .before .before .before .before .before .bef
 returns-2 : tie.Need-returns-2
 returns-2 c =
     formatted-deep (c .before .before .before .before .before .before .before .before .before .before .before .before .before .before .before .before .before .before .before .before .before .before .before .before .before .before .before .before .before .before .before .name-past .ensures) (c .before .before .before .before .before .before .before .before .before .before .before .before .before .before .before .before .before .before .before .before .before .before .before .before .before .before .before .before .before .params-past .ensures) (c .before .before .before .before .before .before .before .before .before .before .before .before .before .before .before .before .before .before .before .before .before .before .before .before .before .put-part .ensures) _ (c .before .before .before .before .before .before .before .before .before .before .before .before .before .before .before .before .before .before .before .before .before .before .before .before .before .before .before .before .marks .given) _ (c .before .before .before .before .before .before .before .before .before .before .before .before .before .before .before .before .before .before .before .before .before .walk-over .ensures .0) (c .before .before .before .before .before .before .before .before .before .before .before .before .before .before .before .before .before .before .before .before .before .walk-over .ensures .1)
-    (c .before .before .before .before .before .before .before .before .before .before .before .before .before .before .before .before .before .first-marks .ensures) (c .before .before .before .before .before .before .before .before .before .before .before .before .before .expand-macros-in-combinator .ensures) (c .before .before .before .before .before .before .before .before .out2 .given) (c .before .before .before .before .before .before .if1 .left) _ (c .before .before .before .before .before .before .before .before .before .before .before .before .before .before .before .before .before .before .before .before .marks2 .given ∙ c .before .before .before .before .before .before .before .before .before .before .before .before .before .before .before .before .before .before .before .before .before .before .before .before .before .before .before .before .marks .given) _ (c .before .before .before .walk-over2 .ensures .0) (c .if2 .taken) (omega arith)
+    (c .before .before .before .before .before .before .before .before .before .before .before .before .before .before .before .before .before .first-marks .ensures) (c .before .before .before .before .before .before .before .before .before .before .before .before .before .expand-macros-in-combinator .ensures) (c .before .before .before .before .before .before .before .before .out2 .given) (c .before .before .before .before .before .before .if1 .left) _ _ (c .before .before .before .walk-over2 .ensures .0) (c .if2 .taken) (omega arith)
 
 same-length-9 : tie.Need-same-length-9
 same-length-9 c = search needs
@@ -80,7 +80,7 @@ same-length-12 c = c .before .before .before .before .before .before .before .be
 returns-3 : tie.Need-returns-3
 returns-3 c =
     formatted-done (c .before .before .before .before .before .before .before .before .before .before .before .before .before .before .before .before .before .before .before .before .before .before .before .before .before .before .before .before .before .before .before .name-past .ensures) (c .before .before .before .before .before .before .before .before .before .before .before .before .before .before .before .before .before .before .before .before .before .before .before .before .before .before .before .before .before .params-past .ensures) (c .before .before .before .before .before .before .before .before .before .before .before .before .before .before .before .before .before .before .before .before .before .before .before .before .before .put-part .ensures) _ (c .before .before .before .before .before .before .before .before .before .before .before .before .before .before .before .before .before .before .before .before .before .before .before .before .before .before .before .before .marks .given) _ (c .before .before .before .before .before .before .before .before .before .before .before .before .before .before .before .before .before .before .before .before .before .walk-over .ensures .0) (c .before .before .before .before .before .before .before .before .before .before .before .before .before .before .before .before .before .before .before .before .before .walk-over .ensures .1)
-    (c .before .before .before .before .before .before .before .before .before .before .before .before .before .before .before .before .before .first-marks .ensures) (c .before .before .before .before .before .before .before .before .before .before .before .before .before .expand-macros-in-combinator .ensures) (c .before .before .before .before .before .before .before .before .out2 .given) (c .before .before .before .before .before .before .if1 .left) _ (c .before .before .before .before .before .before .before .before .before .before .before .before .before .before .before .before .before .before .before .before .marks2 .given ∙ c .before .before .before .before .before .before .before .before .before .before .before .before .before .before .before .before .before .before .before .before .before .before .before .before .before .before .before .before .marks .given) _ (c .before .before .before .walk-over2 .ensures .0) (c .if2 .left)
+    (c .before .before .before .before .before .before .before .before .before .before .before .before .before .before .before .before .before .first-marks .ensures) (c .before .before .before .before .before .before .before .before .before .before .before .before .before .expand-macros-in-combinator .ensures) (c .before .before .before .before .before .before .before .before .out2 .given) (c .before .before .before .before .before .before .if1 .left) _ _ (c .before .before .before .walk-over2 .ensures .0) (c .if2 .left)
 
 pub expand-format-spec : {M : Type 1} → statement M
 expand-format-spec =
