@@ -134,7 +134,7 @@ module _ {s z : List ℕ} {ns : List Name} {l : Bool} {n b : ℕ} {f : Bool} {bo
   }
 
 -- a label bound for the fields that follow
-module _ {s z : List ℕ} {ns : List Name} {l : Bool} {n b : ℕ} {f : Bool} {uses : List ℕ} {g : State} (at : ℕ) (t : List ℕ) (near : at < 4294967296) (few : 516 + 4 * b < 4294967296) (room : 516 + 4 * b ≤ length t) where
+module _ {s z : List ℕ} {ns : List Name} {l : Bool} {n b : ℕ} {f : Bool} {uses : List ℕ} {g : State} (at : ℕ) (t : List ℕ) (near : at < 4294967296) (few : 68 + 4 * b < 4294967296) (room : 68 + 4 * b ≤ length t) where
   pub binds : (name : Name) → nameAt s at ≡ name → Closed s z ns l n (suc b) f (labelled s at t b) uses g → Closed s z (remove name ns) l n b f t uses g
   binds name e p =
       let q = p .gathered in

@@ -266,8 +266,8 @@ module _ (s : List ℕ) (small : (i : ℕ) → byteAt s i < 256) (short : length
       let b : ℕ = G .0 .b in
       let less : 4 * suc b + length (wFields f z) ≤ length s = omega (arith, g .same, r .few, name-long l (wCombinator c (wFields f z)), combinator-long c (wFields f z)) in
       let near : a < 4294967296 = omega (arith, here-length (q .here)) in
-      let few : 516 + 4 * b < 4294967296 = omega arith in
-      let room : 516 + 4 * b ≤ length (G .1) = omega (arith, o .room) in
+      let few : 68 + 4 * b < 4294967296 = omega arith in
+      let room : 68 + 4 * b ≤ length (G .1) = omega (arith, o .room) in
       let t : List ℕ = labelled s a (G .1) b in
       let u : Walk = walk (G .0 .at) (G .0 .n) (suc b) (G .0 .leftover) in
       let ready : Ready s (u .at) (wFields f z) (u .n) (u .b) t (G .2) = record {

@@ -244,7 +244,7 @@ labelled s at t b =
     let y = slotOf s (nameAt s at) t b (67 + 4 * b) in
     set (set (set (set (set t (64 + 4 * b) at) (65 + 4 * b) 0) (66 + 4 * b) 0) y (suc b)) (67 + 4 * b) y
 
-module _ (s : List ℕ) (at : ℕ) (t : List ℕ) (b : ℕ) (near : at < 4294967296) (few : 516 + 4 * b < 4294967296) (room : 516 + 4 * b ≤ length t) where
+module _ (s : List ℕ) (at : ℕ) (t : List ℕ) (b : ℕ) (near : at < 4294967296) (few : 68 + 4 * b < 4294967296) (room : 68 + 4 * b ≤ length t) where
   abbrev T : List ℕ
   T = labelled s at t b
 
