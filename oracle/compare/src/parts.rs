@@ -28,6 +28,7 @@ pub fn parts(calls: &[Call], seed: u64, count: u64) -> Vec<Part> {
         .flat_map(|book| sweep::sweep(&book).collect::<Vec<_>>());
     let mut parts = vec![
         part("limits", Box::new(around_the_limits(nested))),
+        part("tables", Box::new(with_all_sizes(cases::around_tables()))),
         with_sizes("strings", seed, short::strings()),
         with_sizes("small books", seed, short::books()),
         with_sizes("damages", seed, damages),
@@ -73,9 +74,13 @@ fn sized(
     Box::new(books.zip(sizes))
 }
 
-/// Every limit from both sides and the books with a story, with buffers of all lengths around the limits.
+/// Every limit from both sides and the books with a story.
 fn around_the_limits(nested: bool) -> impl Iterator<Item = (Vec<u8>, Sizes)> {
-    let books: Vec<Vec<u8>> = limits(nested).into_iter().chain(told(nested)).collect();
+    with_all_sizes(limits(nested).into_iter().chain(told(nested)).collect())
+}
+
+/// With buffers of all lengths around the limits.
+fn with_all_sizes(books: Vec<Vec<u8>>) -> impl Iterator<Item = (Vec<u8>, Sizes)> {
     books.into_iter().enumerate().flat_map(|(number, book)| {
         let noise = number as u32;
         let works = WORKS.into_iter();

@@ -124,3 +124,28 @@ fn a_result_comes_back_unchanged() {
         }
     }
 }
+
+/// The books around the port's tables are as long as they say, and each is accepted; those that are told by their
+/// expansion are short, and their results are a byte apart.
+#[test]
+fn around_tables() {
+    let books = driver::cases::around_tables();
+    let mut lengths: Vec<usize> = books.iter().take(40).map(Vec::len).collect();
+    lengths.dedup();
+    let sides = [128usize, 512, 2048, 4096]
+        .into_iter()
+        .flat_map(|bytes| bytes - 2..=bytes + 2);
+    assert_eq!(lengths, sides.collect::<Vec<_>>());
+    assert!(books[40..45].iter().all(|book| book.len() <= 512));
+    for book in &books {
+        assert_eq!(code(book), 0);
+    }
+    let results: Vec<usize> = books[40..45]
+        .iter()
+        .map(|book| match answer(book, Mode::Plain) {
+            Ok(Answer::Done(done)) => done.book.len(),
+            other => panic!("{other:?}"),
+        })
+        .collect();
+    assert!(results.windows(2).all(|two| two[0] + 1 == two[1]));
+}

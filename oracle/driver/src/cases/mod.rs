@@ -14,12 +14,14 @@ mod rng;
 mod scope;
 pub mod short;
 pub mod sweep;
+mod tables;
 
 pub use damage::seal;
 pub use exact::both_sides;
 pub use nested::{nested_case, nested_sides, NestedKind, NESTED_KINDS};
 pub use place::{along, STEPS, TAGS};
 pub use rng::Rng;
+pub use tables::around_tables;
 
 use plain::Size;
 
