@@ -21,6 +21,21 @@ fresh-generated-name-requires c κs =
     let t = s .pre .0 in
     rw (made-lent (s .args .sheet .now)) (t .table, t .hinted, omega (arith, s .pre .3), omega (arith, t .few .1, t .defns-most))
 
+same-length : tie.Need-same-length
+same-length c = c .before .before .before .before .path .given
+
+same-length-2 : tie.Need-same-length-2
+same-length-2 c = refl
+
+same-length-3 : tie.Need-same-length-3
+same-length-3 c = refl
+
+same-length-4 : tie.Need-same-length-4
+same-length-4 c = refl
+
+same-length-5 : tie.Need-same-length-5
+same-length-5 c = c .before .before .hints .given
+
 returns : tie.Need-returns
 returns c = (refused-name ((rw (made-lent (c .before .before .before .before .before .before .before .before .before .before .before .before .before .before .before .before .before .before .before .before .before .before .before .args .sheet .now)) at (c .before .before .before .before .before .fresh-generated-name .ensures)) .0 .named) ((rw (made-lent (c .before .before .before .before .before .before .before .before .before .before .before .before .before .before .before .before .before .before .before .before .before .before .before .args .sheet .now)) at (c .before .before .before .before .before .fresh-generated-name .ensures)) .0 .kept) (omega (arith, c .before .before .before .before .before .before .before .before .before .before .before .before .before .before .before .before .before .before .before .before .before .before .before .pre .3, c .before .before .before .before .path .given)) (omega (arith, c .before .before .before .before .before .before .before .before .before .before .before .before .before .before .before .before .before .before .before .before .before .before .before .pre .3, c .before .before .before .before .path .given, c .if1 .taken)), refl)
 
@@ -43,6 +58,30 @@ enter-lift-requires c κs =
       p .5,
     )
 
+same-length-6 : tie.Need-same-length-6
+same-length-6 c = c .before .before .before .before .before .before .before .before .before .before .before .before .before .before .before .before .path .given
+
+same-length-7 : tie.Need-same-length-7
+same-length-7 c = c .before .before .before .before .before .before .before .bound .given
+
+same-length-8 : tie.Need-same-length-8
+same-length-8 c = c .before .before .before .before .before .uses .given
+
+same-length-9 : tie.Need-same-length-9
+same-length-9 c = c .before .before .before .spare .given
+
+same-length-10 : tie.Need-same-length-10
+same-length-10 c = refl
+
+same-length-11 : tie.Need-same-length-11
+same-length-11 c = refl
+
+same-length-12 : tie.Need-same-length-12
+same-length-12 c = refl
+
+same-length-13 : tie.Need-same-length-13
+same-length-13 c = c .before .before .before .before .before .before .before .before .before .before .before .before .before .before .hints .given
+
 returns-2 : tie.Need-returns-2
 returns-2 c =
     let s = c .before .before .before .before .before .before .before .before .before .before .before .before .before .before .before .before .before .before .before .before .before .before .before .before .before .before .before .before .before .before .before .before .before .before .before in
@@ -53,8 +92,29 @@ returns-2 c =
 same-length-14 : tie.Need-same-length-14
 same-length-14 c = c .before .before .before .before .before .before .before .before .before .before .before .before .before .before .before .before .before .before .before .before .before .before .before .before .before .before .before .before .before .before .before .before .before .before .before .before .path .given
 
+same-length-15 : tie.Need-same-length-15
+same-length-15 c = c .before .before .before .before .before .before .before .before .before .before .before .before .before .before .before .before .before .before .before .before .before .before .before .before .before .before .before .bound .given
+
+same-length-16 : tie.Need-same-length-16
+same-length-16 c = c .before .before .before .before .before .before .before .before .before .before .before .before .before .before .before .before .before .before .before .before .before .before .before .before .before .uses .given
+
+same-length-17 : tie.Need-same-length-17
+same-length-17 c = c .before .before .before .before .before .before .before .before .before .before .before .before .before .before .before .before .before .before .before .before .before .before .before .spare .given
+
+same-length-18 : tie.Need-same-length-18
+same-length-18 c = c .before .before .before .before .before .before .before .before .before .before .sheet2 .given
+
+same-length-19 : tie.Need-same-length-19
+same-length-19 c = c .before .before .before .before .before .before .before .before .places .given
+
+same-length-20 : tie.Need-same-length-20
+same-length-20 c = c .before .before .before .before .before .before .ways .given
+
 same-length-21 : tie.Need-same-length-21
 same-length-21 c = c .before .before .before .before .hints2 .given ∙ c .before .before .before .before .before .before .before .before .before .before .before .before .before .before .before .before .before .before .before .before .before .before .before .before .before .before .before .before .before .before .before .before .before .before .hints .given
+
+same-length-22 : tie.Need-same-length-22
+same-length-22 c = c .before .before .number .given
 
 returns-3 : tie.Need-returns-3
 returns-3 c =
@@ -77,33 +137,33 @@ lift-anonymous-combinator-spec =
     part-fresh-generated-name-start
     (λ c. search needs)
     fresh-generated-name-requires
-    (λ c. search needs)
-    (λ c. search needs)
-    (λ c. search needs)
-    (λ c. search needs)
-    (λ c. search needs)
+    same-length
+    same-length-2
+    same-length-3
+    same-length-4
+    same-length-5
     returns
     (λ c κs. search needs)
     (λ c. search needs)
     (λ c. search needs)
     enter-lift-requires
     (λ c κs. search needs)
-    (λ c. search needs)
-    (λ c. search needs)
-    (λ c. search needs)
-    (λ c. search needs)
-    (λ c. search needs)
-    (λ c. search needs)
-    (λ c. search needs)
-    (λ c. search needs)
+    same-length-6
+    same-length-7
+    same-length-8
+    same-length-9
+    same-length-10
+    same-length-11
+    same-length-12
+    same-length-13
     returns-2
     same-length-14
-    (λ c. search needs)
-    (λ c. search needs)
-    (λ c. search needs)
-    (λ c. search needs)
-    (λ c. search needs)
-    (λ c. search needs)
+    same-length-15
+    same-length-16
+    same-length-17
+    same-length-18
+    same-length-19
+    same-length-20
     same-length-21
-    (λ c. search needs)
+    same-length-22
     returns-3)
