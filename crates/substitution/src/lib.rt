@@ -91,8 +91,8 @@ fn stopped(t: Turn) -> Turn
     }
 }
 
-// One parameter's turn: the combinator in the first area is made anew in the second, and goes back to the first. Over 16,384 bytes or 64 levels, or with more
-// calls than the marks have room for, it is not good.
+// One parameter's turn: the combinator in the first area is made anew in the second, and goes back to the first. Over 16,384 bytes or 64 levels,
+// or with more calls than the marks have room for, it is not good.
 pub fn substitute_next(
     macros: &[u8],
     book: &[u8],
