@@ -14,7 +14,7 @@ use Rattle.areas.specs.First.{first}
 use Rattle.substitution.specs.declared.Turn.{Turn}
 use Rattle.substitution.specs.Turned.{Areas, Holds, limitedBy}
 
--- rule 4 with a row that has room for k marks: of the body to start with, and of what each turn makes
+-- rule 4 with a row that has room for k marks of what each turn makes
 unfoldable pub instanceBy : ℕ → List Name → Inners → Combinator → Out Combinator
 instanceBy k [] xs c = done c
 instanceBy k (p ∷ ps) no-inner c = done c
