@@ -17,12 +17,13 @@ pub enum Expanded {
     Grown,
 }
 
-// A pass with the macros of the other book in a table, and the calls of each body marked in the row that is lent.
+// A pass with the macros of the other book in a table, the calls of each body marked, and those of an instance in the row.
 fn expand_marked(
     macros: &[u8],
     book: &[u8],
     areas: &mut [u8],
     marks: &mut [u16],
+    row: &mut [u16],
     out: &mut [u8],
 ) -> Expanded
     ensures { λ r. ⌜ PassedBy (length (now (marks .entry))) (now (macros .entry)) (now (book .entry)) (now (areas .entry)) (now (out .entry)) (now (out .exit)) r ⌝ }
@@ -34,7 +35,6 @@ fn expand_marked(
     }
     let mut places = [0u16; 512];
     let mut ways = [0u32; 1280];
-    let mut row = [0u16; 1024];
     let rows = table(macros, &mut places, &mut ways);
     put_u16(n as u16, out, 0);
     let end = book::expand_all(
@@ -45,7 +45,7 @@ fn expand_marked(
         book,
         areas,
         marks,
-        &mut row,
+        row,
         out,
         bodies,
     );
@@ -55,21 +55,23 @@ fn expand_marked(
     Expanded::Book { len: end }
 }
 
-// With marks for a book of at most 512 bytes.
+// With marks for a book of at most 512 bytes, and a row for the instances that it seldom goes beyond.
 fn expand_short(macros: &[u8], book: &[u8], areas: &mut [u8], out: &mut [u8]) -> Expanded
     requires { ⌜ length (now book) ≤ 512 ⌝ }
     ensures { λ r. ⌜ Passed (now (macros .entry)) (now (book .entry)) (now (areas .entry)) (now (out .entry)) (now (out .exit)) r ⌝ }
 {
     let mut marks = [0u16; 256];
-    expand_marked(macros, book, areas, &mut marks, out)
+    let mut row = [0u16; 1024];
+    expand_marked(macros, book, areas, &mut marks, &mut row, out)
 }
 
-// With marks for any book.
+// With marks and a row for any book.
 fn expand_long(macros: &[u8], book: &[u8], areas: &mut [u8], out: &mut [u8]) -> Expanded
     ensures { λ r. ⌜ Passed (now (macros .entry)) (now (book .entry)) (now (areas .entry)) (now (out .entry)) (now (out .exit)) r ⌝ }
 {
     let mut marks = [0u16; 8192];
-    expand_marked(macros, book, areas, &mut marks, out)
+    let mut row = [0u16; 8192];
+    expand_marked(macros, book, areas, &mut marks, &mut row, out)
 }
 
 // One pass: the book with the calls of the macros that the other book defines expanded, and without macros of its own. It fills the first bytes

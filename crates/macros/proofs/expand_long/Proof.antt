@@ -8,12 +8,13 @@ use Rattle.macros.proofs.expand_long.Statement.{statement}
 use Rattle.macros.proofs.expand_long.Tie as tie
 
 returns : tie.Need-returns
-returns c = passed-long (rw (length-replicate {0} {A = ℕ} 8192 0) at (c .before .before .before .before .before .expand-marked .ensures))
+returns c = passed-long (rw (length-replicate {0} {A = ℕ} 8192 0) at (c .before .before .before .before .before .before .expand-marked .ensures))
 
 pub expand-long-spec : {M : Type 1} → statement M
 expand-long-spec =
     tie.close
     (tie.spec
+    (λ c. search needs)
     (λ c. search needs)
     (λ c κs. search needs)
     (λ c. search needs)

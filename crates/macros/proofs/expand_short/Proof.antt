@@ -8,12 +8,13 @@ use Rattle.macros.proofs.expand_short.Statement.{statement}
 use Rattle.macros.proofs.expand_short.Tie as tie
 
 returns : tie.Need-returns
-returns c = passed-brief (c .before .before .before .before .before .before .before .before .before .before .before .before .before .pre) (rw (length-replicate {0} {A = ℕ} 256 0) at (c .before .before .before .before .before .expand-marked .ensures))
+returns c = passed-brief (c .before .before .before .before .before .before .before .before .before .before .before .before .before .before .before .pre) (rw (length-replicate {0} {A = ℕ} 256 0) at (c .before .before .before .before .before .before .expand-marked .ensures))
 
 pub expand-short-spec : {M : Type 1} → statement M
 expand-short-spec =
     tie.close
     (tie.spec
+    (λ c. search needs)
     (λ c. search needs)
     (λ c κs. search needs)
     (λ c. search needs)
