@@ -3,7 +3,7 @@
 use lib.ListN.{length}
 use Rattle.demand3.proofs.Delivered.{accepted-is-delivered}
 use Rattle.nested.proofs.Results.{accepted-is-delivered as nested-accepted}
-use Rattle.report.specs.Elaborates.{reported}
+use Rattle.what_comes_back.specs.Elaborates.{reported}
 use Rattle.elab.specs.Delivers.{ElaborateDelivers, NestedDelivers}
 
 pub elaborate-delivers : ElaborateDelivers

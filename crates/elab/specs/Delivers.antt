@@ -7,8 +7,8 @@ use Rattle.definition.specs.Answer.{answer, output}
 use Rattle.laws.specs.Book.{Bytes}
 use Rattle.nested.specs.Nested.{expandedNested, answerNested, outputNested}
 use Rattle.demand3.specs.Delivered.{Delivered, DeliveredFrom}
-use Rattle.report.specs.declared.Elaborated.{Elaborated}
-use Rattle.report.specs.Elaborates.{reported}
+use Rattle.what_comes_back.specs.declared.Elaborated.{Elaborated}
+use Rattle.what_comes_back.specs.Elaborates.{reported}
 
 -- what the two `ensures` of `elaborate` say of its answer and of the output afterwards, and that the book was accepted, give demand 3
 abbrev pub ElaborateDelivers : Type 0

@@ -1,11 +1,11 @@
 // The entry points for callers in other languages, which get the answers in numbers.
-use elaboration::elaborate;
-use nesting::elaborate_nested;
-use report::Numbers;
-use report::Report;
-use report::in_four_numbers;
-use report::in_two_numbers;
-use tested::premise;
+use elaborate::elaborate;
+use elaborate_nested::elaborate_nested;
+use premise::test::premise;
+use what_comes_back::Numbers;
+use what_comes_back::Report;
+use what_comes_back::in_four_numbers;
+use what_comes_back::in_two_numbers;
 ghost use mathlib.Core.Path.{_≡_};
 ghost use lib.ListN.{length};
 ghost use Rattle.definition.specs.Answer.{answer, output, zeroed};

@@ -5,7 +5,7 @@ use Prim.Native.Nat.{ℕ, zero, suc, _+_, _-_, _≤_, _<_}
 use native.Mathlib.Omega.{arith}
 use lib.ListN.{length, take, drop, getD, length-take, length-drop, take-append-drop}
 use lib.Seq.{drop-drop}
-use Rattle.writer.specs.Buf.{part}
+use Rattle.buffer.specs.writes.Buf.{part}
 use Rattle.definition.specs.Res.{absent, just}
 use Rattle.definition.specs.Write.{wCombinator}
 use Rattle.lifting.specs.Records.{Record, find, call}

@@ -12,7 +12,7 @@ use Rattle.definition.specs.Size.{size, sizeBook}
 use Rattle.definition.specs.Lift.{liftBook}
 use Rattle.definition.specs.Answer.{Result, all, outcome}
 use Rattle.laws.proofs.Sizes.{head}
-use Rattle.writer.specs.Buf.{part}
+use Rattle.buffer.specs.writes.Buf.{part}
 use Rattle.lifting.specs.Records.{Record, find, call}
 use Rattle.lifting.specs.After.{definitionOf, outAll, liftsAll, firstAt, Stands, AllFound}
 use Rattle.lifting.specs.Calls.{withCalls, resultBytes, byteHead, callRoom}

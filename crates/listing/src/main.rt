@@ -1,9 +1,9 @@
 // Prints the listing of the book on standard input. With the word --nested macros that call macros are expanded too (document 02 b).
 use libc::STDIN_FILENO;
 use libc::STDOUT_FILENO;
-use lines::put_lines;
-use words::Mode;
-use words::mode_of;
+use listing_lines::lines::put_lines;
+use listing_lines::words::Mode;
+use listing_lines::words::mode_of;
 
 // One byte more than the longest book has: so a longer one is refused with no more of it read.
 fn list(nested: bool) {

@@ -1,7 +1,7 @@
 // Prints the listings of books of examples/ (copies of them stand in data/), one after the other, each below its name; of the last one that of
 // each mode.
 use libc::STDOUT_FILENO;
-use lines::put_lines;
+use listing_lines::lines::put_lines;
 
 fn list(nested: bool, name: &[u8]) {
     let fd = os::open_read(name);

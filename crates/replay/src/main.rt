@@ -1,26 +1,26 @@
 // Replays the recorded answers of the Rust, data/ (its page there says how they were made and laid out), and counts for each
 // code the answers that are the recorded ones and those that are not.
-use elaboration::elaborate;
+use elaborate::elaborate;
+use expand_macros::pass::Expanded;
+use layout::items::byte;
+use layout::items::number;
+use layout::items::past;
+use layout::lookup::same_name;
 use libc::STDOUT_FILENO;
-use lookup::same_name;
-use macros::Expanded;
-use reader::Verdict;
-use report::Elaborated;
-use report::Tested;
-use seek::byte;
-use seek::number;
-use seek::past;
+use read_book::body::Verdict;
+use what_comes_back::Elaborated;
+use what_comes_back::Tested;
 ghost use mathlib.Core.Path.{_≡_};
 ghost use lib.ListN.{length};
 
 // How many answers were right and wrong, by code.
-pub struct Counts {
+struct Counts {
     pub right: [u64; 16],
     pub wrong: [u64; 16],
 }
 
 // Of reading, of macro expansion, of the premise test and of `elaborate`.
-pub struct Tally {
+struct Tally {
     pub reading: Counts,
     pub expansion: Counts,
     pub premise: Counts,
@@ -28,7 +28,7 @@ pub struct Tally {
 }
 
 // Where recorded bytes stand: in the book (1), in the result (2), or here.
-pub struct Bytes {
+struct Bytes {
     pub within: u8,
     pub from: usize,
     pub to: usize,
@@ -36,7 +36,7 @@ pub struct Bytes {
 
 // A record: where its book stands, the answer of `elaborate` and the result, the answer of the premise test and the expanded book, and the
 // next record.
-pub struct Case {
+struct Case {
     pub from: usize,
     pub to: usize,
     pub code: u8,
@@ -136,7 +136,7 @@ fn expanded_of(c: Case) -> Bytes {
 fn expands_as(book: &[u8], code: u8, expanded: &[u8]) -> bool {
     let mut out = [170u8; 16384];
     let mut areas = [85u8; 32768];
-    match macros::expand_macros(book, book, &mut areas, &mut out) {
+    match expand_macros::pass::expand_macros(book, book, &mut areas, &mut out) {
         Expanded::Grown => code == 6,
         Expanded::Book { len } => {
             if code == 0 {
@@ -152,7 +152,7 @@ fn reads_as(book: &[u8], code: u8) -> bool {
     if code == 2 {
         return 16384 < book.len();
     }
-    let found = match book::read(book) {
+    let found = match read_book::book::read(book) {
         Verdict::Sound => 0,
         Verdict::Refused(f) => f.code,
     };
@@ -177,7 +177,7 @@ fn all_are(s: &[u8], b: u8) -> bool {
 // Whether the premise test gives this book the recorded answer, and leaves a work area of zeros.
 fn tests_as(book: &[u8], code: u8, holds: u8) -> bool {
     let mut work = [170u8; 65536];
-    let alike = match tested::premise(book, &mut work) {
+    let alike = match premise::test::premise(book, &mut work) {
         Tested::Holds => { if code == 0 { holds == 1 } else { false } }
         Tested::Fails => { if code == 0 { holds == 0 } else { false } }
         Tested::Refused { code: found } => found == code,

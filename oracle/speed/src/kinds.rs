@@ -210,7 +210,7 @@ fn two_letters(count: usize) -> Vec<String> {
     (0..count).map(name).collect()
 }
 
-/// Names that end in four letters and share a head in the port's table of labels (crates/hash, crates/labels), and three bits of the hash more.
+/// Names that end in four letters and share a head in the port's table of labels (crates/layout, crates/collect_params), and three bits of the hash more.
 fn of_one_hash(beginning: &str, count: usize) -> Vec<String> {
     let letters = |n: usize| [n / 195_112, n / 3364, n / 58, n].map(|n| b'A' + (n % 58) as u8);
     let name = |n: usize| {
@@ -226,7 +226,7 @@ fn of_one_hash(beginning: &str, count: usize) -> Vec<String> {
         .collect()
 }
 
-/// The hash of a name in the port (crates/hash).
+/// The hash of a name in the port (crates/layout).
 fn hash(name: &[u8]) -> u64 {
     let mix = |hash: u64, word: u64| {
         let product = (hash + word + 1) * 1_640_531_527;

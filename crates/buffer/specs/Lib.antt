@@ -1,0 +1,4 @@
+pub mod writes
+pub mod zeroing
+pub mod areas
+pub mod writer

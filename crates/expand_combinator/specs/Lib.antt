@@ -1,0 +1,3 @@
+pub mod anonymous
+pub mod open_child
+pub mod body

@@ -1,0 +1,3 @@
+pub mod unknown
+pub mod settled
+pub mod passes

@@ -1,0 +1,3 @@
+pub mod items
+pub mod lookup
+pub mod hash

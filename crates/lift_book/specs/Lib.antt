@@ -1,0 +1,3 @@
+pub mod flat
+pub mod unlifted
+pub mod lift_with

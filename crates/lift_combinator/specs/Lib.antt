@@ -1,0 +1,4 @@
+pub mod frames
+pub mod children
+pub mod done
+pub mod naming

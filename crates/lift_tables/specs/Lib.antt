@@ -1,0 +1,3 @@
+pub mod tables
+pub mod binders
+pub mod enter_lift

@@ -1,0 +1,6 @@
+pub mod shown
+pub mod refusal
+pub mod printed
+pub mod answers
+pub mod lines
+pub mod words

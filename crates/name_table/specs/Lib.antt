@@ -1,0 +1,4 @@
+pub mod forks
+pub mod taken
+pub mod find
+pub mod kinds

@@ -1,0 +1,2 @@
+pub mod substitution
+pub mod instance

@@ -1,0 +1,9 @@
+pub mod walk
+pub mod pieces
+pub mod marks
+pub mod calls
+pub mod definitions
+pub mod bodies
+pub mod measure
+pub mod ends
+pub mod measure_book

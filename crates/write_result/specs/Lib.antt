@@ -1,0 +1,5 @@
+pub mod next_lift
+pub mod invocation
+pub mod splice
+pub mod lifted
+pub mod result
