@@ -4,7 +4,8 @@ use Rattle.definition.specs.Utf8.{utf8}
 use Rattle.definition.specs.Write.{wBook}
 use Rattle.definition.specs.Rows.{all, _&_}
 use Rattle.definition.specs.Notation.{hex, vecs, args}
-use Rattle.definition.specs.Pinned.{nested, table, seen, expected, Pinned}
+use Rattle.definition.specs.Asked.{nested, seen, expected}
+use Rattle.definition.specs.Pinned.{table, Pinned}
 
 pub pinned : Pinned
 unfolding utf8 hex vecs args nested wBook table seen expected

@@ -18,4 +18,7 @@ pub mod Listing
 pub mod Rows
 pub mod Notation
 pub mod Worked
+pub mod Asked
 pub mod Pinned
+pub mod Limits
+pub mod Places

@@ -1,59 +1,13 @@
 -- A second table, for what P1 to P10 leave open: each code, each tag and wrapper, parameters in byte order, the premise test, the listing,
--- and the readings that docs/DECISIONS.md numbers. One theorem over it: `Pinned`, proved in proofs/Pinned.
+-- and the readings (docs/READINGS.md). One theorem over it: `Pinned`, proved in proofs/Pinned.
 use mathlib.Core.List.{List, [], _∷_, _++_}
-use Prim.Native.Nat.{ℕ, zero, suc, _+_}
-use Prim.Native.String.{String}
-use lib.ListN.{length, replicate}
+use lib.ListN.{replicate}
 use Rattle.definition.specs.Utf8.{utf8}
-use Rattle.definition.specs.Code.{number}
-use Rattle.definition.specs.Res.{Res, bad, ok}
-use Rattle.definition.specs.Tree.{leaf, enum, struct, none, by, enums, ints, arrays, choice, invocation, no-field, const, no-case, Inner, Combinator, plain, chained, Definition, format, constant, byte-order}
-use Rattle.definition.specs.Contents.{readBook}
+use Rattle.definition.specs.Tree.{leaf, enum, struct, none, by, enums, ints, arrays, choice, invocation, no-field, const, no-case, plain, chained, format, constant, byte-order}
 use Rattle.definition.specs.Write.{wBook}
-use Rattle.definition.specs.Answer.{Answer, answer, output, place}
-use Rattle.definition.specs.Premise.{PremiseAnswer, premise}
-use Rattle.definition.specs.Listing.{listing}
-use Rattle.definition.specs.Rows.{Each}
 use Rattle.definition.specs.Notation.{hex, Int, Enum, Bits, Tail, Nothing, Bytes, Vec, Option, Array, Wrap, Call, ord, dep, on, one, vecs, Macro, param, fmt, mac, m, long, fat}
-use Rattle.definition.specs.Worked.{Outcome, refuses, gives, answerOf, noise}
-
-pub data Row : Type 0 where
-  -- a book, the output's length, the work area's length
-  elaborates : List ℕ → ℕ → ℕ → Outcome → Row
-  -- the place of the item at fault (document 02 a)
-  faults : List ℕ → ℕ → ℕ → Row
-  -- the premise test: a book, the work area's length, code, and 1 for yes
-  tells : List ℕ → ℕ → ℕ → ℕ → Row
-  lists : List ℕ → String → Row
-
-abbrev pub becomes : ℕ → List Definition → Outcome
-becomes n ds = gives n ds (wBook ds)
-
-abbrev room : Outcome → ℕ
-room (refuses k) = 1
-room (gives n ds b) = length b + 1
-
--- a book given as bytes or as a tree, with room for the result and one byte more
-abbrev raw : List ℕ → Outcome → Row
-raw b o = elaborates b (room o) 65536 o
-
-abbrev tree : List Definition → Outcome → Row
-tree ds o = raw (wBook ds) o
-
-abbrev uses : String → Combinator
-uses n = plain (Bytes (n ∷ []))
-
--- readings.md's H: h: {b: Bytes[@n]}
-abbrev H : Combinator
-H = one "b" (uses "n")
-
-abbrev zz : Combinator
-zz = plain (Macro "zz" [])
-
--- a macro call inside a macro call, k deep
-unfoldable pub nested : ℕ → Inner
-nested zero = Nothing
-nested (suc k) = Macro "z" (nested k ∷ [])
+use Rattle.definition.specs.Worked.{refuses, gives}
+use Rattle.definition.specs.Asked.{Row, elaborates, faults, tells, lists, becomes, raw, tree, uses, H, zz, nested, Holds}
 
 unfoldable pub bytesRows : List Row
 bytesRows =
@@ -226,37 +180,10 @@ saidRows =
     lists [] "refused 3\n" ∷
     []
 
-pub data Seen : Type 0 where
-  answered : Answer → List ℕ → Seen
-  at : ℕ → ℕ → Seen
-  told : PremiseAnswer → Seen
-  printed : List ℕ → Seen
-
-abbrev fault : List ℕ → Res (List ℕ) (List Definition) → Seen
-fault b (bad k s) = at (number k) (place b (bad k s))
-fault b (ok ds s) = at 0 0
-
-unfoldable pub seen : Row → Seen
-unfolding number wBook answer output place premise listing readBook
-seen (elaborates b o w x) = answered (answer b o w) (output b (noise o) w)
-seen (faults b k p) = fault b (readBook b)
-seen (tells b w k h) = told (premise b w)
-seen (lists b l) = printed (listing b)
-
-abbrev filled : Outcome → ℕ → List ℕ
-filled (refuses k) o = noise o
-filled (gives n ds b) o = b ++ noise (Prim.Native.Nat._-_ o (length b))
-
-unfoldable pub expected : Row → Seen
-expected (elaborates b o w x) = answered (answerOf x) (filled x o)
-expected (faults b k p) = at k p
-expected (tells b w k h) = told (record { code = k; holds = h })
-expected (lists b l) = printed (utf8 l)
-
 unfoldable pub table : List Row
 unfolding bytesRows macroRows liftRows saidRows
 table = bytesRows ++ macroRows ++ liftRows ++ saidRows
 
 -- the theorem
 abbrev pub Pinned : Type 0
-Pinned = Each seen expected table
+Pinned = Holds table

@@ -11,7 +11,7 @@ use Rattle.definition.specs.Answer.{Answer, answer, output}
 use Rattle.definition.specs.Notation.{Int, Enum, Tail, Nothing, Bytes, Vec, Option, Array, Wrap, Call, ord, on, one, vecs, Macro, param, fmt, mac, m, long, fat}
 use Rattle.definition.specs.Rows.{Each}
 use Rattle.definition.specs.Worked.{Outcome, refuses, gives, answerOf, noise}
-use Rattle.definition.specs.Pinned.{becomes}
+use Rattle.definition.specs.Asked.{becomes}
 use Rattle.nested.specs.Nested.{answerNested, outputNested}
 
 pub record Row : Type 0 where
