@@ -34,4 +34,8 @@ limits =
     refl &
     refl &
     refl &
+    -- "The work area, short or not, is all zero afterwards", and as long as it was
+    refl &
+    refl &
+    refl &
     all

@@ -10,6 +10,9 @@ use Rattle.definition.specs.Places.{table, Places}
 pub places : Places
 unfolding utf8 hex args wBook table seen expected
 places =
+    -- all of it in one book, as bytes and as a tree
+    refl &
+    refl &
     -- a selector and Ints; no selector and Arrays; Option and Array; ConstraintEnum
     refl &
     refl &

@@ -9,7 +9,7 @@ use Rattle.definition.specs.Res.{Res, bad, ok}
 use Rattle.definition.specs.Tree.{Inner, Combinator, plain, Definition}
 use Rattle.definition.specs.Contents.{readBook}
 use Rattle.definition.specs.Write.{wBook}
-use Rattle.definition.specs.Answer.{Answer, answer, output, place}
+use Rattle.definition.specs.Answer.{Answer, answer, output, zeroed, place}
 use Rattle.definition.specs.Premise.{PremiseAnswer, premise}
 use Rattle.definition.specs.Listing.{listing}
 use Rattle.definition.specs.Rows.{Each}
@@ -24,6 +24,8 @@ pub data Row : Type 0 where
   -- the premise test: a book, the work area's length, code, and 1 for yes
   tells : List ℕ → ℕ → ℕ → ℕ → Row
   lists : List ℕ → String → Row
+  -- the work area before and after
+  clears : List ℕ → List ℕ → Row
 
 abbrev pub becomes : ℕ → List Definition → Outcome
 becomes n ds = gives n ds (wBook ds)
@@ -59,17 +61,19 @@ pub data Seen : Type 0 where
   at : ℕ → ℕ → Seen
   told : PremiseAnswer → Seen
   printed : List ℕ → Seen
+  left : List ℕ → Seen
 
 abbrev fault : List ℕ → Res (List ℕ) (List Definition) → Seen
 fault b (bad k s) = at (number k) (place b (bad k s))
 fault b (ok ds s) = at 0 0
 
 unfoldable pub seen : Row → Seen
-unfolding number wBook answer output place premise listing readBook
+unfolding number wBook answer output zeroed place premise listing readBook
 seen (elaborates b o w x) = answered (answer b o w) (output b (noise o) w)
 seen (faults b k p) = fault b (readBook b)
 seen (tells b w k h) = told (premise b w)
 seen (lists b l) = printed (listing b)
+seen (clears w z) = left (zeroed w)
 
 abbrev filled : Outcome → ℕ → List ℕ
 filled (refuses k) o = noise o
@@ -80,6 +84,7 @@ expected (elaborates b o w x) = answered (answerOf x) (filled x o)
 expected (faults b k p) = at k p
 expected (tells b w k h) = told (record { code = k; holds = h })
 expected (lists b l) = printed (utf8 l)
+expected (clears w z) = left z
 
 -- every row comes out as it is written
 abbrev pub Holds : List Row → Type 0

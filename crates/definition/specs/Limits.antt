@@ -5,8 +5,8 @@ use lib.ListN.{replicate}
 use Rattle.definition.specs.Tree.{leaf, enum, plain, chained, byte-order}
 use Rattle.definition.specs.Write.{wBook}
 use Rattle.definition.specs.Notation.{hex, Int, Enum, Nothing, Call, one, Macro, param, fmt, mac, m, fat}
-use Rattle.definition.specs.Worked.{refuses}
-use Rattle.definition.specs.Asked.{Row, elaborates, faults, tells, lists, becomes, raw, tree, H, nested, Holds}
+use Rattle.definition.specs.Worked.{refuses, noise}
+use Rattle.definition.specs.Asked.{Row, elaborates, faults, tells, lists, clears, becomes, raw, tree, H, nested, Holds}
 
 unfoldable pub table : List Row
 table =
@@ -34,6 +34,10 @@ table =
     tree (fmt "m" [] (one "a" (plain Enum)) ∷ replicate 510 (byte-order [])) (becomes 1 (fmt "m" [] (one "a" (plain (Call "m_a" []))) ∷ (replicate 510 (byte-order []) ++ (fmt "m_a" [] (plain Enum) ∷ [])))) ∷
     tree (m (one "a" (chained (leaf enum (replicate 16330 46)) H))) (refuses 10) ∷
     lists (wBook (m (one "a" (fat 16342)))) "refused 10\n" ∷
+    -- "The work area, short or not, is all zero afterwards", and as long as it was
+    clears [] [] ∷
+    clears (hex "AA 00 FF") (hex "00 00 00") ∷
+    clears (noise 65536) (replicate 65536 0) ∷
     []
 
 -- the theorem
