@@ -10,13 +10,13 @@ use Rattle.definition.specs.Pinned.{table, Pinned}
 pub pinned : Pinned
 unfolding utf8 hex vecs args nested wBook table seen expected
 pinned =
-    -- 1, before 2 and 3
+    -- 1: one byte short, and before 3
     refl &
     refl &
     -- 2, before 3; 16,384 bytes are not too many
     refl &
     refl &
-    -- 3: a byte order alone is a book; kind 5; no zero byte; a gap; bytes left over in a body and behind the last one; 513 entries
+    -- 3: a byte order alone is a book; kind 5; no zero byte; an offset too large by one, with a byte left over; bytes left over in a body and behind the last one; a count of 513 with nothing behind it
     refl &
     refl &
     refl &
@@ -39,7 +39,7 @@ pinned =
     refl &
     -- reading 12: a byte behind the last body is 3 before a body's 4
     refl &
-    -- 5: 63 Vecs pass, 64 do not, nor 64 macro calls in each other or 64 chains; an unknown tag there is 3
+    -- 5: 63 Vecs pass, 64 do not; 63 macro calls around an argument pass, 64 do not; a chain in the 63rd Vec is too deep; a tag at level 65 with nothing behind it; an unknown tag there is 3
     refl &
     refl &
     refl &
@@ -85,7 +85,7 @@ pinned =
     refl &
     refl &
     refl &
-    -- 10: 16,384 bytes pass and 16,385 do not; 512 definitions pass and 513 do not
+    -- 10: 16,384 bytes pass and 16,385 do not, nor do 513 definitions
     refl &
     refl &
     refl &

@@ -11,13 +11,13 @@ use Rattle.definition.specs.Asked.{Row, elaborates, faults, tells, lists
 
 unfoldable pub bytesRows : List Row
 bytesRows =
-    -- 1, before 2 and 3
+    -- 1: one byte short, and before 3
     elaborates (hex "00 00") 2 65535 (refuses 1) ∷
     elaborates [] 0 0 (refuses 1) ∷
     -- 2, before 3; 16,384 bytes are not too many
     raw (replicate 16385 0) (refuses 2) ∷
     raw (replicate 16384 0) (refuses 3) ∷
-    -- 3: a byte order alone is a book; kind 5; no zero byte; a gap; bytes left over in a body and behind the last one; 513 entries
+    -- 3: a byte order alone is a book; kind 5; no zero byte; an offset too large by one, with a byte left over; bytes left over in a body and behind the last one; a count of 513 with nothing behind it
     raw (hex "01 00 03 00 08 00 02 00 00 00") (gives 0 (byte-order [] ∷ []) (hex "01 00 03 00 08 00 02 00 00 00")) ∷
     raw (hex "01 00 05 00 08 00 02 00 00 00") (refuses 3) ∷
     raw (hex "01 00 03 01 08 00 02 00 00 00") (refuses 3) ∷
@@ -40,7 +40,7 @@ bytesRows =
     raw (hex "01 00 02 00 08 00 02 00 05 C0") (refuses 3) ∷
     -- reading 12: a byte behind the last body is 3 before a body's 4
     raw (hex "01 00 02 00 08 00 04 00 01 2E 00 00 00") (refuses 3) ∷
-    -- 5: 63 Vecs pass, 64 do not, nor 64 macro calls in each other or 64 chains; an unknown tag there is 3
+    -- 5: 63 Vecs pass, 64 do not; 63 macro calls around an argument pass, 64 do not; a chain in the 63rd Vec is too deep; a tag at level 65 with nothing behind it; an unknown tag there is 3
     tree (m (vecs 63 (plain Nothing))) (becomes 0 (m (vecs 63 (plain Nothing)))) ∷
     tree (m (vecs 64 (plain Nothing))) (refuses 5) ∷
     tree (m (plain (nested 63))) (becomes 0 (m (plain (nested 63)))) ∷
@@ -98,7 +98,7 @@ liftRows =
     (becomes 1 (format (long 251) [] (one "a" (plain (invocation (long 251 ++ utf8 "_a_0") []))) ∷ constant (long 251 ++ utf8 "_a") [] ∷ format (long 251 ++ utf8 "_a_0") [] (plain Enum) ∷ [])) ∷
     tree (format (long 252) [] (one "a" (plain Enum)) ∷ constant (long 252 ++ utf8 "_a") [] ∷ []) (refuses 9) ∷
     tree (format (long 254) [] (one "a" (one "x" zz)) ∷ []) (refuses 9) ∷
-    -- 10: 16,384 bytes pass and 16,385 do not; 512 definitions pass and 513 do not
+    -- 10: 16,384 bytes pass and 16,385 do not, nor do 513 definitions
     tree (m (one "a" (fat 16341))) (becomes 1 (fmt "m" [] (one "a" (plain (Call "m_a" []))) ∷ fmt "m_a" [] (fat 16341) ∷ [])) ∷
     tree (m (one "a" (fat 16342))) (refuses 10) ∷
     tree (fmt "m" [] (one "a" (plain Enum)) ∷ replicate 511 (byte-order [])) (refuses 10) ∷
