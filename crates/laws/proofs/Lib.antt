@@ -11,6 +11,7 @@ pub mod BookRoundTrip
 pub mod Small
 pub mod Utf8
 pub mod Segment
+pub mod Decimal
 pub mod FreshName
 pub mod PlainNames
 pub mod Order
@@ -25,4 +26,5 @@ pub mod OnlySix
 pub mod NoneKnown
 pub mod Results
 pub mod Parameters
+pub mod Collected
 pub mod Laws

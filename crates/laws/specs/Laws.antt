@@ -3,23 +3,24 @@ use mathlib.Core.Path.{_≡_}
 use mathlib.Core.Logic.{_↔_, _⊎_}
 use mathlib.Core.List.{List, [], _∷_, _++_, List·Memᴰ}
 use mathlib.Core.Bool.{Bool, true, _&&_, cond, _||_}
-use Prim.Native.Nat.{ℕ, zero, suc, _+_, _*_, _≤_, _<_}
+use Prim.Native.Nat.{ℕ, zero, suc, _+_, _-_, _*_, _≤_, _<_}
 use lib.Dec.{leb, ltb}
 use lib.ListN.{length, drop}
 use Rattle.definition.specs.Code.{result-long}
 use Rattle.definition.specs.Res.{bad, ok}
 use Rattle.definition.specs.Out.{Out, done}
 use Rattle.definition.specs.Utf8.{scalar, encode, Utf8, wellFormed}
-use Rattle.definition.specs.Tree.{Name, Definition, format, constant, byte-order, macro}
+use Rattle.definition.specs.Tree.{Name, Combinator, Definition, format, constant, byte-order, macro}
 use Rattle.definition.specs.Contents.{readBook}
 use Rattle.definition.specs.Write.{wBook}
 use Rattle.definition.specs.Size.{sizeBook}
-use Rattle.definition.specs.Names.{letters, numbered, fresh, sorted}
-use Rattle.definition.specs.Collect.{anonymous}
+use Rattle.definition.specs.Names.{letters, decimal, numbered, fresh, sorted}
+use Rattle.definition.specs.Collect.{anonymous, free, leftover}
 use Rattle.definition.specs.Lift.{Course, full, State, walkAll, start}
 use Rattle.definition.specs.Answer.{expanded, Result, all, attempt, answer, output}
 use Rattle.laws.specs.Book.{Bytes, IsBook}
 use Rattle.laws.specs.Lists.{paramNames, NoMacro}
+use Rattle.laws.specs.Collected.{Found, Use, Unbound, MacroCall, Anyhow}
 
 -- UTF-8 -------------------------------------------------------------------------------------------
 
@@ -71,6 +72,24 @@ sign c = cond (leb 65 c && leb c 90) (c + 32) (cond (leb 97 c && leb c 122 || le
 -- the definition goes by bytes, and says that
 abbrev pub SegmentByCharacters : Type 0
 SegmentByCharacters = (c : ℕ) → scalar c ≡ true → (s : List ℕ) → letters (encode c ++ s) ≡ sign c ∷ letters s
+
+-- `choice0`, base_0 and the numbers of the listing are in decimal: ASCII digits, the first counting most. The value of digits behind others whose value is a
+abbrev pub valueOf : List ℕ → ℕ → ℕ
+valueOf [] a = a
+valueOf (d ∷ s) a = valueOf s (10 * a + (d - 48))
+
+abbrev pub AllDigits : List ℕ → Type 0
+AllDigits [] = Unit {0}
+AllDigits (d ∷ s) = (48 ≤ d) × (d ≤ 57) × AllDigits s
+
+-- a number's digits: their value is the number, and no zero stands in front of others
+pub record InDecimal (n : ℕ) (s : List ℕ) : Type 0 where
+  pub only-digits : AllDigits s
+  pub value : valueOf s 0 ≡ n
+  pub short : (t : List ℕ) → s ≡ 48 ∷ t → t ≡ []
+
+abbrev pub DecimalReadsBack : Type 0
+DecimalReadsBack = (n : ℕ) → InDecimal n (decimal n)
 
 -- "The name is the base if free, else base_0, base_1.."
 abbrev pub candidate : Name → ℕ → Name
@@ -125,6 +144,16 @@ LiftedAscend (macro n ps c ∷ ds) = ⊥
 
 abbrev pub ParametersAscend : Type 0
 ParametersAscend = (book : List ℕ) (outLength workLength : ℕ) (r : Result) → attempt book outLength workLength ≡ done r → LiftedAscend (r .lifted)
+
+-- Collection ---------------------------------------------------------------------------------------
+
+-- "Parameters: free root names": a name is free exactly where the walk of collection finds a use of it that no field binds
+abbrev pub FreeIsFound : Type 0
+FreeIsFound = (c : Combinator) (n : Name) → List·Memᴰ n (free c) ↔ Found (Use n) (Unbound n) c
+
+-- "7: leftover macro invocation met while collecting": exactly where the same walk finds a macro call
+abbrev pub LeftoverIsFound : Type 0
+LeftoverIsFound = (c : Combinator) → (leftover c ≡ true) ↔ Found MacroCall Anyhow c
 
 -- Code 10 ----------------------------------------------------------------------------------------
 
@@ -188,12 +217,15 @@ pub record Laws : Type 0 where
   pub expanded-is-book : ExpandedIsBook
   pub result-is-book : ResultIsBook
   pub segment-by-characters : SegmentByCharacters
+  pub decimal-reads-back : DecimalReadsBack
   pub fresh-is-first-free : FreshIsFirstFree
   pub candidates-differ : CandidatesDiffer
   pub byte-order : ByteOrder
   pub sorted-ascends : SortedAscends
   pub sorted-has-members : SortedHasMembers
   pub parameters-ascend : ParametersAscend
+  pub free-is-found : FreeIsFound
+  pub leftover-is-found : LeftoverIsFound
   pub measure-is-size : MeasureIsSize
   pub sum-at-each-lift : SumAtEachLift
   pub code10-is-first-over : Code10IsFirstOver

@@ -1,3 +1,4 @@
 pub mod Book
 pub mod Lists
+pub mod Collected
 pub mod Laws
