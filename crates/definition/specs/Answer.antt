@@ -24,13 +24,6 @@ source book = do
   b ← given (leb (length book) 16384) book-long book
   out (readBook b)
 
--- the expanded list: code 6
-unfoldable pub expanded : List ℕ → Out (List Definition)
-unfolding source
-expanded book = do
-  ds ← source book
-  expandBook ds
-
 -- the result: the expanded list with its calls, and the definitions appended
 pub record Result : Type 0 where
   pub kept : List Definition
@@ -40,22 +33,40 @@ unfoldable pub outcome : Res State (List Definition) → Out Result
 outcome (bad k s) = refused k
 outcome (ok ds s) = done (record { kept = ds; lifted = s .made })
 
--- codes 7 to 10
-unfoldable pub elaborated : List ℕ → Out Result
-unfolding expanded outcome
-elaborated book = do
-  ds ← expanded book
-  outcome (liftBook ds)
-
 abbrev pub all : Result → List Definition
 all r = r .kept ++ r .lifted
 
--- "Codes stand in this order, but for 7 to 10": 1, then 2 to 10, then 11
-unfoldable pub attempt : List ℕ → ℕ → ℕ → Out Result
-attempt book outLength workLength = do
+-- "Codes stand in this order, but for 7 to 10". The three steps serve every way to expand macros: document 01's, and document 02 b's beside it.
+-- Reading, 2 to 5, and then the expansion
+abbrev pub expandedBy : (List Definition → Out (List Definition)) → List ℕ → Out (List Definition)
+expandedBy expansion book = do
+  ds ← source book
+  expansion ds
+
+-- of the expanded list the lifts, 7 to 10
+abbrev pub liftedFrom : Out (List Definition) → Out Result
+liftedFrom list = do
+  ds ← list
+  outcome (liftBook ds)
+
+-- 1 before all that, and 11 after it
+abbrev pub attemptBy : (List ℕ → Out Result) → List ℕ → ℕ → ℕ → Out Result
+attemptBy elaboration book outLength workLength = do
   b ← given (leb 65536 workLength) work-short book
-  r ← elaborated b
+  r ← elaboration b
   given (leb (length (wBook (all r))) outLength) output-short r
+
+-- document 01's way: code 6
+unfoldable pub expanded : List ℕ → Out (List Definition)
+unfolding source
+expanded book = expandedBy expandBook book
+
+unfoldable pub elaborated : List ℕ → Out Result
+unfolding expanded outcome
+elaborated book = liftedFrom (expanded book)
+
+unfoldable pub attempt : List ℕ → ℕ → ℕ → Out Result
+attempt book outLength workLength = attemptBy elaborated book outLength workLength
 
 -- "It answers a code, the result's length, its count of definitions and the count lifted."; "On a refusal the three numbers are 0"
 pub record Answer : Type 0 where

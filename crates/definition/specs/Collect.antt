@@ -95,7 +95,7 @@ unfoldable mutual
   freeC no-case = []
   freeC (case l c f) = free c ++ freeC f
 
--- "7: leftover macro invocation met while collecting"
+-- "7: leftover macro invocation met while collecting": nowhere but where `free` goes (reading 8, docs/READINGS.md; crate `laws`, `leftover-is-found`)
 unfoldable mutual
   pub leftover : Combinator → Bool
   leftover (plain i) = leftoverI i

@@ -9,7 +9,7 @@ use Rattle.definition.specs.Code.{not-a-book}
 use Rattle.definition.specs.Res.{Res, bad, ok, _>>=_, require, from}
 use Rattle.definition.specs.Utf8.{behind, characters, wellFormed}
 use Rattle.definition.specs.Tree.{Kind, Entry, Definition}
-use Rattle.definition.specs.Read.{Reader, u16, part, text, noDot, dotted, undotted, byte, nameBy, namesBy, name, known, oneOf, len, selectorBy, selector, label, fieldBy, fields, cases, inners, items, level, tooDeep, chainBy, chain, combinator, params, kinds, definition}
+use Rattle.definition.specs.Read.{Reader, u16, part, text, noDot, dotAllowed, undotted, byte, nameBy, namesBy, name, known, oneOf, len, selectorBy, selector, label, fieldBy, fields, cases, inners, items, level, tooDeep, chainBy, chain, combinator, params, kinds, definition}
 
 -- "kind, a zero byte, u16 offset, u16 length"; "each next is the previous offset plus its length".
 -- `all` is the book's length, `at` where the body has to start. A fault in an entry is the entry's
@@ -79,7 +79,7 @@ contents width s = do
   (n, r) ← count s
   entries width (length s) n (2 + width * n) r
 
--- "the contents are tested whole, then bodies in order"; "the book ends with the last body"
+-- "the contents are tested whole, then bodies in order"; "the book ends with the last body": bytes behind it come before any body's fault (reading 12, docs/READINGS.md)
 unfoldable pub book : ℕ → Reader (List Definition)
 book width s = do
   (es, r) ← contents width s
@@ -88,5 +88,5 @@ book width s = do
 
 -- the book of document 01, with all that it takes to compute
 unfoldable pub readBook : Reader (List Definition)
-unfolding u16 part text behind characters wellFormed noDot dotted undotted byte nameBy namesBy name known oneOf len selectorBy selector label fieldBy fields cases inners items level tooDeep chainBy chain combinator params definition entry entries cut atEnd whole within bodies count contents book
+unfolding u16 part text behind characters wellFormed noDot dotAllowed undotted byte nameBy namesBy name known oneOf len selectorBy selector label fieldBy fields cases inners items level tooDeep chainBy chain combinator params definition entry entries cut atEnd whole within bodies count contents book
 readBook s = book 6 s

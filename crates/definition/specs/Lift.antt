@@ -20,7 +20,7 @@ pub record State : Type 0 where
   pub bytes : ℕ
   pub defns : ℕ
 
--- "A parameter's type is that of the first binder of that name". Binders are searched in order: "the definition's own parameters, then the Dependent fields passed on the way, outermost first"
+-- "A parameter's type is that of the first binder of that name". Binders are searched in order: "the definition's own parameters, then the Dependent fields passed on the way, outermost first". The definition is the source's, inside what is lifted too (reading 1, docs/READINGS.md)
 unfoldable pub binder : List Param → Name → Maybe Inner
 binder [] n = absent
 binder (p ∷ ps) n = let r = binder ps n in cond (eqName (p .name) n) (just (p .type)) r
@@ -49,7 +49,7 @@ grow d there moved s = record { taken = s .taken; made = s .made; bytes = (s .by
 unfoldable pub append : Definition → State → State
 append d s = record { taken = s .taken; made = s .made ++ (d ∷ []); bytes = s .bytes; defns = s .defns }
 
--- "A Dependent field binds its label for the fields after it", "types as they stand after lifting, without chain"
+-- "A Dependent field binds its label for the fields after it", "types as they stand after lifting, without chain" (reading 7, docs/READINGS.md)
 unfoldable pub bind : FieldKind → Name → Combinator → List Param → List Param
 bind ordinary l d binders = binders
 bind dependent l d binders = binders ++ (record { name = l; type = innerOf d } ∷ [])
@@ -59,7 +59,8 @@ abbrev pub Walk : Type 0
 Walk = Name → List Param → State → Res State Combinator
 
 -- what a walk lifts, by the child and the count of definitions so far, and what it holds to be within the limits, by bytes and definitions.
--- Document 01's walk is `full`; a law about code 10 looks at walks that stop earlier
+-- Document 01's walk is `full`. Two things need another: the laws about code 10 (crate `laws`, `measure-is-size` and those after it) look at walks that stop earlier,
+-- and document 02 f will have a walk for the delivery profile, "9, 8, 10 at each lift"
 pub record Course : Type 0 where
   pub lifts : Combinator → ℕ → Bool
   pub within : ℕ → ℕ → Bool
@@ -73,7 +74,7 @@ module _ (course : Course) where
   unfoldable pub measured : State → Res State Unit
   measured s = require (course .within (s .bytes) (s .defns)) result-long s
 
-  -- "An anonymous child is lifted whole, chain included, and replaced by a call without a chain"; "9, 7, 8, 10"
+  -- "An anonymous child is lifted whole, chain included, and replaced by a call without a chain"; "9, 7, 8, 10", before the lifts inside (reading 2, docs/READINGS.md)
   unfoldable pub lift : Combinator → Walk → Walk
   lift c inside base binders s =
       let n = fresh base (s .taken) in
@@ -86,7 +87,7 @@ module _ (course : Course) where
         (d, s) ← inside n binders (take n s)
         ok there (append (format n ps d) s)
 
-  -- "any other child is walked"
+  -- "any other child is walked", its base for its name, taken or not (reading 6, docs/READINGS.md)
   unfoldable pub childBy : Bool → Combinator → Walk → Walk
   childBy true c inside base binders s = lift c inside base binders s
   childBy false c inside base binders s = inside base binders s

@@ -1,10 +1,11 @@
--- The lines of the listing, each with its newline.
+-- The lines of the listing, each with its newline (reading 16, docs/READINGS.md).
 use mathlib.Core.List.{List, [], _∷_, _++_}
 use mathlib.Core.Bool.{Bool, true, false, cond, not, _&&_}
 use Prim.Native.Nat.{ℕ, _+_, _/_, _%_}
 use lib.Dec.{eqb, leb, ltb}
 use lib.ListN.{length}
 use Rattle.definition.specs.Code.{number}
+use Rattle.definition.specs.Utf8.{ascii}
 use Rattle.definition.specs.Out.{Out, refused, done}
 use Rattle.definition.specs.Tree.{Name, Definition, format, constant, byte-order, macro}
 use Rattle.definition.specs.Names.{digits, decimal}
@@ -25,12 +26,12 @@ shownBytes [] = []
 shownBytes (b ∷ s) = shownByte b ++ shownBytes s
 
 abbrev dash : Bool → ℕ → List ℕ
-dash true b = 37 ∷ 50 ∷ 68 ∷ []
+dash true b = ascii "%2D"
 dash false b = shownByte b
 
 -- "the empty name prints `-`, the name "-" prints `%2D`"
 unfoldable pub shown : Name → List ℕ
-shown [] = 45 ∷ []
+shown [] = ascii "-"
 shown (b ∷ []) = dash (eqb b 45) b
 shown (b ∷ c ∷ s) = shownBytes (b ∷ c ∷ s)
 
@@ -38,24 +39,24 @@ shown (b ∷ c ∷ s) = shownBytes (b ∷ c ∷ s)
 unfoldable pub count : ℕ → List ℕ
 count n = 32 ∷ decimal n
 
--- the words ok, refused, format, lifted, const, order
+-- the words
 abbrev wOk : List ℕ
-wOk = 111 ∷ 107 ∷ []
+wOk = ascii "ok"
 
 abbrev wRefused : List ℕ
-wRefused = 114 ∷ 101 ∷ 102 ∷ 117 ∷ 115 ∷ 101 ∷ 100 ∷ []
+wRefused = ascii "refused"
 
 abbrev pub wFormat : List ℕ
-wFormat = 102 ∷ 111 ∷ 114 ∷ 109 ∷ 97 ∷ 116 ∷ []
+wFormat = ascii "format"
 
 abbrev pub wLifted : List ℕ
-wLifted = 108 ∷ 105 ∷ 102 ∷ 116 ∷ 101 ∷ 100 ∷ []
+wLifted = ascii "lifted"
 
 abbrev wConst : List ℕ
-wConst = 99 ∷ 111 ∷ 110 ∷ 115 ∷ 116 ∷ []
+wConst = ascii "const"
 
 abbrev wOrder : List ℕ
-wOrder = 111 ∷ 114 ∷ 100 ∷ 101 ∷ 114 ∷ []
+wOrder = ascii "order"
 
 abbrev newline : List ℕ
 newline = 10 ∷ []

@@ -1,6 +1,7 @@
 -- Macro rules (`expand_macros`), code 6.
 use mathlib.Core.List.{List, [], _∷_}
 use mathlib.Core.Bool.{Bool, true, false, _&&_}
+use Prim.Native.Nat.{ℕ}
 use lib.Dec.{leb}
 use Rattle.definition.specs.Code.{macro-growth}
 use Rattle.definition.specs.Out.{Out, done, _>>=_, given}
@@ -13,7 +14,7 @@ abbrev pub same : Inner → Inner → Bool → Inner
 same a i true = a
 same a i false = i
 
--- rule 4: "It replaces the inner of an Invocation whose name is the parameter, its arguments lost, and does not go into the argument just put in nor into macro arguments."
+-- rule 4: "It replaces the inner of an Invocation whose name is the parameter, its arguments lost, and does not go into the argument just put in nor into macro arguments." (reading 4, docs/READINGS.md)
 unfoldable mutual
   pub subst : Combinator → Name → Inner → Combinator
   subst (plain i) p a = plain (substI i p a)
@@ -37,9 +38,13 @@ unfoldable mutual
   substC no-case p a = no-case
   substC (case l c f) p a = case l (subst c p a) (substC f p a)
 
--- rule 5: "the macro's combinator alone, chain included and its root at level 1, is over 16,384 bytes or 64 levels"
+-- code 6's limit, by bytes and levels: not "over 16,384 bytes or 64 levels" (reading 13, docs/READINGS.md)
+abbrev pub withinGrowth : ℕ → ℕ → Bool
+withinGrowth long deep = leb long 16384 && leb deep 64
+
+-- rule 5: "the macro's combinator alone, chain included and its root at level 1"
 unfoldable pub limited : Combinator → Out Combinator
-limited c = given (leb (size c) 16384 && leb (levels c) 64) macro-growth c
+limited c = given (withinGrowth (size c) (levels c)) macro-growth c
 
 -- rule 4: "Parameters and arguments are paired from the front; extra ones on either side are ignored. Substitution is one parameter after the other"
 unfoldable pub instance : List Name → Inners → Combinator → Out Combinator
@@ -78,7 +83,7 @@ unfoldable pub expandMacro : List Macro → Name → Inners → Out Inner
 expandMacro [] n xs = done (macro-invocation n xs)
 expandMacro (m ∷ ms) n xs = let next = expandMacro ms n xs in expandBy (eqName (m .name) n) m xs next
 
--- rule 2: "Format bodies are walked: chain, fields, choices, Wrap, Vec, Array, Option. Parameter types and macro arguments are not."
+-- rule 2: "Format bodies are walked: chain, fields, choices, Wrap, Vec, Array, Option. Parameter types and macro arguments are not." (reading 5, docs/READINGS.md)
 unfoldable mutual
   pub expand : Combinator → List Macro → Out Combinator
   expand (plain i) ms = do
@@ -136,11 +141,16 @@ expandAll (byte-order x ∷ ds) ms = do
   done (byte-order x ∷ es)
 expandAll (macro n ps c ∷ ds) ms = expandAll ds ms
 
--- rule 5: "or the book left when expansion is done, macros removed, is over either"
+-- a pass with some macros; rule 5: "or the book left when expansion is done, macros removed, is over either"
+unfoldable pub pass : List Macro → List Definition → Out (List Definition)
+pass ms ds = do
+  es ← expandAll ds ms
+  given (withinGrowth (sizeBook es) (levelsBook es)) macro-growth es
+
+-- the pass of document 01, with the macros of the book itself
 unfoldable pub expandList : List Definition → Out (List Definition)
-expandList ds = do
-  es ← expandAll ds (macros ds [])
-  given (leb (sizeBook es) 16384 && leb (levelsBook es) 64) macro-growth es
+unfolding pass
+expandList ds = pass (macros ds []) ds
 
 -- `expandList` once more, with all that it takes to compute on its line
 unfoldable pub expandBook : List Definition → Out (List Definition)

@@ -4,9 +4,10 @@ use mathlib.Core.Bool.{Bool, true, false, cond, _&&_, _||_}
 use Prim.Native.Nat.{ℕ, zero, suc, _+_, _/_, _%_}
 use lib.Dec.{eqb, leb, ltb}
 use lib.ListN.{length}
+use Rattle.definition.specs.Utf8.{ascii}
 use Rattle.definition.specs.Tree.{Name, Shell, wrap, vec, option, array, CaseKind, enums, ints, arrays}
 
--- "Identifiers are equal when their names are"
+-- "Identifiers are equal when their names are" (reading 9, docs/READINGS.md)
 unfoldable pub eqName : Name → Name → Bool
 eqName [] [] = true
 eqName [] (y ∷ ys) = false
@@ -55,20 +56,20 @@ letters [] = []
 letters (b ∷ s) = letter b ++ letters s
 
 abbrev pub anon : Name
-anon = 97 ∷ 110 ∷ 111 ∷ 110 ∷ []
+anon = ascii "anon"
 
 abbrev pub item : Name
-item = 105 ∷ 116 ∷ 101 ∷ 109 ∷ []
+item = ascii "item"
 
 abbrev pub choiceWord : Name
-choiceWord = 99 ∷ 104 ∷ 111 ∷ 105 ∷ 99 ∷ 101 ∷ []
+choiceWord = ascii "choice"
 
 -- "an empty label gives `anon`"
 unfoldable pub segment : Name → Name
 segment [] = anon
 segment (b ∷ s) = letters (b ∷ s)
 
--- decimal digits; k bounds how many
+-- decimal digits; k bounds how many (crate `laws`, `decimal-reads-back`: their value is the number)
 unfoldable pub digits : ℕ → ℕ → List ℕ → List ℕ
 digits zero n acc = (48 + n) ∷ acc
 digits (suc k) n acc = let r = digits k (n / 10) ((48 + n % 10) ∷ acc) in cond (ltb n 10) ((48 + n) ∷ acc) r

@@ -1,4 +1,4 @@
--- Premise test: "yes exactly when after macro expansion every Invocation in a format body, macro arguments aside, names a kind 1 or 2 definition, and every chain there stands on Bytes or Tail".
+-- Premise test: "yes exactly when after macro expansion every Invocation in a format body, macro arguments aside, names a kind 1 or 2 definition, and every chain there stands on Bytes or Tail" (reading 14, docs/READINGS.md).
 use mathlib.Core.List.{List}
 use mathlib.Core.Bool.{Bool, true, false, _&&_}
 use Prim.Native.Nat.{ℕ}

@@ -39,17 +39,17 @@ noDot [] = true
 noDot (b ∷ s) = let r = noDot s in cond (eqb b 46) false r
 
 -- "A plain name has no '.'; only selectors and call arguments may have one."
-unfoldable pub dotted : List ℕ → Bool
-dotted x = wellFormed x
+unfoldable pub dotAllowed : List ℕ → Bool
+dotAllowed x = wellFormed x
 
 unfoldable pub undotted : List ℕ → Bool
-undotted x = dotted x && noDot x
+undotted x = dotAllowed x && noDot x
 
 unfoldable pub byte : Reader ℕ
 byte [] = bad not-a-book []
 byte (b ∷ s) = ok b s
 
--- "4: a name that is not UTF-8, or a plain name with '.'"; "An item that runs past its body is 3 before its value is tested"
+-- "4: a name that is not UTF-8, or a plain name with '.'"; "An item that runs past its body is 3 before its value is tested" (reading 11, docs/READINGS.md)
 unfoldable pub nameBy : (List ℕ → Bool) → Reader Name
 nameBy test s = from s (do
   (n, s) ← byte s
@@ -112,7 +112,7 @@ len s = do
 unfoldable pub selectorBy : Bool → Reader Selector
 selectorBy false s = ok none s
 selectorBy true s = do
-  (x, s) ← nameBy dotted s
+  (x, s) ← nameBy dotAllowed s
   ok (by x) s
 
 unfoldable pub selector : Reader Selector
@@ -157,7 +157,8 @@ inners a (suc n) s = do
   (f, s) ← inners a n s
   ok (inner x f) s
 
--- "An inner is a tag and its items". `c` reads a combinator one level deeper, and `a` a macro argument
+-- "An inner is a tag and its items". `c` reads a combinator one level deeper, and `a` a macro argument.
+-- No count is tested against what is left: the items are read one by one (reading 10, docs/READINGS.md)
 unfoldable pub items : Reader Combinator → Reader Inner → Tag → Reader Inner
 items c a (isLeaf k) s = do
   (x, s) ← text s
@@ -193,7 +194,7 @@ items c a isOption s = do
 items c a isInvocation s = do
   (l, s) ← name s
   (n, s) ← u16 s
-  (x, s) ← namesBy dotted n s
+  (x, s) ← namesBy dotAllowed n s
   ok (invocation l x) s
 items c a isMacroInvocation s = do
   (l, s) ← name s

@@ -8,7 +8,7 @@ use Prim.Native.Char.{code}
 use Prim.Native.String.{String}
 use lib.Dec.{eqb, leb, ltb}
 
--- D76, "Unicode scalar value: any Unicode code point except high-surrogate and low-surrogate code points"
+-- definition D76: a scalar value is any code point but the surrogates
 unfoldable pub scalar : ℕ → Bool
 scalar c = ltb c 0xD800 || leb 0xE000 c && leb c 0x10FFFF
 
@@ -16,7 +16,7 @@ scalar c = ltb c 0xD800 || leb 0xE000 c && leb c 0x10FFFF
 abbrev six : ℕ → ℕ
 six c = 128 + c % 64
 
--- table 3-6, "UTF-8 Bit Distribution", in the fewest bytes
+-- table 3-6: the bits of a scalar value, over the fewest bytes that hold them
 unfoldable pub encode : ℕ → List ℕ
 encode c =
     cond (ltb c 0x80) (c ∷ [])
@@ -35,7 +35,12 @@ unfolding encode
 utf8 String.[] = []
 utf8 (String._∷_ c s) = encode (code c) ++ utf8 s
 
--- Table 3-7, "Well-Formed UTF-8 Byte Sequences": for each first byte the ranges of the bytes behind it
+-- the same of a text in ASCII, where a character is its own byte: the words of the definition, which compute wherever they stand
+abbrev pub ascii : String → List ℕ
+ascii String.[] = []
+ascii (String._∷_ c s) = code c ∷ ascii s
+
+-- table 3-7, the well-formed byte sequences: for each first byte the ranges of the bytes behind it
 pub record Range : Type 0 where
   pub low : ℕ
   pub high : ℕ

@@ -1,4 +1,5 @@
 -- Writing: the layout of document 01's "The definition book", item by item. Each function puts its bytes in front of the list that follows.
+-- Here and in what follows a function that goes through a tree has one name, and a letter for what it takes there: none for a combinator, I for an inner, F for fields, C for cases, A for the arguments of a macro call (Inners), P for parameters.
 use mathlib.Core.List.{List, [], _∷_, _++_, map}
 use Prim.Native.Nat.{ℕ, suc, _+_, _*_, _/_, _%_}
 use lib.ListN.{length}

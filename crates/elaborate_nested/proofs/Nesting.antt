@@ -15,7 +15,8 @@ use Rattle.definition.specs.Macros.{macros}
 use Rattle.definition.specs.Lift.{liftBook}
 use Rattle.definition.specs.Answer.{Result, all, outcome}
 use Rattle.laws.specs.Book.{Bytes}
-use Rattle.nested.specs.Nested.{again, expandedNested, attemptNested, answerNested, outputNested}
+use Rattle.laws.proofs.Steps.{grouped-out}
+use Rattle.nested.specs.Nested.{again, expandedNested, elaboratedNested, attemptNested, answerNested, outputNested}
 use Rattle.open_book.specs.declared.opened.Opened.the-variants.{Book, Refused as Stopped}
 use Rattle.open_book.specs.opened.Opens.{Opens}
 use Rattle.expand_nested.specs.declared.passes.Passes.{Passes}
@@ -59,14 +60,14 @@ module _ {b : List ℕ} {n m : ℕ} {area : List ℕ} (lm : m ≡ 16384) where
 
 -- 7 to 11
 attempt-is : (b : List ℕ) (o n : ℕ) → attemptNested b o n ≡ (openedNested b n >>= λ ds. lifted ds o)
-unfolding attemptNested openedNested lifted
+unfolding attemptNested elaboratedNested openedNested lifted
 attempt-is b o n = both (leb 65536 n)
   where
     fits : Result → Out Result
     fits r = given (leb (length (wBook (all r))) o) output-short r
 
-    both : (t : Bool) → (given t work-short b >>= λ c. expandedNested c >>= λ ds. outcome (liftBook ds) >>= λ r. fits r) ≡ ((given t work-short b >>= λ c. expandedNested c) >>= λ ds. outcome (liftBook ds) >>= λ r. fits r)
-    both true = refl
+    both : (t : Bool) → (given t work-short b >>= λ c. (expandedNested c >>= λ ds. outcome (liftBook ds)) >>= λ r. fits r) ≡ ((given t work-short b >>= λ c. expandedNested c) >>= λ ds. outcome (liftBook ds) >>= λ r. fits r)
+    both true = grouped-out (expandedNested b) (λ ds. outcome (liftBook ds)) (λ r. fits r)
     both false = refl
 
 module _ {b : List ℕ} {n : ℕ} {book : List ℕ} where

@@ -9,7 +9,7 @@ use lib.Dec.{eqb, T, eqb→eq}
 use lib.ListN.{length, getD}
 use Rattle.definition.specs.Res.{Maybe, absent, just, Res, bad, ok, _>>=_}
 use Rattle.definition.specs.Tree.{Name, Leaf, constraint-int, constraint-enum, bits, enum, tail, nothing, never, CaseKind, enums, ints, arrays, ordinary, dependent, Combinator, plain, Inner, Fields, no-field, no-case, no-inner, Kind, isFormat, isConstant, isByteOrder, isMacro, Definition}
-use Rattle.definition.specs.Read.{Reader, u16, part, text, dotted, undotted, byte, nameBy, namesBy, name, known, oneOf, flags, caseKinds, FieldStart, holds, isConst, fieldKinds, len, selectorBy, selector, label, fieldBy, fields, cases, inners, Tag, isLeaf, isStruct, isWrap, isChoice, isVec, isArray, isBytes, isOption, isInvocation, isMacroInvocation, tags, items, level, tooDeep, chainBy, chain, combinator, arg, params, definition}
+use Rattle.definition.specs.Read.{Reader, u16, part, text, dotAllowed, undotted, byte, nameBy, namesBy, name, known, oneOf, flags, caseKinds, FieldStart, holds, isConst, fieldKinds, len, selectorBy, selector, label, fieldBy, fields, cases, inners, Tag, isLeaf, isStruct, isWrap, isChoice, isVec, isArray, isBytes, isOption, isInvocation, isMacroInvocation, tags, items, level, tooDeep, chainBy, chain, combinator, arg, params, definition}
 use Rattle.definition.specs.Write.{wU16, wName, wText, wAll, wList, wLen, wSelector, caseByte, wLabel, leafTag, fieldByte, wOpen, wShut, countF, countC, countA, wCombinator, wInner, wFields, wCases, wInners, wParam, wDefinition, kindOf}
 use Rattle.definition.specs.Size.{levels, levelsI, levelsF, levelsC, levelsA, levelsP, levelsBook}
 use Rattle.laws.specs.Book.{Bytes, Named, AllNamed, GoodLen, GoodS, GoodL, Good, GoodI, GoodF, GoodC, GoodA, GoodP, GoodD}
@@ -133,7 +133,7 @@ i-len s h = then (i-u16 s h) _ λ n v u. then (i-names undotted n v (u .small)) 
 i-selectorBy : (f : Bool) (s : List ℕ) → Bytes s → Gives (λ x r. Is (flagByte f ∷ s) (wSelector x r) r (GoodS x)) (selectorBy f s)
 unfolding selectorBy wSelector
 i-selectorBy false s h = value (record { same = refl; small = h; good = tt })
-i-selectorBy true s h = then (i-name dotted s h) _ λ n r w. value (record { same = rw (w .same); small = w .small; good = w .good })
+i-selectorBy true s h = then (i-name dotAllowed s h) _ λ n r w. value (record { same = rw (w .same); small = w .small; good = w .good })
 
 i-selector : Reads selector wSelector GoodS
 unfolding selector
@@ -210,7 +210,7 @@ module _ (k : ℕ) (c : Reader Combinator) (ih : Reads c wCombinator (λ x. Good
         value (record { same = rw (u .same, w .same); small = w .small; good = ((u .good, w .good .0), w .good .1) })
     i-items isBytes s h = then (i-len s h) _ λ l r w. value (record { same = rw (w .same); small = w .small; good = (w .good, omega arith) })
     i-items isOption s h = then (ih s h) _ λ y r w. value (record { same = rw (w .same); small = w .small; good = ((tt, w .good .0), w .good .1) })
-    i-items isInvocation s h = then (i-name undotted s h) _ λ l v u. then (i-u16 v (u .small)) _ λ n v₂ u₂. then (i-names dotted n v₂ (u₂ .small)) _ λ ns r w.
+    i-items isInvocation s h = then (i-name undotted s h) _ λ l v u. then (i-u16 v (u .small)) _ λ n v₂ u₂. then (i-names dotAllowed n v₂ (u₂ .small)) _ λ ns r w.
         value (record { same = rw (w .good .0, u .same, u₂ .same, w .same); small = w .small; good = ((u .good, w .good .1), omega arith) })
     i-items isMacroInvocation s h = then (i-name undotted s h) _ λ l v u. then (i-u16 v (u .small)) _ λ n v₂ u₂. then (i-inners n v₂ (u₂ .small)) _ λ ns r w.
         value (record { same = rw (w .good .0, u .same, u₂ .same, w .same); small = w .small; good = ((u .good, w .good .1), w .good .2) })

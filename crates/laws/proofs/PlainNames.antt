@@ -11,7 +11,7 @@ use lib.ListN.{length}
 use borrow.Author.Tests.{leb-true, ltb-true, ltb-false, lt-ltb, ne-eqb}
 use Rattle.definition.specs.Utf8.{Range, inside, behind, characters, wellFormed}
 use Rattle.definition.specs.Tree.{Name, Shell, wrap, vec, option, array, CaseKind, enums, ints, arrays}
-use Rattle.definition.specs.Read.{noDot, dotted, undotted}
+use Rattle.definition.specs.Read.{noDot, dotAllowed, undotted}
 use Rattle.definition.specs.Names.{elem, letter, letters, segment, digits, decimal, child, caseSegment, shellSegment, numbered, firstFree, fresh}
 use Rattle.laws.specs.Book.{Bytes}
 use Rattle.laws.proofs.Tests.{by-test, not-both, both-true, either}
@@ -63,7 +63,7 @@ pub record Base (n : Name) : Type 0 where
   pub small : Bytes n
 
 joined : (n x : List ℕ) → Base n → Ascii x → Base (n ++ x)
-unfolding undotted dotted wellFormed
+unfolding undotted dotAllowed wellFormed
 joined n x p h =
     let w = both-true (characters [] n) (noDot n) (p .passes) in
     record { passes = rw (chars-append [] n x (w .0) (ascii-chars x h), dots-append n x (w .1) (ascii-dots x h)); small = ascii-small n x (p .small) h }

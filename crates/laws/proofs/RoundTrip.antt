@@ -8,7 +8,7 @@ use native.Mathlib.Omega.{arith}
 use lib.ListN.{length}
 use Rattle.definition.specs.Res.{ok}
 use Rattle.definition.specs.Tree.{Name, Leaf, constraint-int, constraint-enum, bits, enum, tail, nothing, never, Len, wrap, vec, option, array, Selector, none, by, CaseKind, enums, ints, arrays, ordinary, dependent, Combinator, plain, chained, Inner, leaf, struct, choice, shell, bytes, invocation, macro-invocation, Fields, no-field, field, const, Cases, no-case, case, Inners, no-inner, inner}
-use Rattle.definition.specs.Read.{u16, part, text, dotted, undotted, byte, nameBy, namesBy, name, known, oneOf, caseKinds, len, selectorBy, selector, label, fieldBy, fields, cases, inners, isLeaf, tags, items, level, chainBy, chain, combinator, arg}
+use Rattle.definition.specs.Read.{u16, part, text, dotAllowed, undotted, byte, nameBy, namesBy, name, known, oneOf, caseKinds, len, selectorBy, selector, label, fieldBy, fields, cases, inners, isLeaf, tags, items, level, chainBy, chain, combinator, arg}
 use Rattle.definition.specs.Write.{wU16, wName, wText, wAll, wList, wLen, wSelector, caseByte, wLabel, leafTag, fieldByte, wOpen, wShut, countF, countC, countA, wCombinator, wInner, wFields, wCases, wInners}
 use Rattle.definition.specs.Size.{levels, levelsI, levelsF, levelsC, levelsA}
 use Rattle.laws.specs.Book.{Named, AllNamed, GoodLen, GoodS, GoodL, Good, GoodI, GoodF, GoodC, GoodA}
@@ -46,7 +46,7 @@ r-len l h r = simp (r-u16, r-names undotted (l .roots) (h .0), r-text)
 r-selector : (s : Selector) → GoodS s → (r : List ℕ) → selector (wSelector s r) ≡ ok s r
 unfolding selector selectorBy wSelector oneOf known
 r-selector none h r = refl
-r-selector (by n) h r = simp (r-nameBy dotted n h)
+r-selector (by n) h r = simp (r-nameBy dotAllowed n h)
 
 r-caseKind : (k : CaseKind) (r : List ℕ) → oneOf caseKinds (caseByte k ∷ r) ≡ ok k r
 unfolding oneOf known caseByte
@@ -88,7 +88,7 @@ mutual
   r-level (shell option c) g k h r = simp (r-combinator c (g .1) k h r)
   r-level (shell (array l) c) g k h r = simp (r-len l (g .0), r-combinator c (g .1) k h r)
   r-level (bytes l) g k h r = simp (r-len l g)
-  r-level (invocation n a) g k h r = simp (r-name n (g .0), r-u16, r-names dotted a (g .1))
+  r-level (invocation n a) g k h r = simp (r-name n (g .0), r-u16, r-names dotAllowed a (g .1))
   r-level (macro-invocation n a) g k h r = simp (r-name n (g .0), r-u16, r-inners a (g .1) k h r)
 
   r-fields : (f : Fields) → GoodF f → (k : ℕ) → levelsF f ≤ k → (r : List ℕ) → fields (combinator k) (countF f) (wFields f r) ≡ ok f r

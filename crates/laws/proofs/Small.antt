@@ -5,7 +5,7 @@ use Prim.Native.Nat.{ℕ, _+_, _*_, _≤_, _<_}
 use native.Mathlib.Omega.{arith}
 use lib.ListN.{length, length-map}
 use Rattle.definition.specs.Tree.{Name, Text, Leaf, constraint-int, constraint-enum, bits, enum, tail, nothing, never, Len, Shell, wrap, vec, option, array, Selector, none, by, CaseKind, enums, ints, arrays, FieldKind, ordinary, dependent, Combinator, plain, chained, Inner, leaf, struct, choice, shell, bytes, invocation, macro-invocation, Fields, no-field, field, const, Cases, no-case, case, Inners, no-inner, inner, Param, Kind, isFormat, isConstant, isByteOrder, isMacro, Definition, format, constant, byte-order, macro}
-use Rattle.definition.specs.Read.{dotted, undotted}
+use Rattle.definition.specs.Read.{dotAllowed, undotted}
 use Rattle.definition.specs.Write.{wU16, wName, wText, wAll, wList, wLen, wSelector, caseByte, wLabel, leafTag, fieldByte, wOpen, wShut, countF, countC, countA, wCombinator, wInner, wFields, wCases, wInners, wParam, wDefinition, kindOf, kindByte, sizeOf, wEntries, wParts, entryOf, wBook}
 use Rattle.laws.specs.Book.{Bytes, Named, AllNamed, GoodLen, GoodS, GoodL, GoodShell, Good, GoodI, GoodF, GoodC, GoodA, GoodP, GoodD, GoodAll, IsBook}
 use Rattle.laws.proofs.Sizes.{room, size-book, size-bodies, room-least}
@@ -124,7 +124,7 @@ mutual
   p-inner (choice s k f) g = at-least (after (p-byte 7 (omega arith)) (after (p-selector s (g .0)) (after (p-byte (caseByte k) (case-small k)) (counted (countC f) (p-cases f k (g .1)))))) (omega arith)
   p-inner (shell x c) g = at-least (after (p-open x (g .0)) (after (p-comb c (g .1)) (p-shut x (g .0)))) (omega arith)
   p-inner (bytes l) g = after (p-byte 10 (omega arith)) (p-len l g)
-  p-inner (invocation n a) g = at-least (after (p-byte 15 (omega arith)) (after (p-name n (g .0)) (p-list wName a (p-names dotted a (g .1))))) (omega arith)
+  p-inner (invocation n a) g = at-least (after (p-byte 15 (omega arith)) (after (p-name n (g .0)) (p-list wName a (p-names dotAllowed a (g .1))))) (omega arith)
   p-inner (macro-invocation n a) g = at-least (after (p-byte 16 (omega arith)) (after (p-name n (g .0)) (counted (countA a) (p-inners a (g .1))))) (omega arith)
 
   p-fields : (f : Fields) → GoodF f → Puts (countF f) (wFields f)

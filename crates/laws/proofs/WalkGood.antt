@@ -6,7 +6,7 @@ use Prim.Native.Nat.{ℕ, suc, _≤_}
 use native.Mathlib.Omega.{arith}
 use Rattle.definition.specs.Res.{just}
 use Rattle.definition.specs.Tree.{Name, CaseKind, FieldKind, ordinary, dependent, Combinator, plain, chained, Inner, leaf, struct, choice, shell, bytes, invocation, macro-invocation, Fields, no-field, field, const, Cases, no-case, case, Param, Definition, format, constant, byte-order, macro}
-use Rattle.definition.specs.Read.{noDot, dotted, undotted}
+use Rattle.definition.specs.Read.{noDot, dotAllowed, undotted}
 use Rattle.definition.specs.Size.{levels, levelsI, levelsF, levelsC, levelsP, levelsBook}
 use Rattle.definition.specs.Names.{eqName, child, segment, caseSegment, shellSegment}
 use Rattle.definition.specs.Macros.{innerOf}
@@ -61,13 +61,13 @@ bound-fine bs [] f b = tt
 bound-fine bs (p ∷ ps) f b = (binder-fine bs (p .name) (p .type) f (b .0), bound-fine bs ps f (b .1))
 
 -- a plain name may stand where one with a '.' may
-plain-dotted : {n : Name} → Named undotted n → Named dotted n
+plain-allowed : {n : Name} → Named undotted n → Named dotAllowed n
 unfolding undotted
-plain-dotted {n} h = record { passes = both-true (dotted n) (noDot n) (h .passes) .0; short = h .short; small = h .small }
+plain-allowed {n} h = record { passes = both-true (dotAllowed n) (noDot n) (h .passes) .0; short = h .short; small = h .small }
 
-fine-names : (ps : List Param) → Fine ps → AllNamed dotted (paramNames ps)
+fine-names : (ps : List Param) → Fine ps → AllNamed dotAllowed (paramNames ps)
 fine-names [] f = tt
-fine-names (p ∷ ps) f = (plain-dotted (f .0 .named), fine-names ps (f .1))
+fine-names (p ∷ ps) f = (plain-allowed (f .0 .named), fine-names ps (f .1))
 
 levels-least : (c : Combinator) → 1 ≤ levels c
 unfolding levels

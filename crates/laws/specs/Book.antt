@@ -5,14 +5,14 @@ use mathlib.Core.Bool.{Bool, true}
 use Prim.Native.Nat.{ℕ, _≤_, _<_}
 use lib.ListN.{length}
 use Rattle.definition.specs.Tree.{Name, Len, Shell, wrap, vec, option, array, Selector, none, by, CaseKind, enums, ints, arrays, Combinator, plain, chained, Inner, leaf, struct, choice, shell, bytes, invocation, macro-invocation, Fields, no-field, field, const, Cases, no-case, case, Inners, no-inner, inner, Param, Definition, format, constant, byte-order, macro}
-use Rattle.definition.specs.Read.{dotted, undotted}
+use Rattle.definition.specs.Read.{dotAllowed, undotted}
 use Rattle.definition.specs.Size.{sizeBook, levelsBook}
 
 abbrev pub Bytes : List ℕ → Type 0
 Bytes [] = Unit {0}
 Bytes (b ∷ s) = (b < 256) × Bytes s
 
--- "`name` = one length byte, then that many bytes of UTF-8."; the test is `undotted` for a plain name, `dotted` for a selector or an argument of a call
+-- "`name` = one length byte, then that many bytes of UTF-8."; the test is `undotted` for a plain name, `dotAllowed` for a selector or an argument of a call
 pub record Named (test : List ℕ → Bool) (n : Name) : Type 0 where
   pub passes : test n ≡ true
   pub short : length n ≤ 255
@@ -27,7 +27,7 @@ GoodLen l = AllNamed undotted (l .roots) × Bytes (l .text)
 
 abbrev pub GoodS : Selector → Type 0
 GoodS none = Unit {0}
-GoodS (by n) = Named dotted n
+GoodS (by n) = Named dotAllowed n
 
 abbrev pub GoodL : CaseKind → List ℕ → Type 0
 GoodL enums l = Named undotted l
@@ -51,7 +51,7 @@ abbrev mutual
   GoodI (choice s k f) = GoodS s × GoodC f k
   GoodI (shell x c) = GoodShell x × Good c
   GoodI (bytes l) = GoodLen l
-  GoodI (invocation n a) = Named undotted n × AllNamed dotted a
+  GoodI (invocation n a) = Named undotted n × AllNamed dotAllowed a
   GoodI (macro-invocation n a) = Named undotted n × GoodA a
 
   pub GoodF : Fields → Type 0

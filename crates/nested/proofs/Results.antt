@@ -11,8 +11,8 @@ use Rattle.definition.specs.Out.{Out, done}
 use Rattle.definition.specs.Tree.{Definition}
 use Rattle.definition.specs.Write.{wBook}
 use Rattle.definition.specs.Macros.{Macro, macros}
-use Rattle.definition.specs.Lift.{full, walkAll, start, liftBook}
-use Rattle.definition.specs.Answer.{Result, all, outcome}
+use Rattle.definition.specs.Lift.{full, walkAll, start}
+use Rattle.definition.specs.Answer.{Result, all}
 use Rattle.laws.specs.Book.{Bytes, IsBook}
 use Rattle.laws.specs.Lists.{NoMacro}
 use Rattle.laws.proofs.Steps.{Gives, Yields, stops, yields, next, where-true, of-result, yielded}
@@ -20,7 +20,7 @@ use Rattle.laws.proofs.ExpandGood.{GoodM, macros-good, pass-good, expand-good}
 use Rattle.laws.proofs.Results.{source-book, lifted-yields, lifted-book, accepted-by}
 use Rattle.demand3.proofs.Demand3.{Comes, walk-comes}
 use Rattle.demand3.proofs.Delivered.{delivered}
-use Rattle.nested.specs.Nested.{settled, pass, until, again, nestedList, expandedNested, attemptNested, answerNested, outputNested}
+use Rattle.nested.specs.Nested.{settled, pass, until, again, nestedList, expandedNested, elaboratedNested, attemptNested, answerNested, outputNested}
 use Rattle.nested.specs.Laws.{ExpandedIsBook, ResultIsBook, AcceptedIsDelivered}
 
 abbrev Fine : List Definition → Type 0
@@ -44,12 +44,15 @@ pub expanded-is-book : ExpandedIsBook
 expanded-is-book s h ds e = yielded (expanded-book s h) e
 
 -- what holds of every walk of the list after the last pass holds of every result
+elaborated-yields : (P : Result → Type 0) (s : List ℕ) → ((ds : List Definition) → expandedNested s ≡ done ds → Gives (λ es t. P (record { kept = es; lifted = t .made })) (walkAll full ds (start ds))) → Yields P (elaboratedNested s)
+unfolding elaboratedNested
+elaborated-yields P s h = next (of-result (expandedNested s) λ ds e. h ds e) _ λ ds w. lifted-yields P ds w
+
 attempt-yields : (P : Result → Type 0) (s : List ℕ) → ((ds : List Definition) → expandedNested s ≡ done ds → Gives (λ es t. P (record { kept = es; lifted = t .made })) (walkAll full ds (start ds)))
     → (o w : ℕ) → Yields (λ r. P r × (length (wBook (all r)) ≤ o)) (attemptNested s o w)
 unfolding attemptNested
-attempt-yields P s h o w = next {P = λ b. Yields (λ ds. Yields P (outcome (liftBook ds))) (expandedNested b)}
-    (where-true (leb 65536 w) _ s (λ t. of-result (expandedNested s) λ ds e. lifted-yields P ds (h ds e))) _
-    λ b g. next g _ λ ds k. next k _ λ r q. where-true (leb (length (wBook (all r))) o) _ r λ t. (q, leb-true _ o t)
+attempt-yields P s h o w = next {P = λ b. Yields P (elaboratedNested b)} (where-true (leb 65536 w) _ s (λ t. elaborated-yields P s h)) _
+    λ b g. next g _ λ r q. where-true (leb (length (wBook (all r))) o) _ r λ t. (q, leb-true _ o t)
 
 pub result-is-book : ResultIsBook
 unfolding answerNested outputNested

@@ -1,6 +1,6 @@
 -- A settled list: no pass changes it, and the nested mode answers for it as the plain one does.
 -- Assumes nothing.
-use mathlib.Core.Path.{_≡_, refl, sym, ap}
+use mathlib.Core.Path.{_≡_, refl, ap}
 use mathlib.Core.List.{List, [], _∷_}
 use mathlib.Core.Bool.{Bool, true, false, not, _||_}
 use Prim.Native.Nat.{ℕ}
@@ -19,9 +19,8 @@ use Rattle.definition.specs.Lift.{liftBook}
 use Rattle.definition.specs.Answer.{source, expanded, Result, all, outcome, elaborated, attempt, answered, answer, filled, output}
 use Rattle.laws.specs.Lists.{NoMacro}
 use Rattle.laws.proofs.Tests.{both-true, not-both, not-true}
-use Rattle.laws.proofs.Steps.{grouped-out}
 use Rattle.laws.proofs.Results.{expand-says}
-use Rattle.nested.specs.Nested.{everyMacroCall, everyMacroCallI, everyMacroCallF, everyMacroCallC, isMacro, settled, pass, again, nestedList, expandedNested, attemptNested, answerNested, outputNested}
+use Rattle.nested.specs.Nested.{everyMacroCall, everyMacroCallI, everyMacroCallF, everyMacroCallC, isMacro, settled, pass, again, nestedList, expandedNested, elaboratedNested, attemptNested, answerNested, outputNested}
 use Rattle.nested.specs.Laws.{SettledStays, SettledIsPlain}
 use Rattle.nested.proofs.Passes.{now}
 
@@ -90,15 +89,19 @@ module _ (book : List ℕ) (h : (ds es : List Definition) → source book ≡ do
       of-source (refused k) p = refl
       of-source (done ds) p = rw (expand-says ds) (of-list ds p (expandList ds) refl)
 
+  same-result : elaboratedNested book ≡ elaborated book
+  unfolding elaboratedNested elaborated
+  same-result = ap (λ (m : Out (List Definition)). m >>= λ ds. outcome (liftBook ds)) same-list
+
   same-attempt : (o w : ℕ) → attemptNested book o w ≡ attempt book o w
-  unfolding attemptNested attempt elaborated
+  unfolding attemptNested attempt
   same-attempt o w = of-work (leb 65536 w)
     where
       fits : Result → Out Result
       fits r = given (leb (length (wBook (all r))) o) output-short r
 
-      of-work : (b : Bool) → (given b work-short book >>= λ c. expandedNested c >>= λ ds. outcome (liftBook ds) >>= λ r. fits r) ≡ (given b work-short book >>= λ c. elaborated c >>= λ r. fits r)
-      of-work true = rw same-list (sym (grouped-out (expanded book) (λ ds. outcome (liftBook ds)) (λ r. fits r)))
+      of-work : (b : Bool) → (given b work-short book >>= λ c. elaboratedNested c >>= λ r. fits r) ≡ (given b work-short book >>= λ c. elaborated c >>= λ r. fits r)
+      of-work true = rw same-result
       of-work false = refl
 
 pub settled-is-plain : SettledIsPlain

@@ -2,19 +2,21 @@
 use mathlib.Core.List.{List, [], _∷_}
 use mathlib.Core.Bool.{Bool, true, false, _&&_, _||_, not}
 use Prim.Native.Nat.{ℕ, zero, suc}
-use lib.Dec.{leb}
 use lib.ListN.{length}
-use Rattle.definition.specs.Code.{number, macro-growth, output-short, work-short, macro-left}
-use Rattle.definition.specs.Out.{Out, refused, done, _>>=_, given}
+use Rattle.definition.specs.Code.{number, macro-left}
+use Rattle.definition.specs.Out.{Out, refused, done, _>>=_}
 use Rattle.definition.specs.Tree.{Name, Combinator, plain, chained, Inner, leaf, struct, choice, shell, bytes, invocation, macro-invocation, Fields, no-field, field, const, Cases, no-case, case, Definition}
 use Rattle.definition.specs.Names.{eqName}
 use Rattle.definition.specs.Size.{sizeBook, levelsBook}
 use Rattle.definition.specs.Write.{wBook}
 use Rattle.definition.specs.Macros.{Macro, macros, expandAll, expandList, expandBook}
+-- "the pass of document 01", with any macros: a word of this mode too
+unfoldable pub use Rattle.definition.specs.Macros.{pass}
 use Rattle.definition.specs.Bodies.{everyBody}
 use Rattle.definition.specs.Contents.{readBook}
 use Rattle.definition.specs.Lift.{liftBook}
-use Rattle.definition.specs.Answer.{source, Result, outcome, all, Answer, answered, filled}
+use Rattle.definition.specs.Answer.{source, Result, outcome, expandedBy, liftedFrom, attemptBy, Answer, answered, filled}
+use Rattle.definition.specs.Listing.{listed}
 
 -- every macro call passes a test, where the pass reaches (document 01, rule 2)
 unfoldable mutual
@@ -51,18 +53,12 @@ isMacro (m ∷ ms) n = eqName (m .name) n || isMacro ms n
 unfoldable pub settled : List Macro → List Definition → Bool
 settled ms ds = everyBody (λ c. everyMacroCall c (λ n. not (isMacro ms n))) ds
 
--- "the pass of document 01" with the macros ms; "Code 6 is tested in every pass"
-unfoldable pub pass : List Macro → List Definition → Out (List Definition)
-pass ms ds = do
-  es ← expandAll ds ms
-  given (leb (sizeBook es) 16384 && leb (levelsBook es) 64) macro-growth es
-
 -- "until no known macro call stands where the pass reaches": else what comes next
 unfoldable pub until : Bool → List Definition → Out (List Definition) → Out (List Definition)
 until true ds next = done ds
 until false ds next = next
 
--- "run it again on its result with the same macros", at most so many times; "A known call left after pass 16 is 12"
+-- "run it again on its result with the same macros", at most so many times; "12, a known call left after pass 16". The pass has code 6 in it: "Code 6 is tested in every pass"
 unfoldable pub again : ℕ → List Macro → List Definition → Out (List Definition)
 again zero ms ds = until (settled ms ds) ds (refused macro-left)
 again (suc left) ms ds = let next = (pass ms ds >>= λ es. again left ms es) in until (settled ms ds) ds next
@@ -75,24 +71,25 @@ nestedList ds = do
 
 -- the expanded list "after the last pass": codes 2 to 6, and 12 "after 6 and before any lift"
 unfoldable pub expandedNested : List ℕ → Out (List Definition)
-expandedNested book = do
-  ds ← source book
-  nestedList ds
+expandedNested book = expandedBy nestedList book
 
--- the codes' order is document 01's: 1, then 2 to 6 and 12, then 7 to 10, then 11
+-- then document 01's steps
+unfoldable pub elaboratedNested : List ℕ → Out Result
+elaboratedNested book = liftedFrom (expandedNested book)
+
 unfoldable pub attemptNested : List ℕ → ℕ → ℕ → Out Result
-attemptNested book outLength workLength = do
-  b ← given (leb 65536 workLength) work-short book
-  ds ← expandedNested b
-  r ← outcome (liftBook ds)
-  given (leb (length (wBook (all r))) outLength) output-short r
+attemptNested book outLength workLength = attemptBy elaboratedNested book outLength workLength
 
--- "the same answer"
+-- what `listing --nested` prints
+abbrev pub listingNested : List ℕ → List ℕ
+listingNested book = listed (elaboratedNested book)
+
+-- the answer of document 01's call
 unfoldable pub answerNested : List ℕ → ℕ → ℕ → Answer
-unfolding number answered outcome source attemptNested expandedNested nestedList again until pass settled isMacro everyMacroCall everyBody eqName macros expandAll expandList expandBook sizeBook levelsBook readBook wBook liftBook
+unfolding number answered outcome source attemptNested elaboratedNested expandedNested nestedList again until pass settled isMacro everyMacroCall everyBody eqName macros expandAll expandList expandBook sizeBook levelsBook readBook wBook liftBook
 answerNested book outLength workLength = answered (attemptNested book outLength workLength)
 
 -- what the output holds afterwards; of the work area it is `zeroed` of document 01
 unfoldable pub outputNested : List ℕ → List ℕ → ℕ → List ℕ
-unfolding filled outcome source attemptNested expandedNested nestedList again until pass settled isMacro everyMacroCall everyBody eqName macros expandAll expandList expandBook sizeBook levelsBook readBook wBook liftBook
+unfolding filled outcome source attemptNested elaboratedNested expandedNested nestedList again until pass settled isMacro everyMacroCall everyBody eqName macros expandAll expandList expandBook sizeBook levelsBook readBook wBook liftBook
 outputNested book out workLength = filled (attemptNested book (length out) workLength) out

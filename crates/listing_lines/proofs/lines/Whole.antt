@@ -8,7 +8,7 @@ use lib.Dec.{leb}
 use lib.ListN.{length}
 use borrow.Author.Tests.{le-leb}
 use Rattle.definition.specs.Code.{output-short}
-use Rattle.definition.specs.Out.{Out, refused, done, _>>=_, given}
+use Rattle.definition.specs.Out.{Out, _>>=_, given}
 use Rattle.definition.specs.Write.{wBook}
 use Rattle.definition.specs.Size.{sizeBook}
 use Rattle.definition.specs.Tree.{Definition}
@@ -18,12 +18,12 @@ use Rattle.definition.specs.Listing.{listing}
 use Rattle.laws.specs.Book.{Bytes, IsBook}
 use Rattle.laws.proofs.Steps.{Yields, stops, yields, next, of-result, yielded}
 use Rattle.laws.proofs.Results.{elaborated-book, lifted-yields, lifted-book}
-use Rattle.nested.specs.Nested.{expandedNested, attemptNested, answerNested, outputNested}
+use Rattle.nested.specs.Nested.{expandedNested, elaboratedNested, attemptNested, answerNested, outputNested}
 use Rattle.nested.proofs.Results.{expanded-is-book}
 use Rattle.what_comes_back.specs.declared.Elaborated.{Elaborated}
 use Rattle.what_comes_back.specs.Elaborates.{reported, Reports}
 use Rattle.listing_lines.specs.answers.Prints.{Prints}
-use Rattle.listing_lines.specs.lines.Lines.{Tells, elaboratedNested, TellsNested}
+use Rattle.listing_lines.specs.lines.Lines.{Tells, TellsNested}
 
 -- an output of 16,384 bytes holds every result
 fits-all : {m : Out Result} {o : ℕ} → 16384 ≤ o → Yields (λ r. IsBook (all r)) m → (m >>= λ r. given (leb (length (wBook (all r))) o) output-short r) ≡ m
@@ -53,13 +53,8 @@ module _ (b out : List ℕ) (w : ℕ) (h : Bytes b) (o : 16384 ≤ length out) (
   nested-book = next (of-result (expandedNested b) (λ ds e. expanded-is-book b h ds e)) _ λ ds i. lifts-nested ds (i .0)
 
   nested-whole : attemptNested b (length out) w ≡ elaboratedNested b
-  unfolding attemptNested elaboratedNested
-  nested-whole = rw (le-leb 65536 w k) (go (expandedNested b) (λ ds e. expanded-is-book b h ds e .0))
-    where
-      go : (m : Out (List Definition)) → ((ds : List Definition) → m ≡ done ds → IsBook ds)
-          → (m >>= λ ds. outcome (liftBook ds) >>= λ r. given (leb (length (wBook (all r))) (length out)) output-short r) ≡ (m >>= λ ds. outcome (liftBook ds))
-      go (refused c) g = refl
-      go (done ds) g = fits-all o (lifts-nested ds (g ds refl))
+  unfolding attemptNested
+  nested-whole = rw (le-leb 65536 w k) (fits-all o nested-book)
 
   pub tells-nested : {r : Elaborated} {out′ text text′ : List ℕ} {n : ℕ} → reported r ≡ answerNested b (length out) w → out′ ≡ outputNested b out w → Prints r out′ text text′ n → TellsNested b text text′ n
   unfolding answerNested outputNested

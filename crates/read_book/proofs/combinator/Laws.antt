@@ -8,7 +8,7 @@ use lib.ListN.{drop, getD}
 use Rattle.definition.specs.Code.{number, too-deep}
 use Rattle.definition.specs.Res.{absent, Res, bad, ok, _>>=_}
 use Rattle.definition.specs.Tree.{Combinator, CaseKind}
-use Rattle.definition.specs.Read.{Reader, oneOf, tags, fieldKinds, isConst, combinator, arg, level, tooDeep, items, chain, chainBy, text, name, nameBy, dotted, selector, selectorBy, fields, fieldBy, label, cases}
+use Rattle.definition.specs.Read.{Reader, oneOf, tags, fieldKinds, isConst, combinator, arg, level, tooDeep, items, chain, chainBy, text, name, nameBy, dotAllowed, selector, selectorBy, fields, fieldBy, label, cases}
 use Rattle.read_book.specs.cursor.Item.{among}
 use Rattle.read_book.specs.cursor.Ends.{Step, got, none, Took, Ends}
 use Rattle.read_book.specs.declared.cursor.Cursor.{Cursor}
@@ -93,7 +93,7 @@ module _ {s : List ℕ} {p : ℕ} where
     unfolding selector selectorBy
     unselected e z = tabled of-flags _ t e (λ l h. rw z (record { told = (_, record { gives = refl; along = refl }) }))
 
-    pub selected : {b : ℕ} {d : Cursor} {r : Walked} → x ≡ got b d → (b ≡ 0 → ⊥) → Ends s (d .at) r (nameBy dotted (drop (d .at) s)) → Ends s p r (selector (drop p s))
+    pub selected : {b : ℕ} {d : Cursor} {r : Walked} → x ≡ got b d → (b ≡ 0 → ⊥) → Ends s (d .at) r (nameBy dotAllowed (drop (d .at) s)) → Ends s p r (selector (drop p s))
     unfolding selector selectorBy
     selected e z n = tabled of-flags _ t e (λ l h. rw (flag-on _ z h) (made _ n))
 

@@ -9,7 +9,7 @@ use borrow.Author.Tests.{eq-eqb, ne-eqb}
 use lib.ListN.{length, getD, drop, drop-of-length-le}
 use lib.Seq.{drop-cons}
 use Rattle.definition.specs.Utf8.{wellFormed}
-use Rattle.definition.specs.Read.{noDot, dotted, undotted}
+use Rattle.definition.specs.Read.{noDot, dotAllowed, undotted}
 use Rattle.read_book.specs.utf8.Tested.{tested}
 
 module _ (t : List ℕ) (i : ℕ) where
@@ -30,6 +30,6 @@ module _ (t : List ℕ) (i : ℕ) where
 
 -- what is no UTF-8 is no name of either kind
 pub not-name : (dots : Bool) (x : List ℕ) → wellFormed x ≡ false → false ≡ tested dots x
-unfolding dotted undotted
+unfolding dotAllowed undotted
 not-name true x e = sym e
 not-name false x e = rw e

@@ -2,9 +2,9 @@
 use mathlib.Core.List.{List}
 use mathlib.Core.Bool.{Bool, true, false}
 use Prim.Native.Nat.{ℕ}
-use Rattle.definition.specs.Read.{dotted, undotted}
+use Rattle.definition.specs.Read.{dotAllowed, undotted}
 
 -- "A plain name has no '.'; only selectors and call arguments may have one."
 abbrev pub tested : Bool → List ℕ → Bool
-tested true = dotted
+tested true = dotAllowed
 tested false = undotted
