@@ -3,24 +3,27 @@ use mathlib.Core.Path.{_≡_, refl}
 use mathlib.Core.List.{List, [], _∷_}
 use Prim.Native.Nat.{ℕ}
 use native.Mathlib.Omega.{arith}
+use lib.ListN.{length}
 use Rattle.definition.specs.Out.{Out, done}
 use Rattle.definition.specs.Tree.{Name, Definition, format, constant, byte-order, macro}
 use Rattle.definition.specs.Names.{elem}
 use Rattle.definition.specs.Lift.{full, State, names, walkAll, start}
 use Rattle.definition.specs.Answer.{Result, expanded, elaborated}
 use Rattle.laws.specs.Book.{Bytes}
-use Rattle.laws.specs.Lists.{Distinct, NoMacro}
+use Rattle.laws.specs.Lists.{paramNames, Distinct, NoMacro}
 use Rattle.laws.proofs.Steps.{Gives, Yields, so}
 use Rattle.laws.proofs.Results.{expanded-is-book, elaborated-yields}
 use Rattle.demand3.specs.Words.{Named, EachBody, EachCall}
-use Rattle.demand3.specs.PutBack.{NoneLeft, PutsAllBack}
-use Rattle.demand3.specs.Demand3.{CallsKnown, ChainsPlain, Apart, AllTight, Demand3}
+use Rattle.demand3.specs.PutBack.{NoneLeft, PutsBack, PutsAllBack, putBack}
+use Rattle.demand3.specs.Shortest.{Shortest}
+use Rattle.demand3.specs.Demand3.{CallsKnown, ChainsPlain, Apart, AllPutBack, AllShortest, Demand3}
 use Rattle.demand3.proofs.Agree.{named-elem, unnamed, fewer-calls, fewer-bodies}
+use Rattle.demand3.proofs.Formats.{fewer-formats}
 use Rattle.demand3.proofs.Trace.{WalksAll, all-traced}
 use Rattle.demand3.proofs.Grew.{Known, Grew, Span, grewAll}
 use Rattle.demand3.proofs.Flat.{flat-all}
 use Rattle.demand3.proofs.Back.{back-all}
-use Rattle.demand3.proofs.Tight.{tight-all}
+use Rattle.demand3.proofs.Tight.{Tight, AllTight, tight-all}
 
 distinct-apart : (ds : List Definition) → Distinct (names ds) → Apart ds
 unfolding names
@@ -52,9 +55,18 @@ module _ (ds es : List Definition) (t : State) (w : WalksAll ds (start ds) es t)
   unfolding start
   restored p = record { ends = λ k q. back-all (t .made) (λ n. Named n ds) fresh ds p (start ds) es t w span k (omega (arith, q)); none-left = none-left p }
 
-  tight : CallsKnown ds → ChainsPlain ds → AllTight (t .made) (t .made)
+  tight : CallsKnown ds → AllTight (t .made) (ChainsPlain ds) (t .made)
   unfolding start
-  tight p q = tight-all (t .made) (λ n. Named n ds) fresh ds p q (start ds) es t w span (omega arith) tt
+  tight p = tight-all (t .made) (ChainsPlain ds) (λ n. Named n ds) fresh ds p (λ q. q) (start ds) es t w span (omega arith) tt
+
+  -- what putting back ends with is the put-back body
+  put-back : CallsKnown ds → AllPutBack (t .made)
+  put-back p = fewer-formats (λ n ps c. Tight (t .made) (ChainsPlain ds) ps c) (λ n ps c. PutsBack (t .made) c (putBack (t .made) c)) (t .made) (tight p)
+      λ n ps c h r. rw (r .back .ends (length (t .made)) (omega arith)) (r .back)
+
+  shortest : CallsKnown ds → ChainsPlain ds → AllShortest (t .made)
+  shortest p q = fewer-formats (λ n ps c. Tight (t .made) (ChainsPlain ds) ps c) (λ n ps c. Shortest (paramNames ps) (putBack (t .made) c)) (t .made) (tight p)
+      λ n ps c h r. rw (r .back .ends (length (t .made)) (omega arith)) (r .shortest q)
 
   met : NoMacro ds → Demand3 ds es (t .made)
   unfolding start names
@@ -63,7 +75,8 @@ module _ (ds es : List Definition) (t : State) (w : WalksAll ds (start ds) es t)
     apart = distinct-apart (t .made) (grew .distinct known tt);
     fresh = fresh;
     restored = restored;
-    shortest = tight;
+    put-back = put-back;
+    shortest = shortest;
   }
 
 -- the expanded list that a result comes from, and that it meets demand 3 for it

@@ -1,6 +1,7 @@
 pub mod Agree
 pub mod Uses
 pub mod Elem
+pub mod Formats
 pub mod Rounds
 pub mod Trace
 pub mod Grew

@@ -51,7 +51,5 @@ unfolding utf8 eqName wholeOf putAt put putAll times
 without-chains = record {
   known-loose = ((tt, ((tt, (tt, tt)), tt)), tt);
   ends-there = all-back-ended (loose .lifted) (loose .kept) (loose .list) refl ((tt, ((tt, (tt, tt)), tt)), tt);
-  not-shortest = λ t.
-      let s = t .1 .0 in
-      List·Memᴰ·not-nil (s .shortest .enough (utf8 "n") (rw (← (s .back .ends 2 (omega arith))) (inr (inl (List·Memᴰ·head refl)))));
+  not-shortest = λ t. List·Memᴰ·not-nil (t .1 .0 .enough (utf8 "n") (inr (inl (List·Memᴰ·head refl))));
 }

@@ -1,10 +1,9 @@
 -- The right result of the trial meets demand 3, and each wrong one does not.
-use mathlib.Core.Path.{_≡_, refl, sym, _∙_}
+use mathlib.Core.Path.{_≡_, refl, sym}
 use mathlib.Core.Logic.{_⊎_, inl, inr, ⊎-elim}
 use mathlib.Core.List.{List, [], _∷_, List·Memᴰ, List·Memᴰ·head, List·Memᴰ·not-nil, List·Memᴰ·cases-cons, List·Memᴰ·eq-of-singleton}
 use mathlib.Core.Bool.{Bool, true, not, _&&_}
-use native.Mathlib.Omega.{arith}
-use lib.ListN.{length, drop}
+use lib.ListN.{drop}
 use Rattle.definition.specs.Tree.{Name, Combinator, plain, Param, Definition}
 use Rattle.definition.specs.Notation.{Enum, Bits, Vec}
 use Rattle.definition.specs.Utf8.{utf8}
@@ -18,12 +17,12 @@ use Rattle.laws.specs.Lists.{paramNames}
 use Rattle.laws.proofs.Tests.{not-both, both-true, not-true}
 use Rattle.laws.proofs.Members.{elem-in, in-elem}
 use Rattle.demand3.specs.Words.{Named, Root, Unbound}
-use Rattle.demand3.specs.PutBack.{wholeOf, putAt, put, putAll, times, NoneLeft}
+use Rattle.demand3.specs.PutBack.{wholeOf, putAt, put, putAll, times}
 use Rattle.demand3.specs.Shortest.{NoneTwice, Shortest}
-use Rattle.demand3.specs.Demand3.{CallsKnown, ChainsPlain, Apart, Tight, AllTight}
+use Rattle.demand3.specs.Demand3.{CallsKnown, ChainsPlain, Apart, AllPutBack, AllShortest}
 use Rattle.demand3.specs.Trial.{list, kept, lifted, right, Meets, Trial, inBytes, inArray, inSelector, inCall}
 use Rattle.demand3.proofs.Agree.{unnamed}
-use Rattle.demand3.proofs.Rounds.{times-still, standing, back-ended, all-back-ended}
+use Rattle.demand3.proofs.Rounds.{standing, back-ended, all-back-ended}
 use Rattle.demand3.proofs.Uses.{root-of, of-root, shortest-by}
 
 -- the premises hold
@@ -132,37 +131,30 @@ not-lifted : Named (utf8 "m") M → ⊥
 unfolding utf8 eqName elem names
 not-lifted w = unnamed (utf8 "m") M refl w
 
--- a body that holds no lifted call
-stands : (ps : List Param) (c : Combinator) → NoneLeft M c → Shortest (paramNames ps) c → Tight M ps c
-stands ps c h s = record { body = c; back = standing M c h; shortest = s }
+-- the Vec calls a lifted name; no other body does
+put-back-right : AllPutBack M
+unfolding utf8 eqName elem names wholeOf putAt put times
+put-back-right = (standing M (plain Enum) tt, (back-ended M (plain (Vec (right .item))) (plain (Vec (plain Enum))) refl tt, (standing M (plain Bits) tt, (standing M inBytes (tt, tt), (standing M inArray (tt, tt), (standing M inSelector (tt, tt), (standing M inCall (not-lifted, tt), tt)))))))
 
-vec-tight : Tight M [] (plain (Vec (right .item)))
+bytes-shortest : Shortest (paramNames (right .ofBytes)) inBytes
+unfolding utf8 eqName elem
+bytes-shortest = shortest-of (U ∷ []) (paramNames (right .ofBytes)) inBytes uses-bytes refl refl refl
+
+array-shortest : Shortest (paramNames (right .ofArray)) inArray
+unfolding utf8 eqName elem
+array-shortest = shortest-of (U ∷ []) (paramNames (right .ofArray)) inArray uses-array refl refl refl
+
+selector-shortest : Shortest (paramNames (right .ofSelector)) inSelector
+unfolding utf8 eqName elem
+selector-shortest = shortest-of (U ∷ []) (paramNames (right .ofSelector)) inSelector uses-selector refl refl refl
+
+call-shortest : Shortest (paramNames (right .ofCall)) inCall
+unfolding utf8 eqName elem
+call-shortest = shortest-of (U ∷ []) (paramNames (right .ofCall)) inCall uses-call refl refl refl
+
+shortest-right : AllShortest M
 unfolding utf8 eqName elem wholeOf putAt put times
-vec-tight = record {
-  body = plain (Vec (plain Enum));
-  back = back-ended M (plain (Vec (right .item))) (plain (Vec (plain Enum))) refl tt;
-  shortest = shortest-of [] [] (plain (Vec (plain Enum))) uses-vec refl refl refl;
-}
-
-bytes-tight : Tight M (right .ofBytes) inBytes
-unfolding utf8 eqName elem
-bytes-tight = stands (right .ofBytes) inBytes (tt, tt) (shortest-of (U ∷ []) (paramNames (right .ofBytes)) inBytes uses-bytes refl refl refl)
-
-array-tight : Tight M (right .ofArray) inArray
-unfolding utf8 eqName elem
-array-tight = stands (right .ofArray) inArray (tt, tt) (shortest-of (U ∷ []) (paramNames (right .ofArray)) inArray uses-array refl refl refl)
-
-selector-tight : Tight M (right .ofSelector) inSelector
-unfolding utf8 eqName elem
-selector-tight = stands (right .ofSelector) inSelector (tt, tt) (shortest-of (U ∷ []) (paramNames (right .ofSelector)) inSelector uses-selector refl refl refl)
-
-call-tight : Tight M (right .ofCall) inCall
-unfolding utf8 eqName elem
-call-tight = stands (right .ofCall) inCall (not-lifted, tt) (shortest-of (U ∷ []) (paramNames (right .ofCall)) inCall uses-call refl refl refl)
-
-tight-right : AllTight M M
-unfolding elem
-tight-right = (stands [] (plain Enum) tt (shortest-of [] [] (plain Enum) uses-enum refl refl refl), (vec-tight, (stands [] (plain Bits) tt (shortest-of [] [] (plain Bits) uses-bits refl refl refl), (bytes-tight, (array-tight, (selector-tight, (call-tight, tt)))))))
+shortest-right = (shortest-of [] [] (plain Enum) uses-enum refl refl refl, (shortest-of [] [] (plain (Vec (plain Enum))) uses-vec refl refl refl, (shortest-of [] [] (plain Bits) uses-bits refl refl refl, (bytes-shortest, (array-shortest, (selector-shortest, (call-shortest, tt)))))))
 
 met : Meets right
 unfolding utf8 eqName elem names wholeOf putAt put putAll times
@@ -171,16 +163,12 @@ met = record {
   apart = apart-right;
   fresh = fresh-right;
   restored = λ p. all-back-ended M (kept right) list refl ((tt, (tt, (tt, ((tt, tt), ((tt, tt), ((tt, tt), ((not-lifted, tt), tt))))))), tt);
-  shortest = λ p q. tight-right;
+  put-back = λ p. put-back-right;
+  shortest = λ p q. shortest-right;
 }
 
--- a body whose parameters are not the shortest: it holds no lifted call, so that it is its own put-back
-module _ (lifts : List Definition) (ps : List Param) (c : Combinator) (e : put c lifts ≡ c) (t : Tight lifts ps c) where
-  own : Shortest (paramNames ps) c
-  own = rw (sym (t .back .ends (length lifts) (omega arith)) ∙ times-still (λ d. put d lifts) (length lifts) c e) at (t .shortest)
-
 pub trial : Trial
-unfolding utf8 eqName elem names wholeOf putAt put wBook readBook expandBook elaborated liftBook
+unfolding utf8 eqName elem names wholeOf putAt put times wBook readBook expandBook elaborated liftBook
 trial = record {
   met = met;
   given = refl;
@@ -188,10 +176,10 @@ trial = record {
   bits-not-lifted = λ d. d .flat .0 .1 .1 .0;
   name-taken-twice = λ d. d .apart .1 .1 .1 .0 (inl refl);
   name-of-a-format = λ d. d .fresh (utf8 "m") (inl refl) (inr (inr (inr (inr (inl refl)))));
-  parameter-too-many = λ d. let s = own _ _ inBytes refl (d .shortest calls chains .1 .1 .1 .0) in let l = s .needed (U ∷ []) (utf8 "e") [] refl in ⊎-elim (λ a. l .none a) (λ x. x) (l .stands);
-  parameter-twice = λ d. own _ _ inBytes refl (d .shortest calls chains .1 .1 .1 .0) .once .0 (List·Memᴰ·head refl);
-  bytes-forgotten = λ d. List·Memᴰ·not-nil (own _ _ inBytes refl (d .shortest calls chains .1 .1 .1 .0) .enough U (inl (List·Memᴰ·head refl)));
-  array-forgotten = λ d. List·Memᴰ·not-nil (own _ _ inArray refl (d .shortest calls chains .1 .1 .1 .1 .0) .enough U (inl (inl (List·Memᴰ·head refl))));
-  selector-forgotten = λ d. List·Memᴰ·not-nil (own _ _ inSelector refl (d .shortest calls chains .1 .1 .1 .1 .1 .0) .enough U (inl (root-dot U (List·Memᴰ·head refl))));
-  argument-forgotten = λ d. List·Memᴰ·not-nil (own _ _ inCall refl (d .shortest calls chains .1 .1 .1 .1 .1 .1 .0) .enough U (inl (inl (root-dot U (List·Memᴰ·head refl)))));
+  parameter-too-many = λ d. let s : Shortest (U ∷ utf8 "e" ∷ []) inBytes = d .shortest calls chains .1 .1 .1 .0 in let l = s .needed (U ∷ []) (utf8 "e") [] refl in ⊎-elim (λ a. l .none a) (λ x. x) (l .stands);
+  parameter-twice = λ d. d .shortest calls chains .1 .1 .1 .0 .once .0 (List·Memᴰ·head refl);
+  bytes-forgotten = λ d. List·Memᴰ·not-nil (d .shortest calls chains .1 .1 .1 .0 .enough U (inl (List·Memᴰ·head refl)));
+  array-forgotten = λ d. List·Memᴰ·not-nil (d .shortest calls chains .1 .1 .1 .1 .0 .enough U (inl (inl (List·Memᴰ·head refl))));
+  selector-forgotten = λ d. List·Memᴰ·not-nil (d .shortest calls chains .1 .1 .1 .1 .1 .0 .enough U (inl (root-dot U (List·Memᴰ·head refl))));
+  argument-forgotten = λ d. List·Memᴰ·not-nil (d .shortest calls chains .1 .1 .1 .1 .1 .1 .0 .enough U (inl (inl (root-dot U (List·Memᴰ·head refl)))));
 }

@@ -1,10 +1,10 @@
 -- Demand 3, for the expanded list `ds`, and what the result keeps of it and what is lifted.
 use mathlib.Core.List.{List, [], _∷_, _++_}
-use Rattle.definition.specs.Tree.{Name, Param, Combinator, Definition, format, constant, byte-order, macro}
+use Rattle.definition.specs.Tree.{Name, Definition, format, constant, byte-order, macro}
 use Rattle.laws.specs.Lists.{paramNames}
-use Rattle.demand3.specs.Words.{Named, EachBody, EachCall, PlainChains}
+use Rattle.demand3.specs.Words.{Named, EachBody, EachFormat, EachCall, PlainChains}
 use Rattle.demand3.specs.Flat.{FlatAll}
-use Rattle.demand3.specs.PutBack.{PutsBack, PutsAllBack}
+use Rattle.demand3.specs.PutBack.{PutsBack, PutsAllBack, putBack}
 use Rattle.demand3.specs.Shortest.{Shortest}
 
 -- "every name called in those bodies is a format or constant of the list"
@@ -23,19 +23,13 @@ Apart (constant n x ∷ ds) = (Named n ds → ⊥) × Apart ds
 Apart (byte-order x ∷ ds) = Apart ds
 Apart (macro n ps c ∷ ds) = Apart ds
 
--- a lifted definition whose body is put back: its parameter list is the shortest
-pub record Tight (lifted : List Definition) (ps : List Param) (c : Combinator) : Type 0 where
-  pub body : Combinator
-  pub back : PutsBack lifted c body
-  pub shortest : Shortest (paramNames ps) body
+-- putting back ends in each lifted body
+abbrev pub AllPutBack : List Definition → Type 0
+AllPutBack lifted = EachFormat (λ n ps c. PutsBack lifted c (putBack lifted c)) lifted
 
--- each of these is a format that is so
-abbrev pub AllTight : List Definition → List Definition → Type 0
-AllTight lifted [] = Unit {0}
-AllTight lifted (format n ps c ∷ ds) = Tight lifted ps c × AllTight lifted ds
-AllTight lifted (constant n x ∷ ds) = ⊥
-AllTight lifted (byte-order x ∷ ds) = ⊥
-AllTight lifted (macro n ps c ∷ ds) = ⊥
+-- each lifted parameter list is the shortest for its put-back body
+abbrev pub AllShortest : List Definition → Type 0
+AllShortest lifted = EachFormat (λ n ps c. Shortest (paramNames ps) (putBack lifted c)) lifted
 
 pub record Demand3 (ds kept lifted : List Definition) : Type 0 where
   -- "no struct, choice, enum or bits stands below the root of a definition's body, macro arguments aside", and no kind 4 definition is left in which one could hide
@@ -45,5 +39,7 @@ pub record Demand3 (ds kept lifted : List Definition) : Type 0 where
   pub fresh : (n : Name) → Named n ds → Named n lifted → ⊥
   -- "If after macro expansion every name called in those bodies is a format or constant of the list, putting each lifted body back at its call, and dropping the lifted definitions, gives exactly that expanded list."
   pub restored : CallsKnown ds → PutsAllBack lifted kept ds
+  -- "its put-back body": the lifted bodies have one too
+  pub put-back : CallsKnown ds → AllPutBack lifted
   -- "If, besides, chained formats stand only on bytes and tail, each lifted parameter list is the shortest possible"
-  pub shortest : CallsKnown ds → ChainsPlain ds → AllTight lifted lifted
+  pub shortest : CallsKnown ds → ChainsPlain ds → AllShortest lifted

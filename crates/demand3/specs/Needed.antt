@@ -13,7 +13,7 @@ use Rattle.definition.specs.Premise.{PremiseAnswer, premise}
 use Rattle.definition.specs.Notation.{Int, Enum, Nothing, Bytes, Vec, Call, ord, dep, one, param, fmt}
 use Rattle.demand3.specs.Words.{EachBody}
 use Rattle.demand3.specs.PutBack.{wholeOf, putAt, put, putAll, times, roundsAll, NoneLeft, PutsAllBack}
-use Rattle.demand3.specs.Demand3.{CallsKnown, ChainsPlain, AllTight}
+use Rattle.demand3.specs.Demand3.{CallsKnown, ChainsPlain, AllShortest}
 
 -- a list as it stands after expansion, what it becomes, and what so many rounds of putting back give
 pub record Row : Type 0 where
@@ -101,4 +101,4 @@ pub record WithoutCalls : Type 0 where
 pub record WithoutChains : Type 0 where
   pub known-loose : CallsKnown (loose .list)
   pub ends-there : PutsAllBack (loose .lifted) (loose .kept) (loose .list)
-  pub not-shortest : AllTight (loose .lifted) (loose .lifted) → ⊥
+  pub not-shortest : AllShortest (loose .lifted) → ⊥

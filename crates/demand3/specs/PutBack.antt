@@ -90,6 +90,10 @@ PutsBack lifted before after = Ends (λ d. put d lifted) (NoneLeft lifted) (leng
 abbrev pub PutsAllBack : List Definition → List Definition → List Definition → Type 0
 PutsAllBack lifted before after = Ends (λ es. putAll es lifted) (EachBody (NoneLeft lifted)) (length lifted) before after
 
+-- "its put-back body"
+abbrev pub putBack : List Definition → Combinator → Combinator
+putBack lifted c = rounds (length lifted) c lifted
+
 -- once none is left, going on changes nothing, whatever the definitions are
 abbrev pub GoingOn : Type 0
 GoingOn = (lifted ds : List Definition) → EachBody (NoneLeft lifted) ds → putAll ds lifted ≡ ds

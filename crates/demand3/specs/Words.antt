@@ -3,7 +3,7 @@ use mathlib.Core.Path.{_≡_}
 use mathlib.Core.Logic.{_⊎_}
 use mathlib.Core.List.{List, [], _∷_, _++_, List·Memᴰ}
 use Prim.Native.Nat.{ℕ}
-use Rattle.definition.specs.Tree.{Name, Leaf, constraint-int, constraint-enum, bits, enum, tail, nothing, never, Shell, wrap, vec, option, array, Selector, none, by, FieldKind, ordinary, dependent, Combinator, plain, chained, Inner, leaf, struct, choice, shell, bytes, invocation, macro-invocation, Fields, no-field, field, const, Cases, no-case, case, Definition, format, constant, byte-order, macro}
+use Rattle.definition.specs.Tree.{Name, Leaf, constraint-int, constraint-enum, bits, enum, tail, nothing, never, Shell, wrap, vec, option, array, Selector, none, by, FieldKind, ordinary, dependent, Combinator, plain, chained, Inner, leaf, struct, choice, shell, bytes, invocation, macro-invocation, Fields, no-field, field, const, Cases, no-case, case, Param, Definition, format, constant, byte-order, macro}
 
 -- "a format or constant of the list"
 abbrev pub Named : Name → List Definition → Type 0
@@ -20,6 +20,14 @@ EachBody P (format n ps c ∷ ds) = P c × EachBody P ds
 EachBody P (constant n x ∷ ds) = EachBody P ds
 EachBody P (byte-order x ∷ ds) = EachBody P ds
 EachBody P (macro n ps c ∷ ds) = EachBody P ds
+
+-- each of these is a format, and this holds of its name, its parameters and its body
+abbrev pub EachFormat : (Name → List Param → Combinator → Type 0) → List Definition → Type 0
+EachFormat P [] = Unit {0}
+EachFormat P (format n ps c ∷ ds) = P n ps c × EachFormat P ds
+EachFormat P (constant n x ∷ ds) = ⊥
+EachFormat P (byte-order x ∷ ds) = ⊥
+EachFormat P (macro n ps c ∷ ds) = ⊥
 
 -- "every name called", macro arguments aside
 abbrev mutual
