@@ -1,6 +1,6 @@
 -- Every accepted result meets demand 3.
 use mathlib.Core.Path.{_≡_, refl}
-use mathlib.Core.List.{List, [], _∷_}
+use mathlib.Core.List.{List, [], _∷_, _++_}
 use Prim.Native.Nat.{ℕ}
 use native.Mathlib.Omega.{arith}
 use lib.ListN.{length}
@@ -15,8 +15,9 @@ use Rattle.laws.proofs.Steps.{Gives, Yields, so}
 use Rattle.laws.proofs.Results.{expanded-is-book, elaborated-yields}
 use Rattle.demand3.specs.Words.{Named, EachBody, EachCall}
 use Rattle.demand3.specs.PutBack.{NoneLeft, PutsBack, PutsAllBack, putBack}
+use Rattle.demand3.specs.Called.{callsOf, Once, Handed}
 use Rattle.demand3.specs.Shortest.{Shortest}
-use Rattle.demand3.specs.Demand3.{CallsKnown, ChainsPlain, Apart, AllPutBack, AllShortest, Demand3}
+use Rattle.demand3.specs.Demand3.{CallsKnown, ChainsPlain, Apart, AllCalled, AllHanded, AllPutBack, AllShortest, Demand3}
 use Rattle.demand3.proofs.Agree.{named-elem, unnamed, fewer-calls, fewer-bodies}
 use Rattle.demand3.proofs.Formats.{fewer-formats}
 use Rattle.demand3.proofs.Trace.{WalksAll, all-traced}
@@ -24,6 +25,7 @@ use Rattle.demand3.proofs.Grew.{Known, Grew, Span, grewAll}
 use Rattle.demand3.proofs.Flat.{flat-all}
 use Rattle.demand3.proofs.Back.{back-all}
 use Rattle.demand3.proofs.Tight.{Tight, AllTight, tight-all}
+use Rattle.demand3.proofs.Called.{called-once, called-handed}
 
 distinct-apart : (ds : List Definition) → Distinct (names ds) → Apart ds
 unfolding names
@@ -68,13 +70,29 @@ module _ (ds es : List Definition) (t : State) (w : WalksAll ds (start ds) es t)
   shortest p q = fewer-formats (λ n ps c. Tight (t .made) (ChainsPlain ds) ps c) (λ n ps c. Shortest (paramNames ps) (putBack (t .made) c)) (t .made) (tight p)
       λ n ps c h r. rw (r .back .ends (length (t .made)) (omega arith)) (r .shortest q)
 
+  distinct : Distinct (names (t .made))
+  unfolding start names
+  distinct = grew .distinct known tt
+
+  called : CallsKnown ds → AllCalled es (t .made)
+  unfolding start
+  called p = fewer-formats (λ n ps c. Tight (t .made) (ChainsPlain ds) ps c) (λ n ps c. Once (callsOf n (es ++ t .made))) (t .made) (tight p)
+      λ n ps c h r. called-once ds p (start ds) refl es t w fresh distinct n ps h
+
+  handed : CallsKnown ds → AllHanded es (t .made)
+  unfolding start
+  handed p = fewer-formats (λ n ps c. Tight (t .made) (ChainsPlain ds) ps c) (λ n ps c. Handed (paramNames ps) (callsOf n (es ++ t .made))) (t .made) (tight p)
+      λ n ps c h r. called-handed ds p (start ds) refl es t w fresh distinct n ps h
+
   met : NoMacro ds → Demand3 ds es (t .made)
   unfolding start names
   met m = record {
     flat = flat-all ds m (start ds) es t w tt;
-    apart = distinct-apart (t .made) (grew .distinct known tt);
+    apart = distinct-apart (t .made) distinct;
     fresh = fresh;
     restored = restored;
+    called = called;
+    handed = handed;
     put-back = put-back;
     shortest = shortest;
   }

@@ -8,6 +8,7 @@ pub mod Grew
 pub mod Flat
 pub mod Back
 pub mod Tight
+pub mod Called
 pub mod Demand3
 pub mod Delivered
 pub mod Twice

@@ -2,7 +2,8 @@
 use mathlib.Core.Path.{_≡_, refl, sym}
 use mathlib.Core.Logic.{_⊎_, inl, inr, ⊎-elim}
 use mathlib.Core.List.{List, [], _∷_, List·Memᴰ, List·Memᴰ·head, List·Memᴰ·not-nil, List·Memᴰ·cases-cons, List·Memᴰ·eq-of-singleton}
-use mathlib.Core.Bool.{Bool, true, not, _&&_}
+use mathlib.Core.Bool.{Bool, true, false, not, _&&_}
+use native.Mathlib.Omega.{arith}
 use lib.ListN.{drop}
 use Rattle.definition.specs.Tree.{Name, Combinator, plain, Param, Definition}
 use Rattle.definition.specs.Notation.{Enum, Bits, Vec}
@@ -18,6 +19,7 @@ use Rattle.laws.proofs.Tests.{not-both, both-true, not-true}
 use Rattle.laws.proofs.Members.{elem-in, in-elem}
 use Rattle.demand3.specs.Words.{Named, Root, Unbound}
 use Rattle.demand3.specs.PutBack.{wholeOf, putAt, put, putAll, times}
+use Rattle.demand3.specs.Called.{calls, callsIn, ofName, Once}
 use Rattle.demand3.specs.Shortest.{NoneTwice, Shortest}
 use Rattle.demand3.specs.Demand3.{CallsKnown, ChainsPlain, Apart, AllPutBack, AllShortest}
 use Rattle.demand3.specs.Trial.{list, kept, lifted, right, Meets, Trial, inBytes, inArray, inSelector, inCall}
@@ -26,8 +28,8 @@ use Rattle.demand3.proofs.Rounds.{standing, back-ended, all-back-ended}
 use Rattle.demand3.proofs.Uses.{root-of, of-root, shortest-by}
 
 -- the premises hold
-calls : CallsKnown list
-calls = ((tt, (tt, (tt, ((tt, tt), ((tt, tt), ((tt, tt), ((inl refl, tt), tt))))))), tt)
+known : CallsKnown list
+known = ((tt, (tt, (tt, ((tt, tt), ((tt, tt), ((tt, tt), ((inl refl, tt), tt))))))), tt)
 
 chains : ChainsPlain list
 chains = ((tt, (tt, (tt, ((tt, tt), ((tt, tt), ((tt, tt), ((tt, tt), tt))))))), tt)
@@ -156,13 +158,19 @@ shortest-right : AllShortest M
 unfolding utf8 eqName elem wholeOf putAt put times
 shortest-right = (shortest-of [] [] (plain Enum) uses-enum refl refl refl, (shortest-of [] [] (plain (Vec (plain Enum))) uses-vec refl refl refl, (shortest-of [] [] (plain Bits) uses-bits refl refl refl, (bytes-shortest, (array-shortest, (selector-shortest, (call-shortest, tt)))))))
 
+-- a call that is the only one of its name
+alone : (n : Name) (a : List Name) → Once (record { name = n; arguments = a; chain = false } ∷ [])
+alone n a = record { one = omega arith; no-chain = (refl, tt) }
+
 met : Meets right
-unfolding utf8 eqName elem names wholeOf putAt put putAll times
+unfolding utf8 eqName elem names wholeOf putAt put putAll times calls callsIn ofName
 met = record {
   flat = ((tt, (tt, (tt, (tt, (tt, (tt, (tt, tt))))))), (tt, (tt, (tt, ((tt, tt), ((tt, tt), ((tt, tt), ((tt, tt), tt))))))));
   apart = apart-right;
   fresh = fresh-right;
   restored = λ p. all-back-ended M (kept right) list refl ((tt, (tt, (tt, ((tt, tt), ((tt, tt), ((tt, tt), ((not-lifted, tt), tt))))))), tt);
+  called = λ p. (alone _ _, (alone _ _, (alone _ _, (alone _ _, (alone _ _, (alone _ _, (alone _ _, tt)))))));
+  handed = λ p. ((refl, tt), ((refl, tt), ((refl, tt), ((refl, tt), ((refl, tt), ((refl, tt), ((refl, tt), tt)))))));
   put-back = λ p. put-back-right;
   shortest = λ p q. shortest-right;
 }
@@ -176,10 +184,10 @@ trial = record {
   bits-not-lifted = λ d. d .flat .0 .1 .1 .0;
   name-taken-twice = λ d. d .apart .1 .1 .1 .0 (inl refl);
   name-of-a-format = λ d. d .fresh (utf8 "m") (inl refl) (inr (inr (inr (inr (inl refl)))));
-  parameter-too-many = λ d. let s : Shortest (U ∷ utf8 "e" ∷ []) inBytes = d .shortest calls chains .1 .1 .1 .0 in let l = s .needed (U ∷ []) (utf8 "e") [] refl in ⊎-elim (λ a. l .none a) (λ x. x) (l .stands);
-  parameter-twice = λ d. d .shortest calls chains .1 .1 .1 .0 .once .0 (List·Memᴰ·head refl);
-  bytes-forgotten = λ d. List·Memᴰ·not-nil (d .shortest calls chains .1 .1 .1 .0 .enough U (inl (List·Memᴰ·head refl)));
-  array-forgotten = λ d. List·Memᴰ·not-nil (d .shortest calls chains .1 .1 .1 .1 .0 .enough U (inl (inl (List·Memᴰ·head refl))));
-  selector-forgotten = λ d. List·Memᴰ·not-nil (d .shortest calls chains .1 .1 .1 .1 .1 .0 .enough U (inl (root-dot U (List·Memᴰ·head refl))));
-  argument-forgotten = λ d. List·Memᴰ·not-nil (d .shortest calls chains .1 .1 .1 .1 .1 .1 .0 .enough U (inl (inl (root-dot U (List·Memᴰ·head refl)))));
+  parameter-too-many = λ d. let s : Shortest (U ∷ utf8 "e" ∷ []) inBytes = d .shortest known chains .1 .1 .1 .0 in let l = s .needed (U ∷ []) (utf8 "e") [] refl in ⊎-elim (λ a. l .none a) (λ x. x) (l .stands);
+  parameter-twice = λ d. d .shortest known chains .1 .1 .1 .0 .once .0 (List·Memᴰ·head refl);
+  bytes-forgotten = λ d. List·Memᴰ·not-nil (d .shortest known chains .1 .1 .1 .0 .enough U (inl (List·Memᴰ·head refl)));
+  array-forgotten = λ d. List·Memᴰ·not-nil (d .shortest known chains .1 .1 .1 .1 .0 .enough U (inl (inl (List·Memᴰ·head refl))));
+  selector-forgotten = λ d. List·Memᴰ·not-nil (d .shortest known chains .1 .1 .1 .1 .1 .0 .enough U (inl (root-dot U (List·Memᴰ·head refl))));
+  argument-forgotten = λ d. List·Memᴰ·not-nil (d .shortest known chains .1 .1 .1 .1 .1 .1 .0 .enough U (inl (inl (root-dot U (List·Memᴰ·head refl)))));
 }

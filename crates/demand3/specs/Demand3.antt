@@ -5,6 +5,7 @@ use Rattle.laws.specs.Lists.{paramNames}
 use Rattle.demand3.specs.Words.{Named, EachBody, EachFormat, EachCall, PlainChains}
 use Rattle.demand3.specs.Flat.{FlatAll}
 use Rattle.demand3.specs.PutBack.{PutsBack, PutsAllBack, putBack}
+use Rattle.demand3.specs.Called.{callsOf, Once, Handed}
 use Rattle.demand3.specs.Shortest.{Shortest}
 
 -- "every name called in those bodies is a format or constant of the list"
@@ -23,6 +24,14 @@ Apart (constant n x ∷ ds) = (Named n ds → ⊥) × Apart ds
 Apart (byte-order x ∷ ds) = Apart ds
 Apart (macro n ps c ∷ ds) = Apart ds
 
+-- each lifted name is called once in the bodies of the result
+abbrev pub AllCalled : List Definition → List Definition → Type 0
+AllCalled kept lifted = EachFormat (λ n ps c. Once (callsOf n (kept ++ lifted))) lifted
+
+-- and is handed its parameters' names in their order
+abbrev pub AllHanded : List Definition → List Definition → Type 0
+AllHanded kept lifted = EachFormat (λ n ps c. Handed (paramNames ps) (callsOf n (kept ++ lifted))) lifted
+
 -- putting back ends in each lifted body
 abbrev pub AllPutBack : List Definition → Type 0
 AllPutBack lifted = EachFormat (λ n ps c. PutsBack lifted c (putBack lifted c)) lifted
@@ -39,6 +48,9 @@ pub record Demand3 (ds kept lifted : List Definition) : Type 0 where
   pub fresh : (n : Name) → Named n ds → Named n lifted → ⊥
   -- "If after macro expansion every name called in those bodies is a format or constant of the list, putting each lifted body back at its call, and dropping the lifted definitions, gives exactly that expanded list."
   pub restored : CallsKnown ds → PutsAllBack lifted kept ds
+  -- "each lifted body back at its call": it has one, with its parameters for arguments. A parameter's type no sentence of demand 3 names: demand 2 alone fixes it
+  pub called : CallsKnown ds → AllCalled kept lifted
+  pub handed : CallsKnown ds → AllHanded kept lifted
   -- "its put-back body": the lifted bodies have one too
   pub put-back : CallsKnown ds → AllPutBack lifted
   -- "If, besides, chained formats stand only on bytes and tail, each lifted parameter list is the shortest possible"

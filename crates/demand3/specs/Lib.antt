@@ -1,6 +1,7 @@
 pub mod Words
 pub mod Flat
 pub mod PutBack
+pub mod Called
 pub mod Shortest
 pub mod Demand3
 pub mod Delivered
