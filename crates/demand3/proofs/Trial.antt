@@ -1,11 +1,13 @@
 -- The right result of the trial meets demand 3, and each wrong one does not.
-use mathlib.Core.Path.{_≡_, refl, sym}
+use mathlib.Core.Path.{_≡_, refl, sym, _∙_}
 use mathlib.Core.Logic.{_⊎_, inl, inr, ⊎-elim}
 use mathlib.Core.List.{List, [], _∷_, List·Memᴰ, List·Memᴰ·head, List·Memᴰ·not-nil, List·Memᴰ·cases-cons, List·Memᴰ·eq-of-singleton}
 use mathlib.Core.Bool.{Bool, true, false, not, _&&_}
+use Prim.Native.Nat.{ℕ}
 use native.Mathlib.Omega.{arith}
-use lib.ListN.{drop}
-use Rattle.definition.specs.Tree.{Name, Combinator, plain, Param, Definition}
+use lib.ListN.{length, drop}
+use Rattle.definition.specs.Res.{ok}
+use Rattle.definition.specs.Tree.{Name, Combinator, plain, no-field, Definition}
 use Rattle.definition.specs.Notation.{Enum, Bits, Vec}
 use Rattle.definition.specs.Utf8.{utf8}
 use Rattle.definition.specs.Names.{eqName, elem, root}
@@ -18,11 +20,11 @@ use Rattle.laws.specs.Lists.{paramNames}
 use Rattle.laws.proofs.Tests.{not-both, both-true, not-true}
 use Rattle.laws.proofs.Members.{elem-in, in-elem}
 use Rattle.demand3.specs.Words.{Named, Root, Unbound}
-use Rattle.demand3.specs.PutBack.{wholeOf, putAt, put, putAll, times}
+use Rattle.demand3.specs.PutBack.{wholeOf, putAt, put, putAll, times, roundsAll}
 use Rattle.demand3.specs.Called.{calls, callsIn, ofName, Once}
 use Rattle.demand3.specs.Shortest.{NoneTwice, Shortest}
-use Rattle.demand3.specs.Demand3.{CallsKnown, ChainsPlain, Apart, AllPutBack, AllShortest}
-use Rattle.demand3.specs.Trial.{list, kept, lifted, right, Meets, Trial, inBytes, inArray, inSelector, inCall}
+use Rattle.demand3.specs.Demand3.{CallsKnown, ChainsPlain, Apart, AllPutBack, AllShortest, Demand3}
+use Rattle.demand3.specs.Trial.{list, kept, lifted, right, Meets, Trial, inBytes, inArray, inSelector, inCall, alike, unlike, mark, packed, source}
 use Rattle.demand3.proofs.Agree.{unnamed}
 use Rattle.demand3.proofs.Rounds.{standing, back-ended, all-back-ended}
 use Rattle.demand3.proofs.Uses.{root-of, of-root, shortest-by}
@@ -175,8 +177,46 @@ met = record {
   shortest = λ p q. shortest-right;
 }
 
+-- the second book
+known-packed : CallsKnown source
+known-packed = ((tt, (tt, ((tt, tt), ((tt, tt), ((tt, tt), tt))))), tt)
+
+chains-packed : ChainsPlain source
+chains-packed = ((tt, (tt, ((tt, tt), ((tt, tt), ((tt, tt), tt))))), tt)
+
+-- what putting back ends with is the book
+ends-there : (kept lifts after : List Definition) → roundsAll (length lifts) kept lifts ≡ after → Demand3 source kept lifts → after ≡ source
+ends-there kept lifts after e d = sym e ∙ d .restored known-packed .ends (length lifts) (omega arith)
+
+not-without-mark : packed alike alike unlike no-field ≡ source → ⊥
+unfolding utf8
+not-without-mark e = let z : _≡_ {A = ℕ} 0 1 = cc in absurd (omega arith)
+
+-- y is 121, x is 120
+not-exchanged : packed unlike alike alike (mark "1") ≡ source → ⊥
+unfolding utf8
+not-exchanged e = let z : _≡_ {A = ℕ} 121 120 = cc in absurd (omega arith)
+
+not-marked-so : packed alike alike unlike (mark "2") ≡ source → ⊥
+unfolding utf8
+not-marked-so e = let z : _≡_ {A = ℕ} 50 49 = cc in absurd (omega arith)
+
+-- k is 107, n is 110
+not-same-names : (utf8 "k" ∷ utf8 "k" ∷ []) ≡ (utf8 "k" ∷ utf8 "n" ∷ []) → ⊥
+unfolding utf8
+not-same-names e = let z : _≡_ {A = ℕ} 107 110 = cc in absurd (omega arith)
+
+not-same-order : (utf8 "n" ∷ utf8 "k" ∷ []) ≡ (utf8 "k" ∷ utf8 "n" ∷ []) → ⊥
+unfolding utf8
+not-same-order e = let z : _≡_ {A = ℕ} 110 107 = cc in absurd (omega arith)
+
+-- the empty book has no definition
+none-read : (ds : List Definition) → readBook (0 ∷ 0 ∷ []) ≡ ok ds [] → length ds ≡ 0
+unfolding readBook
+none-read ds e = let z : [] ≡ ds = cc in rw (← z)
+
 pub trial : Trial
-unfolding utf8 eqName elem names wholeOf putAt put times wBook readBook expandBook elaborated liftBook
+unfolding utf8 eqName elem names wholeOf putAt put putAll times calls callsIn ofName wBook readBook expandBook elaborated liftBook
 trial = record {
   met = met;
   given = refl;
@@ -190,4 +230,17 @@ trial = record {
   array-forgotten = λ d. List·Memᴰ·not-nil (d .shortest known chains .1 .1 .1 .1 .0 .enough U (inl (inl (List·Memᴰ·head refl))));
   selector-forgotten = λ d. List·Memᴰ·not-nil (d .shortest known chains .1 .1 .1 .1 .1 .0 .enough U (inl (root-dot U (List·Memᴰ·head refl))));
   argument-forgotten = λ d. List·Memᴰ·not-nil (d .shortest known chains .1 .1 .1 .1 .1 .1 .0 .enough U (inl (inl (root-dot U (List·Memᴰ·head refl)))));
+  given-packed = refl;
+  field-dropped = λ d. not-without-mark (ends-there _ _ _ refl d);
+  bodies-exchanged = λ d. not-exchanged (ends-there _ _ _ refl d);
+  text-changed = λ d. not-marked-so (ends-there _ _ _ refl d);
+  name-taken-again = λ d. d .apart .0 (inr (inl refl));
+  first-parameter-too-many = λ d. let s : Shortest (utf8 "e" ∷ utf8 "k" ∷ U ∷ []) alike = d .shortest known-packed chains-packed .0 in let l = s .needed [] (utf8 "e") (utf8 "k" ∷ U ∷ []) refl in ⊎-elim (λ a. l .none a) (λ x. x) (l .stands);
+  nobody-calls = λ d. absurd (omega (arith, d .called known-packed .1 .1 .1 .0 .one));
+  calls-itself = λ d. d .put-back known-packed .1 .1 .1 .0 .none-left (inr (inr (inr (inl refl))));
+  called-twice = λ d. absurd (omega (arith, d .called known-packed .0 .one));
+  other-arguments = λ d. not-same-names (d .handed known-packed .0 .0);
+  other-order = λ d. not-same-order (d .handed known-packed .0 .0);
+  counted-too-many = λ d. absurd (omega (arith, none-read (d .result) (d .reads), d .counted));
+  lifts-too-many = λ d. absurd (omega (arith, d .lifts));
 }
