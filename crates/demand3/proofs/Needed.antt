@@ -2,7 +2,7 @@
 use mathlib.Core.Path.{_≡_, refl, ap}
 use mathlib.Core.Logic.{inl, inr}
 use mathlib.Core.List.{[], _∷_, List·Memᴰ·head, List·Memᴰ·not-nil}
-use Prim.Native.Nat.{ℕ, zero, suc}
+use Prim.Native.Nat.{ℕ, zero, suc, _≤_}
 use native.Mathlib.Omega.{arith}
 use Rattle.definition.specs.Utf8.{utf8}
 use Rattle.definition.specs.Tree.{Combinator, plain}
@@ -10,8 +10,8 @@ use Rattle.definition.specs.Names.{eqName}
 use Rattle.definition.specs.Notation.{Vec, Call, one, fmt}
 use Rattle.demand3.specs.Words.{EachBody}
 use Rattle.demand3.specs.PutBack.{wholeOf, putAt, put, putAll, times, roundsAll, NoneLeft}
-use Rattle.demand3.specs.Needed.{seen, expected, table, Computed, endless, mistaken, loose, WithoutCalls, WithoutChains}
-use Rattle.demand3.proofs.Rounds.{all-back-ended}
+use Rattle.demand3.specs.Needed.{seen, expected, table, Computed, endless, mistaken, unmoved, loose, WithoutCalls, Unmoving, WithoutChains}
+use Rattle.demand3.proofs.Rounds.{times-still, all-back-ended}
 
 pub computed : Computed
 unfolding utf8 seen expected table
@@ -45,6 +45,15 @@ without-calls = record {
   ends-elsewhere = all-back-ended (mistaken .lifted) (mistaken .kept) (mistaken .after) refl ((tt, (tt, tt)), tt);
   another = λ e. let z : _≡_ {A = ℕ} 0 1 = cc in absurd (omega arith);
 }
+
+stays : (k : ℕ) → 1 ≤ k → roundsAll k (unmoved .kept) (unmoved .lifted) ≡ unmoved .after
+unfolding utf8 eqName wholeOf putAt put putAll times
+stays zero h = absurd (omega arith)
+stays (suc k) h = times-still (λ es. putAll es (unmoved .lifted)) k (unmoved .after) refl
+
+pub unmoving : Unmoving
+unfolding utf8 eqName wholeOf putAt put putAll times
+unmoving = record { stays = stays; left = λ h. h .0 .1 .0 .0 (inl refl) }
 
 pub without-chains : WithoutChains
 unfolding utf8 eqName wholeOf putAt put putAll times

@@ -1,7 +1,7 @@
 -- Small books that show what each premise of demand 3 is needed for (readings.md, 15 and 1).
 use mathlib.Core.Path.{_≡_}
 use mathlib.Core.List.{List, [], _∷_, map}
-use Prim.Native.Nat.{ℕ}
+use Prim.Native.Nat.{ℕ, _≤_}
 use Prim.Native.String.{String}
 use Rattle.definition.specs.Out.{Out, done}
 use Rattle.definition.specs.Tree.{struct, no-field, Combinator, plain, chained, Definition}
@@ -96,6 +96,11 @@ pub record WithoutCalls : Type 0 where
   pub plain-mistaken : ChainsPlain (mistaken .list)
   pub ends-elsewhere : PutsAllBack (mistaken .lifted) (mistaken .kept) (mistaken .after)
   pub another : mistaken .after ≡ mistaken .list → ⊥
+
+-- with neither: a call of a lifted name that has a chain stays, and it is one that is left
+pub record Unmoving : Type 0 where
+  pub stays : (k : ℕ) → 1 ≤ k → roundsAll k (unmoved .kept) (unmoved .lifted) ≡ unmoved .after
+  pub left : EachBody (NoneLeft (unmoved .lifted)) (unmoved .after) → ⊥
 
 -- without the premise on chains, with that on called names: putting back gives the list, and a parameter list is not the shortest possible
 pub record WithoutChains : Type 0 where
