@@ -38,7 +38,7 @@ module _ (expansion : Out (List Definition)) (r : Result) (c : Comes expansion r
         expands = c .expands;
         result = all r;
         reads = rw (take-append-seam bytesOf (drop (length bytesOf) out)) e;
-        counted = refl;
+        counted = omega arith;
         lifts = simp length-append (omega arith);
         meets = rw (n, take-append-seam (r .kept) (r .lifted), drop-append-seam (r .kept) (r .lifted)) (c .meets);
       }
