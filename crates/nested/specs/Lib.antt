@@ -1,3 +1,4 @@
 pub mod Nested
 pub mod Worked
+pub mod Reach
 pub mod Laws
