@@ -1,13 +1,14 @@
--- Demand 3 about the bytes that `elaborate` and `elaborate_nested` write: corollaries over their contracts.
+-- Demand 3 about the bytes that `elaborate` and `elaborate_nested` write, and what the exports of these hand to C: corollaries over their contracts.
 use mathlib.Core.Path.{_≡_}
 use mathlib.Core.List.{List}
 use Prim.Native.Nat.{ℕ}
 use lib.ListN.{length}
-use Rattle.definition.specs.Answer.{answer, output}
+use Rattle.definition.specs.Answer.{Answer, answer, output}
 use Rattle.laws.specs.Book.{Bytes}
 use Rattle.nested.specs.Nested.{expandedNested, answerNested, outputNested}
 use Rattle.demand3.specs.Delivered.{Delivered, DeliveredFrom}
 use Rattle.what_comes_back.specs.declared.Elaborated.{Elaborated}
+use Rattle.what_comes_back.specs.declared.Report.{Report}
 use Rattle.what_comes_back.specs.Elaborates.{reported}
 
 -- what the two `ensures` of `elaborate` say of its answer and of the output afterwards, and that the book was accepted, give demand 3
@@ -19,3 +20,21 @@ ElaborateDelivers = (book out work : List ℕ) → Bytes book → (r : Elaborate
 abbrev pub NestedDelivers : Type 0
 NestedDelivers = (book out work : List ℕ) → Bytes book → (r : Elaborated) (after : List ℕ) → reported r ≡ answerNested book (length out) (length work) → after ≡ outputNested book out (length work)
     → reported r .code ≡ 0 → DeliveredFrom (expandedNested book) (reported r) after
+
+-- the four numbers that a caller in C gets, as an answer
+abbrev pub asAnswer : Report → Answer
+asAnswer r = record { code = r .code; size = r .length; definitions = r .definitions; lifts = r .lifted }
+
+-- they are those of this answer, as the first `ensures` of each export says
+abbrev pub FourNumbers : Report → Answer → Type 0
+FourNumbers r a = (r .code ≡ a .code) × (r .length ≡ a .size) × (r .definitions ≡ a .definitions) × (r .lifted ≡ a .lifts)
+
+-- `samulsto_elaborate`
+abbrev pub ExportDelivers : Type 0
+ExportDelivers = (book out work : List ℕ) → Bytes book → (r : Report) (after : List ℕ) → FourNumbers r (answer book (length out) (length work)) → after ≡ output book out (length work)
+    → r .code ≡ 0 → Delivered book (asAnswer r) after
+
+-- `samulsto_elaborate_nested`
+abbrev pub NestedExportDelivers : Type 0
+NestedExportDelivers = (book out work : List ℕ) → Bytes book → (r : Report) (after : List ℕ) → FourNumbers r (answerNested book (length out) (length work)) → after ≡ outputNested book out (length work)
+    → r .code ≡ 0 → DeliveredFrom (expandedNested book) (asAnswer r) after
