@@ -1,5 +1,6 @@
 // The book under construction: its buffer and its next free byte kept together, and an entry of its contents written with them. Each
-// function over a `Writer` takes it apart and calls a function of `writes` on the slice and the number.
+// function over a `Writer` takes it apart and calls a function of `writes` on the slice and the number. The loops that write a book hold one,
+// take it apart at each turn, and call a function on the slice and the number (`write_result::result`).
 use crate::numbers::minus;
 ghost use mathlib.Core.Path.{_≡_};
 ghost use mathlib.Core.List.{[], _∷_};
@@ -9,7 +10,7 @@ ghost use Rattle.buffer.specs.writes.Buf.{Wrote};
 ghost use Rattle.buffer.specs.writer.Entry.{entryBytes};
 ghost use Rattle.buffer.specs.writer.Written.{written};
 
-struct Writer<'a> {
+pub struct Writer<'a> {
     pub buf: &'a mut [u8],
     pub at: usize,
 }

@@ -2,16 +2,17 @@
 // body once at its final place, and cannot fail: every function is total on any bytes and any numbers.
 use crate::lifted::put_lifted;
 use crate::splice::put_spliced;
+use buffer::writer::Writer;
 use buffer::writer::put_entry;
 use buffer::writes::put_u16;
 use layout::items::byte;
 use lift_tables::tables::pair;
-ghost use Prim.Native.Nat.{_+_};
+ghost use Prim.Native.Nat.{_+_, _≤_};
 ghost use Rattle.buffer.specs.writes.Buf.{Wrote};
 ghost use Rattle.lift_tables.specs.tables.Parts.{pairs};
 ghost use Rattle.write_result.specs.splice.Model.{tables};
-ghost use Rattle.write_result.specs.result.Model.{keptBytes, keptFrom, liftedFrom};
-ghost use Rattle.write_result.specs.result.Adds.{Adds};
+ghost use Rattle.write_result.specs.result.Model.{keptBytes, keptFrom, liftedFrom, definitionsFrom};
+ghost use Rattle.write_result.specs.result.Adds.{Adds, AddsNext};
 ghost use Rattle.write_result.specs.result.Held.{Writes};
 
 // The body of kept definition i.
@@ -76,50 +77,64 @@ fn add_lifted(
     end
 }
 
-// The first n definitions of the expanded book, with their calls.
-fn add_all_kept(
-    s: &[u8],
-    names: &[u8],
-    rows: &[u8],
-    params: &[u8],
-    number: &[u16],
-    n: u16,
-    out: &mut [u8],
-    at: usize,
-) -> usize
-    ensures { λ r. ⌜ Adds (now (out .entry)) 0 at (keptFrom (tables (now (s .entry)) (now (names .entry)) (pairs (now (rows .entry))) (pairs (now (params .entry))) (now (number .entry))) 0 n) (now (out .exit)) r ⌝ }
-{
-    let mut i = 0;
-    let mut o = at;
-    while i < n {
-        o = add_kept(s, names, rows, params, number, i, out, o);
-        i += 1;
-    }
-    o
-}
-
-// The definitions of the n lifts in their order.
-fn add_all_lifted(
+// Definition i of the result: of the `kept` ones, or of the lifts behind them; its body at o.
+fn add_next(
     s: &[u8],
     names: &[u8],
     rows: &[u8],
     params: &[u8],
     number: &[u16],
     order: &[u8],
-    n: u16,
     kept: u16,
+    i: usize,
+    out: &mut [u8],
+    o: usize,
+) -> usize
+    ensures { λ r. ⌜ AddsNext (tables (now (s .entry)) (now (names .entry)) (pairs (now (rows .entry))) (pairs (now (params .entry))) (now (number .entry))) (pairs (now (order .entry))) kept i (now (out .entry)) o (now (out .exit)) r ⌝ }
+{
+    let first = kept as usize;
+    if i < first {
+        return add_kept(s, names, rows, params, number, i as u16, out, o);
+    }
+    let k = ((i - first) % 65536) as u16;
+    add_lifted(s, names, rows, params, number, order, k, kept, out, o)
+}
+
+// All definitions of the result, one after the other. The book under construction is one `Writer`: each turn takes it apart, calls a function
+// on the slice and the place, and puts the place after into it.
+fn add_all(
+    s: &[u8],
+    names: &[u8],
+    rows: &[u8],
+    params: &[u8],
+    number: &[u16],
+    order: &[u8],
+    kept: u16,
+    all: usize,
     out: &mut [u8],
     at: usize,
 ) -> usize
-    ensures { λ r. ⌜ Adds (now (out .entry)) kept at (liftedFrom (tables (now (s .entry)) (now (names .entry)) (pairs (now (rows .entry))) (pairs (now (params .entry))) (now (number .entry))) (pairs (now (order .entry))) 0 n) (now (out .exit)) r ⌝ }
+    requires { ⌜ (kept ≤ all) × (all ≤ kept + 65535) ⌝ }
+    ensures { λ r. ⌜ Adds (now (out .entry)) 0 at (definitionsFrom (tables (now (s .entry)) (now (names .entry)) (pairs (now (rows .entry))) (pairs (now (params .entry))) (now (number .entry))) (pairs (now (order .entry))) kept all 0) (now (out .exit)) r ⌝ }
 {
+    let mut w = Writer { buf: out, at: at };
     let mut i = 0;
-    let mut o = at;
-    while i < n {
-        o = add_lifted(s, names, rows, params, number, order, i, kept, out, o);
+    while i < all {
+        w.at = add_next(
+            s,
+            names,
+            rows,
+            params,
+            number,
+            order,
+            kept,
+            i,
+            &mut *w.buf,
+            w.at,
+        );
         i += 1;
     }
-    o
+    w.at
 }
 
 // The finished book: the expanded book's definitions with their calls, then those of the n lifts. The contract speaks of tables that the
@@ -139,6 +154,16 @@ pub fn write_result(
     let kept = layout::items::number(s, 0);
     let all = (kept as usize) + (n as usize);
     put_u16((all % 65536) as u16, out, 0);
-    let o = add_all_kept(s, names, rows, params, number, kept, out, 2 + 6 * all);
-    add_all_lifted(s, names, rows, params, number, order, n, kept, out, o)
+    add_all(
+        s,
+        names,
+        rows,
+        params,
+        number,
+        order,
+        kept,
+        all,
+        out,
+        2 + 6 * all,
+    )
 }

@@ -1,6 +1,7 @@
 -- Definitions added one after the other: entries grow at one place of the buffer, bodies at another behind it.
 -- Assumes nothing.
 use mathlib.Core.Path.{_≡_, refl, sym, ap, _∙_}
+use mathlib.Core.Logic.{⊎-elim}
 use mathlib.Core.List.{List, [], _∷_, _++_, append-assoc, append-nil}
 use Prim.Native.Nat.{ℕ, zero, suc, _+_, _*_, _-_, _%_, _≤_, _<_}
 use native.Mathlib.Numerals.{add-one}
@@ -9,15 +10,15 @@ use lib.ListN.{length, getD, take, drop, length-append, length-take}
 use lib.Seq.{take-add, length-take-le, drop-at, take-append-add}
 use Rattle.definition.specs.Write.{wU16}
 use Rattle.buffer.specs.writes.Buf.{put, Wrote}
-use Rattle.buffer.proofs.writes.Put.{length-put, put-nil, put-put, put-fits, take-put, drop-put}
+use Rattle.buffer.proofs.writes.Put.{length-put, put-nil, put-put, put-fits, take-put, drop-put, within}
 use Rattle.buffer.proofs.writes.Wrote.{same-length, place-fits}
 use Rattle.laws.proofs.Sizes.{length-u16}
 use Rattle.layout.specs.items.At.{byteAt, numberAt}
 use Rattle.buffer.specs.writer.Entry.{entryBytes}
 use Rattle.write_result.specs.splice.Model.{Tables, row, spliced}
 use Rattle.write_result.specs.lifted.Model.{liftedBytes}
-use Rattle.write_result.specs.result.Model.{keptBytes, Piece, entries, bodies, keptFrom, liftedFrom, bookBytes, resultBytes}
-use Rattle.write_result.specs.result.Adds.{Adds, Filled}
+use Rattle.write_result.specs.result.Model.{keptBytes, Piece, entries, bodies, keptFrom, liftedFrom, definitionsFrom, bookBytes, resultBytes}
+use Rattle.write_result.specs.result.Adds.{Adds, AddsNext, Filled}
 
 -- two writes that do not meet
 module _ (d : List ℕ) (x : ℕ) (p : List ℕ) (o : ℕ) (q : List ℕ) (h : x + length p ≤ o) (k : o + length q ≤ length d) where
@@ -132,9 +133,6 @@ module _ {d : List ℕ} {i o : ℕ} {ps : List Piece} {d′ : List ℕ} {i′ o�
   pub left-end : qs ≡ [] → Adds d i o ps d′ o′
   left-end e = g .then d′ o′ (rw e (adds-none d′ i′ o′))
 
-pub left-at : {d : List ℕ} {i o : ℕ} {ps : List Piece} {d′ : List ℕ} {i′ o′ : ℕ} {qs : List Piece} {j : ℕ} → Left d i o ps d′ i′ o′ qs → i′ ≡ j → Left d i o ps d′ j o′ qs
-left-at g e = rw e at g
-
 pub adds-as : {d : List ℕ} {i o : ℕ} {ps qs : List Piece} {d′ : List ℕ} {o′ : ℕ} → ps ≡ qs → Adds d i o qs d′ o′ → Adds d i o ps d′ o′
 adds-as e a = rw e a
 
@@ -151,16 +149,9 @@ module _ (t : Tables) where
   unfolding liftedFrom
   lifted-of order i k e = rw e
 
-  pub kept-start : (n : ℕ) → keptFrom t 0 n ≡ keptFrom t 0 (n - 0)
-  kept-start n = let e : n - 0 ≡ n = omega arith in rw e
-
   pub kept-more : (i n : ℕ) → i < n → keptFrom t i (n - i) ≡ keptFrom t i 1 ++ keptFrom t (i + 1) (n - (i + 1))
   unfolding keptFrom
   kept-more i n h = let e : n - i ≡ suc (n - (i + 1)) = omega arith in rw (e, add-one)
-
-  pub kept-done : (i n : ℕ) → n ≤ i → keptFrom t i (n - i) ≡ []
-  unfolding keptFrom
-  kept-done i n h = let e : n - i ≡ 0 = omega arith in rw e
 
   pub kept-one : (i : ℕ) → length (keptFrom t i 1) ≡ 1
   unfolding keptFrom
@@ -172,16 +163,9 @@ module _ (t : Tables) where
   length-kept i (suc n) = ap suc (length-kept (suc i) n)
 
   module _ (order : List ℕ) where
-    pub lifted-start : (n : ℕ) → liftedFrom t order 0 n ≡ liftedFrom t order 0 (n - 0)
-    lifted-start n = let e : n - 0 ≡ n = omega arith in rw e
-
     pub lifted-more : (i n : ℕ) → i < n → liftedFrom t order i (n - i) ≡ liftedFrom t order i 1 ++ liftedFrom t order (i + 1) (n - (i + 1))
     unfolding liftedFrom
     lifted-more i n h = let e : n - i ≡ suc (n - (i + 1)) = omega arith in rw (e, add-one)
-
-    pub lifted-done : (i n : ℕ) → n ≤ i → liftedFrom t order i (n - i) ≡ []
-    unfolding liftedFrom
-    lifted-done i n h = let e : n - i ≡ 0 = omega arith in rw e
 
     pub lifted-one : (i : ℕ) → length (liftedFrom t order i 1) ≡ 1
     unfolding liftedFrom
@@ -191,6 +175,57 @@ module _ (t : Tables) where
     unfolding liftedFrom
     length-lifted i zero = refl
     length-lifted i (suc n) = ap suc (length-lifted (suc i) n)
+
+-- definition i of the result, behind `kept` others, was added as a lift
+pub next-lifted : (t : Tables) (order : List ℕ) {kept i k o o′ : ℕ} {d d′ : List ℕ} → kept ≤ i → k ≡ (i - kept) % 65536 → Adds d (kept + k) o (liftedFrom t order k 1) d′ o′ → AddsNext t order kept i d o d′ o′
+next-lifted t order {kept} {i} {k} m e a = record {
+  of-kept = λ h. absurd (omega arith);
+  of-lifts = λ _ h. let f : k ≡ i - kept = omega arith in let g : kept + (i - kept) ≡ i = omega arith in rw g at (rw f at a);
+}
+
+-- all definitions of the result, one after the other
+module _ (t : Tables) (order : List ℕ) (kept all : ℕ) where
+  pub all-start : definitionsFrom t order kept all 0 ≡ keptFrom t 0 kept ++ liftedFrom t order 0 (all - kept)
+  unfolding definitionsFrom
+  all-start =
+      let a : kept - 0 ≡ kept = omega arith in
+      let b : 0 - kept ≡ 0 = omega arith in
+      let c : all - kept - 0 ≡ all - kept = omega arith in
+      rw (a, b, c)
+
+  pub all-done : (i : ℕ) → kept ≤ all → all ≤ i → definitionsFrom t order kept all i ≡ []
+  unfolding definitionsFrom keptFrom liftedFrom
+  all-done i m h =
+      let a : kept - i ≡ 0 = omega arith in
+      let b : all - kept - (i - kept) ≡ 0 = omega arith in
+      rw (a, b)
+
+  all-kept : (i : ℕ) → i < kept → definitionsFrom t order kept all i ≡ keptFrom t i 1 ++ definitionsFrom t order kept all (i + 1)
+  unfolding definitionsFrom
+  all-kept i h =
+      let e : i - kept ≡ i + 1 - kept = omega arith in
+      ap (λ (l : List Piece). l ++ liftedFrom t order (i - kept) (all - kept - (i - kept))) (kept-more t i kept h)
+      ∙ append-assoc (keptFrom t i 1) (keptFrom t (i + 1) (kept - (i + 1))) (liftedFrom t order (i - kept) (all - kept - (i - kept)))
+      ∙ ap (λ (j : ℕ). keptFrom t i 1 ++ (keptFrom t (i + 1) (kept - (i + 1)) ++ liftedFrom t order j (all - kept - j))) e
+
+  all-lifted : (i : ℕ) → kept ≤ i → i < all → definitionsFrom t order kept all i ≡ liftedFrom t order (i - kept) 1 ++ definitionsFrom t order kept all (i + 1)
+  unfolding definitionsFrom keptFrom
+  all-lifted i m h =
+      let z : kept - i ≡ 0 = omega arith in
+      let y : 0 ≡ kept - (i + 1) = omega arith in
+      let u : i - kept + 1 ≡ i + 1 - kept = omega arith in
+      ap (λ (k : ℕ). keptFrom t i k ++ liftedFrom t order (i - kept) (all - kept - (i - kept))) z
+      ∙ lifted-more t order (i - kept) (all - kept) (omega arith)
+      ∙ ap (λ (j : ℕ). liftedFrom t order (i - kept) 1 ++ liftedFrom t order j (all - kept - j)) u
+      ∙ ap (λ (k : ℕ). liftedFrom t order (i - kept) 1 ++ (keptFrom t (i + 1) k ++ liftedFrom t order (i + 1 - kept) (all - kept - (i + 1 - kept)))) y
+
+  -- one turn
+  pub next-left : {d : List ℕ} {at i o : ℕ} {ps : List Piece} {d′ d″ : List ℕ} {o′ : ℕ} → Left d 0 at ps d′ i o (definitionsFrom t order kept all i) → i < all → all ≤ kept + 65535 → AddsNext t order kept i d′ o d″ o′
+      → Left d 0 at ps d″ (i + 1) o′ (definitionsFrom t order kept all (i + 1))
+  next-left {d} {at} {i} g h k a = ⊎-elim
+      (λ (m : kept ≤ i). left-on g (a .of-lifts m (omega arith)) (lifted-one t order (i - kept)) (all-lifted i m h))
+      (λ (m : i < kept). left-on g (a .of-kept m) (kept-one t i) (all-kept i m))
+      (within kept i)
 
 -- the count, then all definitions
 pub filled : {d d′ d″ : List ℕ} {x o n : ℕ} (ps : List Piece) → length ps ≡ n → Wrote d 0 (wU16 (n % 65536) []) d′ x → Adds d′ 0 (2 + 6 * n) ps d″ o → Filled d (bookBytes n ps) d″ o
@@ -223,9 +258,11 @@ filled {d} {d′} {d″} {x} {o} {n} ps l a b = record { holds = λ h. both (rw 
           b .place k z,
         )
 
-pub result-is : (t : Tables) (order : List ℕ) (n m : ℕ) {d d₁ d₂ d₃ : List ℕ} {x o r : ℕ} → m ≡ numberAt (t .book) 0 → Wrote d 0 (wU16 ((m + n) % 65536) []) d₁ x → Adds d₁ 0 (2 + 6 * (m + n)) (keptFrom t 0 m) d₂ o
-    → Adds d₂ m o (liftedFrom t order 0 n) d₃ r → Filled d (resultBytes t order n) d₃ r
+pub result-is : (t : Tables) (order : List ℕ) (n m : ℕ) {d d₁ d₂ : List ℕ} {x r : ℕ} → m ≡ numberAt (t .book) 0 → Wrote d 0 (wU16 ((m + n) % 65536) []) d₁ x
+    → Adds d₁ 0 (2 + 6 * (m + n)) (definitionsFrom t order m (m + n) 0) d₂ r → Filled d (resultBytes t order n) d₂ r
 unfolding resultBytes
-result-is t order n m e w a b =
+result-is t order n m e w a =
     let k : length (keptFrom t 0 m) ≡ m = length-kept t 0 m in
-    rw (← e) (filled (keptFrom t 0 m ++ liftedFrom t order 0 n) (length-append (keptFrom t 0 m) (liftedFrom t order 0 n) ∙ rw (k, length-lifted t order 0 n)) w (adds-on a (let z : 0 + length (keptFrom t 0 m) ≡ m = omega arith in rw z b)))
+    let j : m + n - m ≡ n = omega arith in
+    let f : keptFrom t 0 m ++ liftedFrom t order 0 n ≡ definitionsFrom t order m (m + n) 0 = sym (all-start t order m (m + n) ∙ ap (λ (q : ℕ). keptFrom t 0 m ++ liftedFrom t order 0 q) j) in
+    rw (← e) (filled (keptFrom t 0 m ++ liftedFrom t order 0 n) (length-append (keptFrom t 0 m) (liftedFrom t order 0 n) ∙ rw (k, length-lifted t order 0 n)) w (adds-as f a))

@@ -1,7 +1,7 @@
 -- What the writing pass writes, from the expanded book and the tables of the naming pass: total on any bytes and any numbers.
 -- That it is document 01's result where the tables are those of the book is shown in proofs/Result.antt.
 use mathlib.Core.List.{List, [], _∷_, _++_}
-use Prim.Native.Nat.{ℕ, zero, suc, _+_, _*_, _%_}
+use Prim.Native.Nat.{ℕ, zero, suc, _+_, _-_, _*_, _%_}
 use lib.ListN.{length, getD}
 use Rattle.definition.specs.Write.{wU16}
 use Rattle.buffer.specs.writer.Entry.{entryBytes}
@@ -36,6 +36,10 @@ keptFrom t i (suc n) = record { kind = byteAt (t .book) (2 + 6 * i); bytes = kep
 unfoldable pub liftedFrom : Tables → List ℕ → ℕ → ℕ → List Piece
 liftedFrom t order i zero = []
 liftedFrom t order i (suc n) = record { kind = 1; bytes = liftedBytes t (row t (getD order i 0)) } ∷ liftedFrom t order (suc i) n
+
+-- all definitions of the result from number i on: those of the `kept` ones that are left, then those of the lifts
+unfoldable pub definitionsFrom : Tables → List ℕ → ℕ → ℕ → ℕ → List Piece
+definitionsFrom t order kept all i = keptFrom t i (kept - i) ++ liftedFrom t order (i - kept) (all - kept - (i - kept))
 
 -- "Contents first .. Then the bodies in the same order, with no gap"
 unfoldable pub bookBytes : ℕ → List Piece → List ℕ

@@ -21,23 +21,20 @@ cast-put-u16 c = search needs
 put-u16-requires : tie.Need-put-u16-requires
 put-u16-requires c κs = search needs
 
-mul-add-all-kept : tie.Need-mul-add-all-kept
-mul-add-all-kept c = search needs
+mul-add-all : tie.Need-mul-add-all
+mul-add-all c = search needs
 
-add-add-all-kept : tie.Need-add-add-all-kept
-add-add-all-kept c = search needs
+add-add-all : tie.Need-add-add-all
+add-add-all c = search needs
 
-add-all-kept-requires : tie.Need-add-all-kept-requires
-add-all-kept-requires c κs = search needs
-
-add-all-lifted-requires : tie.Need-add-all-lifted-requires
-add-all-lifted-requires c κs = search needs
+add-all-requires : tie.Need-add-all-requires
+add-all-requires c κs = search needs
 
 same-length : tie.Need-same-length
 same-length c = search needs
 
 returns : tie.Need-returns
-returns c = writes _ _ _ (result-is _ _ _ _ (c .before .before .before .before .before .before .before .before .before .before .before .before .number .ensures) (c .before .before .before .before .before .before .before .before .before .before .put-u16 .ensures) (c .before .before .before .before .before .before .add-all-kept .ensures) (c .before .before .add-all-lifted .ensures))
+returns c = writes _ _ _ (result-is _ _ _ _ (c .before .before .before .before .before .before .before .before .number .ensures) (c .before .before .before .before .before .before .put-u16 .ensures) (c .before .before .add-all .ensures))
 
 pub write-result-spec : {M : Type 1} → statement M
 write-result-spec =
@@ -48,9 +45,8 @@ write-result-spec =
     add-all
     cast-put-u16
     put-u16-requires
-    mul-add-all-kept
-    add-add-all-kept
-    add-all-kept-requires
-    add-all-lifted-requires
+    mul-add-all
+    add-add-all
+    add-all-requires
     same-length
     returns)
