@@ -27,9 +27,9 @@ use Rattle.walker.specs.declared.definitions.Definitions.{Definitions}
 use Rattle.walker.specs.definitions.Listed.{allOf, nextOf, Left}
 use Rattle.expand_macros.specs.replace_call.Call.{Puts}
 use Rattle.expand_macros.specs.kept.Kept.{keptOf}
-use Rattle.expand_macros.specs.pass.Left.{shallow, expandOne, andOne, shallowAll, Whole, Formatted, Kept, WritesBy, Writes, Listing, Booked}
+use Rattle.expand_macros.specs.pass.Left.{shallow, expandOne, andOne, shallowAll, Whole, Formatted, Kept, WritesBy, Writes, Listing, Booked, leftAt, Ends, Turned}
 use Rattle.walker.proofs.pieces.Marked.{part-here}
-use Rattle.walker.proofs.definitions.Listed.{past-is, listed-kind, listed-size, listed-body, listed-deep, entries-size, all-left, next-left, no-more, some-more}
+use Rattle.walker.proofs.definitions.Listed.{next-less, past-is, listed-kind, listed-size, listed-body, listed-deep, entries-size, all-left, next-left, no-more, some-more}
 
 -- one definition
 module _ {kind size : ℕ} {macros pl hs : List ℕ} {rows : ℕ} {book : List ℕ} {at : ℕ} {areas marks out : List ℕ} {o : ℕ} {out′ : List ℕ} {r : ℕ} where
@@ -267,9 +267,38 @@ pub booked : {macros pl hs : List ℕ} {rows : ℕ} {book areas marks out : List
 booked hd l = record { says = λ ms wh ds e b eo ho. l .says ms wh ds (all-left hd ds e b) (omega arith) ho }
 
 -- the loop over the definitions
-pub record Going (macros pl hs : List ℕ) (rows : ℕ) (book areas₀ marks₀ row₀ out₀ : List ℕ) (d₀ : Definitions) (e₀ o₀ : ℕ) (areas marks row out : List ℕ) (d : Definitions) (e o : ℕ) : Type 0 where
-  pub areas-long : length areas ≡ length areas₀
-  pub marks-long : length marks ≡ length marks₀
-  pub row-long : length row ≡ length row₀
-  pub out-long : length out ≡ length out₀
-  pub goes : (out′ : List ℕ) (r : ℕ) → Listing macros pl hs rows book areas marks out d e o out′ r → Listing macros pl hs rows book areas₀ marks₀ out₀ d₀ e₀ o₀ out′ r
+module _ {macros pl hs : List ℕ} {rows : ℕ} {book areas marks out : List ℕ} {left entry at e o : ℕ} where
+  pub ends-none : left ≤ 0 → Ends macros pl hs rows book areas marks out left entry at e o out o
+  ends-none h = record { none = λ _. (refl, refl); some = λ k. absurd (omega arith) }
+
+  pub ends-some : 0 < left → {out′ : List ℕ} {r : ℕ} → Listing macros pl hs rows book areas marks out (leftAt left entry at) e o out′ r → Ends macros pl hs rows book areas marks out left entry at e o out′ r
+  ends-some k l = record { none = λ z. absurd (omega arith); some = λ _. l }
+
+  pub ends-listing : {out′ : List ℕ} {r : ℕ} → Ends macros pl hs rows book areas marks out left entry at e o out′ r → Listing macros pl hs rows book areas marks out (leftAt left entry at) e o out′ r
+  ends-listing {out′} {r} x = ⊎-elim
+      (λ (z : left ≤ 0). let y = x .none (omega arith) in rw (y .0, y .1) (listing-none z))
+      (λ (k : 0 < left). x .some k)
+      (within left 0)
+
+module _ {macros pl hs : List ℕ} {rows : ℕ} {book areas marks out : List ℕ} {left entry at e o : ℕ} where
+  module _ {kind : ℕ} (hk : kind ≡ byteAt book entry) {d : Definitions} (hd : d ≡ nextOf book (leftAt left entry at)) where
+    pub turned-macro : kind ≡ 4 → {areas′ marks′ : List ℕ} → areas′ ≡ areas → marks′ ≡ marks → Turned macros pl hs rows book areas marks out left entry at e o areas′ marks′ out (record { left = d .left; entry = d .entry; at = d .at; e = e; o = o })
+    turned-macro f a m = record {
+      goes = λ k out″ r x. listing-macro k hk hd f (ends-listing (rw (a, m) at x));
+      less = λ k. next-less _ _ hd k;
+    }
+
+    module _ (f : kind ≡ 4 → ⊥) {size : ℕ} (hz : size ≡ numberAt book (pastAt book entry 4)) {out₁ : List ℕ} {r₁ : ℕ} (kp : Kept kind size macros pl hs rows book at areas marks out o out₁ r₁) (lo : length out₁ ≡ length out) where
+      pub turned-stop : length out₁ < r₁ → {areas′ marks′ : List ℕ} → Turned macros pl hs rows book areas marks out left entry at e o areas′ marks′ out₁ (record { left = 0; entry = d .entry; at = d .at; e = e; o = r₁ })
+      turned-stop g = record {
+        goes = λ k out″ r x. let y = x .none refl in rw (y .0, y .1) (listing-stop k hk hd f hz kp lo g);
+        less = λ k. k;
+      }
+
+      pub turned-step : r₁ ≤ length out₁ → {out₂ : List ℕ} {e₂ : ℕ} → Wrote out₁ e (entryBytes kind o (r₁ - o)) out₂ e₂
+          → {areas₁ marks₁ : List ℕ} → length areas₁ ≡ length areas → length marks₁ ≡ length marks
+          → Turned macros pl hs rows book areas marks out left entry at e o areas₁ marks₁ out₂ (record { left = d .left; entry = d .entry; at = d .at; e = e₂; o = r₁ })
+      turned-step g w la lm = record {
+        goes = λ k out″ r x. listing-step k hk hd f hz kp lo g w la lm (ends-listing x);
+        less = λ k. next-less _ _ hd k;
+      }

@@ -16,6 +16,7 @@ use Rattle.layout.specs.items.Here.{Here}
 use Rattle.buffer.specs.writes.Buf.{put}
 use Rattle.walker.specs.declared.definitions.Definitions.{Definitions}
 use Rattle.walker.specs.definitions.Listed.{Left}
+use Rattle.expand_macros.specs.declared.pass.book.Turn.{Turn}
 use Rattle.substitute.specs.substitution.Turned.{Areas}
 use Rattle.expand_macros.specs.replace_call.Call.{Puts}
 use Rattle.expand_macros.specs.known_macros.Table.{Rows}
@@ -70,6 +71,20 @@ Writes out e o (done es) out′ r = WritesBy out e o es out′ r (leb (o + lengt
 pub record Listing (macros pl hs : List ℕ) (rows : ℕ) (book areas marks out : List ℕ) (d : Definitions) (e o : ℕ) (out′ : List ℕ) (r : ℕ) : Type 0 where
   pub says : (ms : List Macro) → Whole macros pl hs rows book areas marks out ms → (ds : List Definition) → Left book d ds → e + 6 * keptOf ds ≤ o → o ≤ length out
       → Writes out e o (shallowAll ds ms) out′ r
+
+-- the definitions that are left, by three numbers
+abbrev pub leftAt : ℕ → ℕ → ℕ → Definitions
+leftAt left entry at = record { left = left; entry = entry; at = at }
+
+-- the loop over the definitions that are left ended with out′ and r
+pub record Ends (macros pl hs : List ℕ) (rows : ℕ) (book areas marks out : List ℕ) (left entry at e o : ℕ) (out′ : List ℕ) (r : ℕ) : Type 0 where
+  pub none : left ≡ 0 → (out′ ≡ out) × (r ≡ o)
+  pub some : 0 < left → Listing macros pl hs rows book areas marks out (leftAt left entry at) e o out′ r
+
+-- a turn of it: whoever does the rest has done all that were left, and fewer are left
+pub record Turned (macros pl hs : List ℕ) (rows : ℕ) (book areas marks out : List ℕ) (left entry at e o : ℕ) (areas′ marks′ out′ : List ℕ) (t : Turn) : Type 0 where
+  pub goes : 0 < left → (out″ : List ℕ) (r : ℕ) → Ends macros pl hs rows book areas′ marks′ out′ (t .left) (t .entry) (t .at) (t .e) (t .o) out″ r → Listing macros pl hs rows book areas marks out (leftAt left entry at) e o out″ r
+  pub less : 0 < left → t .left < left
 
 pub record Booked (macros pl hs : List ℕ) (rows : ℕ) (book areas marks out : List ℕ) (o : ℕ) (out′ : List ℕ) (r : ℕ) : Type 0 where
   pub says : (ms : List Macro) → Whole macros pl hs rows book areas marks out ms → (ds : List Definition) → book ≡ wBook ds → IsBook ds → o ≡ 2 + 6 * keptOf ds → o ≤ length out
