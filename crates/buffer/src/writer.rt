@@ -1,6 +1,7 @@
 // The book under construction: its buffer and its next free byte kept together, and an entry of its contents written with them. Each
-// function over a `Writer` takes it apart and calls a function of `writes` on the slice and the number. The loops that write a book hold one,
-// take it apart at each turn, and call a function on the slice and the number (`write_result::result`).
+// function over a `Writer` takes it apart and calls a function of `writes` on the slice and the number. The loops that write a book hold one:
+// each turn takes it apart and calls a function on the slice and the number (`expand_macros::pass::book::expand_each`,
+// `write_result::result::add_all`).
 use crate::numbers::minus;
 ghost use mathlib.Core.Path.{_≡_};
 ghost use mathlib.Core.List.{[], _∷_};
