@@ -222,7 +222,7 @@ fn listing(mode: Mode) -> Outcome {
 fn elaborate(mode: Mode) -> Outcome {
     match one_answer(mode)? {
         Answer::Done(done) => put(&done.book),
-        Answer::Refused(code) => Err(format!("refused {code}")),
+        Answer::Refused(refusal) => Err(refusal.to_string()),
     }
 }
 
@@ -239,8 +239,7 @@ fn book_write() -> Outcome {
 }
 
 fn book_read() -> Outcome {
-    let book = read::read(&stdin_whole()?)
-        .map_err(|fault| format!("refused {} at byte {}", fault.code, fault.at))?;
+    let book = read::read(&stdin_whole()?).map_err(|refusal| refusal.to_string())?;
     print(&notation::print(&book))
 }
 

@@ -23,6 +23,7 @@ code  the Rust's word                              a second reading of document 
       `elaborate` ends, its result is too large
 11    none                                         not judged here: it speaks of the output
 12    every pass is `expand_macros` (--nested)     document 02 b: how often, and when to stop
+at    none                                         document 02 a: where a fault of 3, 4, 5 is
 premise  the expanded list                         the test itself
 
 Codes 7 to 10 come from a walk of our own that calls the Rust's functions for

@@ -88,9 +88,17 @@ fn streams() {
     let one = [2, 0, 0, 0, 0, 0];
     assert_eq!(
         succeeds(&["answer"], &one),
-        [0, 2, 0, 0, 0, 0, 0, 0, 0, 0, 0]
+        [0, 2, 0, 0, 0, 0, 0, 0, 0, 0, 0, 0, 0]
     );
-    assert_eq!(succeeds(&["premise"], &one), [0, 1, 2, 0, 0, 0, 0, 0]);
+    assert_eq!(succeeds(&["premise"], &one), [0, 1, 0, 0, 2, 0, 0, 0, 0, 0]);
+    // A book of one definition without an entry: 3 at 2.
+    let cut = [2, 0, 0, 0, 1, 0];
+    for words in [&["answer"][..], &["answer", "--nested"]] {
+        assert_eq!(succeeds(words, &cut), [3, 0, 0, 0, 0, 0, 0, 0, 0, 2, 0]);
+    }
+    for words in [&["premise"][..], &["premise", "--nested"]] {
+        assert_eq!(succeeds(words, &cut), [3, 0, 2, 0, 0, 0, 0, 0]);
+    }
 }
 
 #[test]
@@ -150,17 +158,19 @@ fn books_as_text() {
 #[test]
 fn books_as_bytes() {
     refuses(&["book", "write"], &[0xff, 0xfe], "the text is not UTF-8");
-    refuses(&["book", "read"], b"", "refused 3 at byte 0");
-    refuses(&["book", "read"], &[0, 0, 0], "refused 3 at byte 2");
-    refuses(&["book", "read"], &[0; 20_000], "refused 2 at byte 0");
-    refuses(&["elaborate"], &[1], "refused 3");
+    refuses(&["book", "read"], b"", "refused 3 at 0");
+    refuses(&["book", "read"], &[0, 0, 0], "refused 3 at 2");
+    refuses(&["book", "read"], &[0; 20_000], "refused 2\n");
+    refuses(&["elaborate"], &[1], "refused 3 at 0\n");
+    refuses(&["elaborate", "--nested"], &[0, 0, 0], "refused 3 at 2\n");
     assert_eq!(succeeds(&["elaborate"], &[0, 0]), [0, 0]);
 }
 
 #[test]
 fn any_bytes_get_an_answer() {
     let listing = |bytes: &[u8]| String::from_utf8(succeeds(&["listing"], bytes)).expect("ASCII");
-    assert_eq!(listing(b""), "refused 3\n");
+    assert_eq!(listing(b""), "refused 3 at 0\n");
+    assert_eq!(listing(&[1, 0]), "refused 3 at 2\n");
     assert_eq!(listing(&[0, 0]), "ok 0 0\n");
     assert_eq!(listing(&[7; 20_000]), "refused 2\n");
 }

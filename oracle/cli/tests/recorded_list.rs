@@ -107,8 +107,8 @@ fn records_say_what_the_oracle_answers() {
                     assert_eq!((definitions, lifted), (done.definitions, done.lifted));
                     assert_eq!(result, done.book);
                 }
-                Answer::Refused(refused) => {
-                    assert_eq!(code, refused as usize);
+                Answer::Refused(refusal) => {
+                    assert_eq!(code, refusal.code as usize);
                     assert_eq!((definitions, lifted, result.len()), (0, 0, 0));
                 }
             }
@@ -120,8 +120,8 @@ fn records_say_what_the_oracle_answers() {
                     assert_eq!((premise_code, yes), (0, usize::from(found)));
                     assert_eq!(expanded, list);
                 }
-                Premise::Refused(refused) => {
-                    assert_eq!((premise_code, yes), (refused as usize, 0));
+                Premise::Refused(refusal) => {
+                    assert_eq!((premise_code, yes), (refusal.code as usize, 0));
                     assert_eq!(expanded.len(), 0);
                 }
             }

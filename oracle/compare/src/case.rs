@@ -111,7 +111,7 @@ fn of_premise(case: &Case, judged: Premise) -> Expected {
         return refused(WORK_TOO_SHORT, out_bytes);
     }
     match judged {
-        Premise::Refused(code) => refused(code.into(), out_bytes),
+        Premise::Refused(refusal) => refused(refusal.code.into(), out_bytes),
         Premise::Holds { yes, .. } => Expected {
             numbers: [0, yes.into(), 0, 0],
             ..refused(0, out_bytes)
@@ -129,7 +129,7 @@ fn of_answer(case: &Case, judged: Answer) -> Expected {
         return refused(WORK_TOO_SHORT, out_bytes);
     }
     match judged {
-        Answer::Refused(code) => refused(code.into(), out_bytes),
+        Answer::Refused(refusal) => refused(refusal.code.into(), out_bytes),
         Answer::Done(_) if out_bytes < result => refused(OUT_TOO_SHORT, out_bytes),
         Answer::Done(done) => Expected {
             numbers: [

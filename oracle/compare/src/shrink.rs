@@ -68,7 +68,7 @@ pub fn shown(case: &Case) -> String {
     let hex: Vec<String> = case.book.iter().map(|byte| format!("{byte:02x}")).collect();
     let text = match driver::read::read(&case.book) {
         Ok(book) => driver::notation::print(&book),
-        Err(fault) => format!("(refused {} at byte {})\n", fault.code, fault.at),
+        Err(refusal) => format!("({refusal})\n"),
     };
     format!(
         "{:?} with {:?}\n{} bytes: {}\n{text}",

@@ -8,8 +8,8 @@ use crate::lift::{lift, Lifted};
 use crate::limits::{code, BOOK_BYTES, DEFINITIONS, NAME_BYTES};
 use crate::measure;
 use crate::reach;
-use crate::read::{read, Fault};
-use crate::stop::Stop;
+use crate::read::read;
+use crate::stop::{Refusal, Stop};
 use crate::write::write;
 use std::collections::HashSet;
 use vest::ast::{CombinatorInner, Definition};
@@ -18,7 +18,7 @@ use vest::ast::{CombinatorInner, Definition};
 #[derive(Debug, Clone, PartialEq, Eq)]
 pub enum Answer {
     Done(Done),
-    Refused(u8),
+    Refused(Refusal),
 }
 
 #[derive(Debug, Clone, PartialEq, Eq)]
@@ -35,7 +35,7 @@ impl Answer {
     pub fn code(&self) -> u8 {
         match self {
             Answer::Done(_) => code::DONE,
-            Answer::Refused(code) => *code,
+            Answer::Refused(refusal) => refusal.code,
         }
     }
 }
@@ -45,20 +45,16 @@ pub fn answer(bytes: &[u8], mode: Mode) -> Result<Answer, Internal> {
     settle(elaborate(bytes, mode), Answer::Refused)
 }
 
-fn settle<T>(outcome: Result<T, Stop>, refused: impl Fn(u8) -> T) -> Result<T, Internal> {
+fn settle<T>(outcome: Result<T, Stop>, refused: impl Fn(Refusal) -> T) -> Result<T, Internal> {
     match outcome {
         Ok(value) => Ok(value),
-        Err(Stop::Refused(code)) => Ok(refused(code)),
+        Err(Stop::Refused(refusal)) => Ok(refused(refusal)),
         Err(Stop::Internal(message)) => Err(message),
     }
 }
 
-fn refusal(fault: Fault) -> Stop {
-    Stop::Refused(fault.code)
-}
-
 fn elaborate(bytes: &[u8], mode: Mode) -> Result<Answer, Stop> {
-    let book = read(bytes).map_err(refusal)?;
+    let book = read(bytes)?;
     let (source, texts) = to_ast(&book);
     let expanded = expand(source, &texts, mode)?;
     let word = match mode {
@@ -68,9 +64,9 @@ fn elaborate(bytes: &[u8], mode: Mode) -> Result<Answer, Stop> {
     };
     match lift(expanded, &texts) {
         Ok(reading) => done(reading, word, &texts),
-        Err(Stop::Refused(code)) => {
-            confirm_refusal(code, word, &texts)?;
-            Ok(Answer::Refused(code))
+        Err(Stop::Refused(refusal)) => {
+            confirm_refusal(refusal.code, word, &texts)?;
+            Ok(Answer::Refused(refusal))
         }
         Err(internal) => Err(internal),
     }
@@ -128,7 +124,7 @@ fn confirm_refusal(code: u8, mut word: Vec<Definition>, texts: &Texts) -> Result
 #[derive(Debug, Clone, PartialEq, Eq)]
 pub enum Premise {
     Holds { yes: bool, expanded: Vec<u8> },
-    Refused(u8),
+    Refused(Refusal),
 }
 
 /// Document 01's premise test. The expansion is the Rust's; the test itself is
@@ -138,7 +134,7 @@ pub fn premise(bytes: &[u8], mode: Mode) -> Result<Premise, Internal> {
 }
 
 fn test_premise(bytes: &[u8], mode: Mode) -> Result<Premise, Stop> {
-    let book = read(bytes).map_err(refusal)?;
+    let book = read(bytes)?;
     let (source, texts) = to_ast(&book);
     let list = expand(source, &texts, mode)?;
     Ok(Premise::Holds {

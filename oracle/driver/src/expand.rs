@@ -64,7 +64,7 @@ pub fn course<'a>(definitions: Vec<Definition<'a>>, texts: &Texts, mode: Mode) -
     }
     match outcome {
         Ok(list) if has_known_call(&list, &macros) => {
-            ended(PASSES, Err(Stop::Refused(code::MACRO_CALL_LEFT)))
+            ended(PASSES, Err(Stop::refused(code::MACRO_CALL_LEFT)))
         }
         settled => ended(PASSES, settled),
     }
@@ -90,7 +90,7 @@ fn pass<'a>(
     try_calls(&definitions, macros, texts)?;
     rust::expand_macros(&mut definitions);
     if measure::book(&definitions, texts)?.past_a_limit() {
-        return Err(Stop::Refused(code::MACRO_GROWTH));
+        return Err(Stop::refused(code::MACRO_GROWTH));
     }
     Ok(definitions)
 }
@@ -117,7 +117,7 @@ fn try_calls<'a>(
         }
     });
     match outcome {
-        Ok(()) if left > BOOK_BYTES => Err(Stop::Refused(code::MACRO_GROWTH)),
+        Ok(()) if left > BOOK_BYTES => Err(Stop::refused(code::MACRO_GROWTH)),
         other => other,
     }
 }
@@ -134,7 +134,7 @@ fn try_call<'a>(
     for (param, arg) in params.iter().zip(args) {
         let foretold = foretell(&body, param, arg, texts)?;
         if foretold > CARRIED_OUT {
-            return Err(Stop::Refused(code::MACRO_GROWTH));
+            return Err(Stop::refused(code::MACRO_GROWTH));
         }
         rust::substitute_in_combinator(&mut body, param, arg.clone());
         let measure = measure::combinator(&body, texts)?;
@@ -145,7 +145,7 @@ fn try_call<'a>(
             )));
         }
         if measure.past_a_limit() {
-            return Err(Stop::Refused(code::MACRO_GROWTH));
+            return Err(Stop::refused(code::MACRO_GROWTH));
         }
     }
     Ok(measure::inner(&body.inner, texts)?.bytes)

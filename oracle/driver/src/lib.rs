@@ -13,6 +13,7 @@ pub mod listing;
 pub mod measure;
 pub mod notation;
 pub mod passes;
+pub mod places;
 pub mod reach;
 pub mod read;
 pub mod record;

@@ -208,7 +208,7 @@ impl<'a> Walk<'_, 'a> {
     fn lift(&mut self, base: &str, combinator: &mut Combinator<'a>, binders: &Binders<'a>) -> Step {
         let name = rust::fresh_generated_name(base, &mut self.taken);
         if name.len() > NAME_BYTES {
-            return Err(Stop::Refused(code::LIFTED_NAME_TOO_LONG));
+            return Err(Stop::refused(code::LIFTED_NAME_TOO_LONG));
         }
         let span = combinator.span;
         let params = caught(|| rust::sorted_params(combinator))?;
@@ -245,7 +245,7 @@ impl<'a> Walk<'_, 'a> {
         self.bytes += 6 + head + call;
         self.definitions += 1;
         if self.bytes > BOOK_BYTES || self.definitions > DEFINITIONS {
-            return Err(Stop::Refused(code::RESULT_TOO_LARGE));
+            return Err(Stop::refused(code::RESULT_TOO_LARGE));
         }
         Ok(())
     }
@@ -263,7 +263,7 @@ fn call<'a>(func: Identifier<'a>, args: Vec<Param<'a>>) -> Combinator<'a> {
 /// The Rust's panic as document 01's code.
 fn caught<T>(action: impl FnOnce() -> T) -> Result<T, Stop> {
     caught::catch(action).map_err(|panic| match panic.code() {
-        Ok(code) => Stop::Refused(code),
+        Ok(code) => Stop::refused(code),
         Err(message) => Stop::Internal(message),
     })
 }

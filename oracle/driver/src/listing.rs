@@ -1,4 +1,4 @@
-//! What document 01's program `listing` prints.
+//! What document 01's program `listing` prints, with the places of document 02 a.
 
 use crate::answer::Answer;
 use crate::read::read;
@@ -8,10 +8,10 @@ use crate::tree::Definition;
 /// book is an internal error.
 pub fn listing(answer: &Answer) -> Result<String, String> {
     let done = match answer {
-        Answer::Refused(code) => return Ok(format!("refused {code}\n")),
+        Answer::Refused(refusal) => return Ok(format!("{refusal}\n")),
         Answer::Done(done) => done,
     };
-    let book = read(&done.book).map_err(|fault| format!("the result is refused: {fault:?}"))?;
+    let book = read(&done.book).map_err(|refusal| format!("the result is {refusal}"))?;
     let mut text = format!("ok {} {}\n", done.definitions, done.lifted);
     let first_lifted = book.definitions.len() - done.lifted;
     for (number, definition) in book.definitions.iter().enumerate() {

@@ -30,7 +30,7 @@ pub fn passes(bytes: &[u8]) -> Result<Option<(usize, End)>, Internal> {
     let course = course(source, &texts, Mode::Nested);
     let end = match course.outcome {
         Ok(_) => End::Settled,
-        Err(Stop::Refused(code::MACRO_GROWTH)) => End::Grown,
+        Err(Stop::Refused(refusal)) if refusal.code == code::MACRO_GROWTH => End::Grown,
         Err(Stop::Refused(_)) if comes_back(&book) => End::Cycle,
         Err(Stop::Refused(_)) => End::LongChain,
         Err(Stop::Internal(message)) => return Err(message),

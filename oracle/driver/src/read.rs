@@ -1,23 +1,17 @@
-//! Bytes to a book: codes 2 to 5. The Rust has no book, so all of this is a
-//! reading of document 01, but for what a string is: `std::str::from_utf8`.
+//! Bytes to a book: codes 2 to 5, and the place of a fault. The Rust has no
+//! book, so all of this is a reading of documents 01 and 02 a, but for what a
+//! string is: `std::str::from_utf8`.
 
 use crate::limits::{code, BOOK_BYTES, DEFINITIONS, LEVELS};
+use crate::stop::Refusal;
 use crate::tree::{tag, Book, Cases, Combinator, Definition, Field, Inner, Leaf, Length, Text};
 
-/// A refusal and the first byte of the item at fault (for leftover bytes, the
-/// first of them).
-#[derive(Debug, Clone, Copy, PartialEq, Eq)]
-pub struct Fault {
-    pub code: u8,
-    pub at: usize,
-}
-
-type Read<T> = Result<T, Fault>;
+type Read<T> = Result<T, Refusal>;
 
 /// Reads a whole book, or answers 2, 3, 4 or 5.
 pub fn read(bytes: &[u8]) -> Read<Book> {
     if bytes.len() > BOOK_BYTES {
-        return fault(code::BOOK_TOO_LONG, 0);
+        return Err(Refusal::of(code::BOOK_TOO_LONG));
     }
     let mut definitions = Vec::new();
     for entry in contents(bytes)? {
@@ -33,7 +27,7 @@ struct Entry {
 }
 
 fn fault<T>(code: u8, at: usize) -> Read<T> {
-    Err(Fault { code, at })
+    Err(Refusal { code, at })
 }
 
 /// The contents, tested whole before any body is looked at.

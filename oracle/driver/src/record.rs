@@ -131,7 +131,7 @@ fn encoded(book: &[u8], answer: &Answer, premise: &Premise) -> Vec<u8> {
     placed(&mut record, result, place);
     let (code, yes, expanded) = match premise {
         Premise::Holds { yes, expanded } => (0, *yes, expanded.as_slice()),
-        Premise::Refused(code) => (*code, false, &[][..]),
+        Premise::Refused(refusal) => (refusal.code, false, &[][..]),
     };
     let place = match code {
         0 if expanded == book => IS_THE_BOOK,

@@ -1,7 +1,8 @@
 //! The streams between programs. All numbers are little-endian.
 //!
 //! Cases: u32 length, book. Answers: u8 code, u32 length, u16 definitions,
-//! u16 lifted, book. Premises: u8 code, u8 yes, u32 length, expanded book.
+//! u16 lifted, u16 place, book. Premises: u8 code, u8 yes, u16 place, u32
+//! length, expanded book.
 
 use crate::answer::{Answer, Premise};
 use crate::limits::code;
@@ -46,23 +47,25 @@ fn up_to(input: &mut impl Read, count: u64) -> Result<Vec<u8>, String> {
 }
 
 pub fn write_answer(out: &mut impl Write, answer: &Answer) -> io::Result<()> {
-    let (book, definitions, lifted) = match answer {
-        Answer::Done(done) => (done.book.as_slice(), done.definitions, done.lifted),
-        Answer::Refused(_) => (&[][..], 0, 0),
+    let (book, definitions, lifted, at) = match answer {
+        Answer::Done(done) => (done.book.as_slice(), done.definitions, done.lifted, 0),
+        Answer::Refused(refusal) => (&[][..], 0, 0, refusal.at),
     };
     out.write_all(&[answer.code()])?;
     out.write_all(&(book.len() as u32).to_le_bytes())?;
     out.write_all(&(definitions as u16).to_le_bytes())?;
     out.write_all(&(lifted as u16).to_le_bytes())?;
+    out.write_all(&(at as u16).to_le_bytes())?;
     out.write_all(book)
 }
 
 pub fn write_premise(out: &mut impl Write, premise: &Premise) -> io::Result<()> {
-    let (code, yes, book) = match premise {
-        Premise::Holds { yes, expanded } => (code::DONE, *yes, expanded.as_slice()),
-        Premise::Refused(code) => (*code, false, &[][..]),
+    let (code, yes, at, book) = match premise {
+        Premise::Holds { yes, expanded } => (code::DONE, *yes, 0, expanded.as_slice()),
+        Premise::Refused(refusal) => (refusal.code, false, refusal.at, &[][..]),
     };
     out.write_all(&[code, u8::from(yes)])?;
+    out.write_all(&(at as u16).to_le_bytes())?;
     out.write_all(&(book.len() as u32).to_le_bytes())?;
     out.write_all(book)
 }

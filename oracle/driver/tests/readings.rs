@@ -14,7 +14,7 @@ fn answered(source: &str) -> Answer {
 
 fn gives(source: &str, result: &str) {
     match answered(source) {
-        Answer::Refused(code) => panic!("{source}: refused {code}"),
+        Answer::Refused(refusal) => panic!("{source}: {refusal}"),
         Answer::Done(done) => {
             let found = read(&done.book).expect("a result is a book");
             assert_eq!(

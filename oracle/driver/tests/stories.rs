@@ -28,7 +28,7 @@ fn parsed(text: &str) -> Vec<u8> {
 fn result(answer: &Answer) -> Book {
     match answer {
         Answer::Done(done) => read(&done.book).expect("a result is a book"),
-        Answer::Refused(code) => panic!("refused {code}"),
+        Answer::Refused(refusal) => panic!("{refusal}"),
     }
 }
 
@@ -77,7 +77,7 @@ fn the_accepted_side_stands_exactly_at_the_limit() {
     };
     let result_of = |name| match side(name) {
         Answer::Done(done) => done,
-        Answer::Refused(code) => panic!("{name}: {code}"),
+        Answer::Refused(refusal) => panic!("{name}: {refusal}"),
     };
     assert_eq!(result_of("bytes of a book").book.len(), 16_384);
     assert_eq!(result_of("bytes of a result").book.len(), 16_384);
