@@ -69,14 +69,14 @@ impl<'b> Records<'b> {
         taken.fold(0, |number, byte| number * 256 + *byte as usize)
     }
 
-    fn placed(&mut self, book: &'b [u8], result: &'b [u8]) -> &'b [u8] {
-        let place = self.number(1);
+    fn book(&mut self, book: &'b [u8], result: &'b [u8]) -> &'b [u8] {
+        let within = self.number(1);
         let length = self.number(4);
-        let found = match place {
+        let found = match within {
             0 => self.bytes(length),
             1 => book,
             2 => result,
-            other => panic!("place {other}"),
+            other => panic!("in {other}"),
         };
         assert_eq!(found.len(), length);
         found
@@ -97,18 +97,19 @@ fn records_say_what_the_oracle_answers() {
             let book = records.bytes(length);
             let (code, definitions, lifted) =
                 (records.number(1), records.number(2), records.number(2));
-            let result = records.placed(book, &[]);
+            let at = records.number(2);
+            let result = records.book(book, &[]);
             let (premise_code, yes) = (records.number(1), records.number(1));
-            let expanded = records.placed(book, result);
+            let expanded = records.book(book, result);
             *codes.entry(code).or_default() += 1;
             match answer(book, Mode::Plain).expect("both readings agree") {
                 Answer::Done(done) => {
-                    assert_eq!(code, 0);
+                    assert_eq!((code, at), (0, 0));
                     assert_eq!((definitions, lifted), (done.definitions, done.lifted));
                     assert_eq!(result, done.book);
                 }
                 Answer::Refused(refusal) => {
-                    assert_eq!(code, refusal.code as usize);
+                    assert_eq!((code, at), (refusal.code as usize, refusal.at));
                     assert_eq!((definitions, lifted, result.len()), (0, 0, 0));
                 }
             }
@@ -118,10 +119,12 @@ fn records_say_what_the_oracle_answers() {
                     expanded: list,
                 } => {
                     assert_eq!((premise_code, yes), (0, usize::from(found)));
+                    assert_eq!(at, 0);
                     assert_eq!(expanded, list);
                 }
                 Premise::Refused(refusal) => {
                     assert_eq!((premise_code, yes), (refusal.code as usize, 0));
+                    assert_eq!(at, refusal.at);
                     assert_eq!(expanded.len(), 0);
                 }
             }

@@ -10,9 +10,9 @@ use std::collections::{BTreeMap, HashMap, HashSet};
 /// A file ends before it would be longer than this.
 const FILE_BYTES: usize = 390_000;
 /// Records up to this length are taken as they come ..
-const SHORT: usize = 310;
+const SHORT: usize = 312;
 /// .. those up to this length until each kind has so many under each code ..
-const MIDDLE: usize = 2600;
+const MIDDLE: usize = 2602;
 const MIDDLE_EACH: usize = 6;
 /// .. and of longer ones, so many.
 const LONG_EACH: usize = 1;
@@ -115,12 +115,12 @@ fn encoded(book: &[u8], answer: &Answer, premise: &Premise) -> Vec<u8> {
     let mut record = Vec::new();
     record.extend((book.len() as u16).to_le_bytes());
     record.extend(book);
-    let (result, definitions, lifted) = match answer {
-        Answer::Done(done) => (done.book.as_slice(), done.definitions, done.lifted),
-        Answer::Refused(_) => (&[][..], 0, 0),
+    let (result, definitions, lifted, at) = match answer {
+        Answer::Done(done) => (done.book.as_slice(), done.definitions, done.lifted, 0),
+        Answer::Refused(refusal) => (&[][..], 0, 0, refusal.at),
     };
     let done = answer.code() == 0;
-    let place = if done && result == book {
+    let within = if done && result == book {
         IS_THE_BOOK
     } else {
         FOLLOWS
@@ -128,26 +128,28 @@ fn encoded(book: &[u8], answer: &Answer, premise: &Premise) -> Vec<u8> {
     record.push(answer.code());
     record.extend((definitions as u16).to_le_bytes());
     record.extend((lifted as u16).to_le_bytes());
-    placed(&mut record, result, place);
+    // The premise test's place too: it refuses with 3 to 5 what `elaborate` does.
+    record.extend((at as u16).to_le_bytes());
+    put(&mut record, result, within);
     let (code, yes, expanded) = match premise {
         Premise::Holds { yes, expanded } => (0, *yes, expanded.as_slice()),
         Premise::Refused(refusal) => (refusal.code, false, &[][..]),
     };
-    let place = match code {
+    let within = match code {
         0 if expanded == book => IS_THE_BOOK,
         0 if done && expanded == result => IS_THE_RESULT,
         _ => FOLLOWS,
     };
     record.extend([code, u8::from(yes)]);
-    placed(&mut record, expanded, place);
+    put(&mut record, expanded, within);
     record
 }
 
-/// u8 place, u32 length, and the bytes where they follow.
-fn placed(record: &mut Vec<u8>, bytes: &[u8], place: u8) {
-    record.push(place);
+/// u8 where they are, u32 length, and the bytes if they follow.
+fn put(record: &mut Vec<u8>, bytes: &[u8], within: u8) {
+    record.push(within);
     record.extend((bytes.len() as u32).to_le_bytes());
-    if place == FOLLOWS {
+    if within == FOLLOWS {
         record.extend(bytes);
     }
 }
