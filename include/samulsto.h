@@ -1,8 +1,8 @@
 /* Samulsto: `elaborate` of the Vest format compiler, proved.
  *
- * Link with target/staticlib/libelab.a, which `rt staticlib elab` writes for x86-64 Linux. The archive takes memcpy
- * and memset from the C library and nothing else; it keeps no state and calls nobody back, so any number of threads
- * may call it, each with buffers of its own.
+ * Link with target/staticlib/libelab.a, which `rt staticlib elab` writes for x86-64 Linux. The archive takes memcpy,
+ * memmove and memset from the C library and nothing else; it keeps no state and calls nobody back, so any number of
+ * threads may call it, each with buffers of its own.
  *
  * A call needs stack; docs/SPEED.md says how much.
  *
@@ -51,18 +51,25 @@ enum samulsto_code {
     SAMULSTO_MACRO_CALL_LEFT = 12      /* a known macro call is left after pass 16 */
 };
 
-/* What samulsto_elaborate (0 to 11) and samulsto_elaborate_nested (0 to 12) answer. After a refusal the last three are 0. */
+/* What samulsto_elaborate (0 to 11) and samulsto_elaborate_nested (0 to 12) answer. After a refusal every number but
+ * `code` and `at` is 0.
+ *
+ * `at` is 0 unless `code` is 3, 4 or 5. With these it is the offset in the book of the first byte of the item at fault:
+ * of a count, of an entry of the contents, of a tag, kind or flag, of a name or text (its length), or of the first
+ * byte that is left over. An item that is missing stands where it would begin, so `at` may be the book's length. */
 struct samulsto_answer {
     uint32_t code;        /* one of enum samulsto_code */
     uint32_t length;      /* bytes of the result: out[0] to out[length - 1] */
     uint32_t definitions; /* definitions of the result, lifted ones included */
     uint32_t lifted;      /* how many were lifted: they are the last ones of the result */
+    uint32_t at;          /* for 3, 4 and 5 the byte of the book at fault, else 0 */
 };
 
-/* What samulsto_premise answers. After a refusal `holds` is 0. */
+/* What samulsto_premise answers. After a refusal `holds` is 0, and `at` is as above. */
 struct samulsto_premise_answer {
     uint32_t code;  /* 0, or 1 to 6 of enum samulsto_code */
     uint32_t holds; /* 1 for yes, 0 for no */
+    uint32_t at;    /* for 3, 4 and 5 the byte of the book at fault, else 0 */
 };
 
 /* Expands the macros of a book and lifts its nested formats into definitions of their own.

@@ -18,7 +18,10 @@ int main(void)
     struct samulsto_answer answer = samulsto_elaborate(book, length, out, sizeof out, work, sizeof work);
 
     if (answer.code != SAMULSTO_DONE) {
-        fprintf(stderr, "refused with code %u; docs/CODES.md says what to do\n", (unsigned)answer.code);
+        fprintf(stderr, "refused with code %u", (unsigned)answer.code);
+        if (answer.code >= SAMULSTO_NOT_A_BOOK && answer.code <= SAMULSTO_TOO_DEEP)
+            fprintf(stderr, " at byte %u", (unsigned)answer.at);
+        fputs("; docs/CODES.md says what to do\n", stderr);
         return 1;
     }
     fprintf(stderr, "%u definitions, %u of them lifted, %u bytes; the premises %s\n", (unsigned)answer.definitions,

@@ -7,18 +7,27 @@
 //! for definition in result.definitions() {
 //!     println!("{:?} {}", definition.kind, definition.name.unwrap_or("-"));
 //! }
-//! # Ok::<(), samulsto::Refusal>(())
+//! # Ok::<(), samulsto::Error>(())
 //! ```
 //!
 //! Every string of bytes may be handed in. What comes back for it is proved (see the repository's README); this crate
-//! only lends the buffers and gives the codes their names.
+//! only lends the buffers and gives the codes their names. Where a book can't be read, the error has
+//! the byte at fault:
+//!
+//! ```
+//! use samulsto::Refusal;
+//!
+//! let cut = [1, 0]; // one definition, and no entry for it
+//! let error = samulsto::elaborate(&cut).unwrap_err();
+//! assert_eq!((error.refusal, error.at), (Refusal::NotABook, Some(2)));
+//! ```
 
 mod definitions;
 mod refusal;
 mod sys;
 
 pub use definitions::{Definition, Definitions, Kind};
-pub use refusal::Refusal;
+pub use refusal::{Error, Refusal};
 use sys::Mode;
 
 /// A book is at most so long.
@@ -62,14 +71,14 @@ impl Elaborated {
 
 /// Expands macros and lifts nested formats. It lends buffers of its own, so it never answers
 /// [`Refusal::WorkTooShort`] or [`Refusal::OutTooShort`]; nor [`Refusal::MacroCallLeft`], which is the nested mode's.
-pub fn elaborate(book: &[u8]) -> Result<Elaborated, Refusal> {
+pub fn elaborate(book: &[u8]) -> Result<Elaborated, Error> {
     with_own_buffers(Mode::Plain, book)
 }
 
 /// The same in nested mode, for macros that call macros: they are expanded again and again, at most 16 times, until
 /// none of the book's macros is called in a format's body, the arguments of a macro call left aside. Where one pass is
 /// enough, it answers what [`elaborate`] does.
-pub fn elaborate_nested(book: &[u8]) -> Result<Elaborated, Refusal> {
+pub fn elaborate_nested(book: &[u8]) -> Result<Elaborated, Error> {
     with_own_buffers(Mode::Nested, book)
 }
 
@@ -79,7 +88,7 @@ pub fn elaborate_into<'out>(
     book: &[u8],
     out: &'out mut [u8],
     work: &mut [u8],
-) -> Result<Elaborated<&'out [u8]>, Refusal> {
+) -> Result<Elaborated<&'out [u8]>, Error> {
     with_buffers(Mode::Plain, book, out, work)
 }
 
@@ -88,11 +97,11 @@ pub fn elaborate_nested_into<'out>(
     book: &[u8],
     out: &'out mut [u8],
     work: &mut [u8],
-) -> Result<Elaborated<&'out [u8]>, Refusal> {
+) -> Result<Elaborated<&'out [u8]>, Error> {
     with_buffers(Mode::Nested, book, out, work)
 }
 
-fn with_own_buffers(mode: Mode, book: &[u8]) -> Result<Elaborated, Refusal> {
+fn with_own_buffers(mode: Mode, book: &[u8]) -> Result<Elaborated, Error> {
     let mut bytes = vec![0; OUT_BYTES];
     let Elaborated {
         bytes: result,
@@ -113,10 +122,10 @@ fn with_buffers<'out>(
     book: &[u8],
     out: &'out mut [u8],
     work: &mut [u8],
-) -> Result<Elaborated<&'out [u8]>, Refusal> {
+) -> Result<Elaborated<&'out [u8]>, Error> {
     let answer = sys::elaborate(mode, book, out, work);
-    match Refusal::of(answer.code) {
-        Some(refusal) => Err(refusal),
+    match Error::of(answer.code, answer.at) {
+        Some(error) => Err(error),
         None => Ok(Elaborated {
             bytes: &out[..answer.length as usize],
             definitions: answer.definitions as usize,
@@ -127,15 +136,15 @@ fn with_buffers<'out>(
 
 /// Whether, once macros are expanded as [`elaborate`] does, every format called is defined in the book and chains stand on Bytes and Tail
 /// alone. Then putting lifted definitions back gives the expanded book again, and none has a parameter too many.
-pub fn premise(book: &[u8]) -> Result<bool, Refusal> {
+pub fn premise(book: &[u8]) -> Result<bool, Error> {
     premise_with(book, &mut vec![0; WORK_BYTES])
 }
 
 /// The same with a work area of the caller, which is all zero afterwards, however long it is.
-pub fn premise_with(book: &[u8], work: &mut [u8]) -> Result<bool, Refusal> {
+pub fn premise_with(book: &[u8], work: &mut [u8]) -> Result<bool, Error> {
     let answer = sys::premise(book, work);
-    match Refusal::of(answer.code) {
-        Some(refusal) => Err(refusal),
+    match Error::of(answer.code, answer.at) {
+        Some(error) => Err(error),
         None => Ok(answer.holds != 0),
     }
 }

@@ -1,4 +1,4 @@
-//! The codes, with names and what they mean.
+//! The codes, with names and what they mean, and the error that has one.
 
 use std::fmt;
 
@@ -37,12 +37,6 @@ impl Refusal {
         Refusal::OutTooShort,
         Refusal::MacroCallLeft,
     ];
-
-    /// None where nothing is refused. There is no other code: that is proved.
-    pub(crate) fn of(code: u32) -> Option<Refusal> {
-        let place = (code as usize).checked_sub(1)?;
-        Some(Refusal::ALL[place])
-    }
 
     /// Its number, 1 to 12.
     pub fn code(self) -> u8 {
@@ -115,16 +109,39 @@ impl Refusal {
     }
 }
 
-impl fmt::Display for Refusal {
-    fn fmt(&self, f: &mut fmt::Formatter) -> fmt::Result {
-        write!(
-            f,
-            "refused {} ({}): {}",
-            self.code(),
-            self.name(),
-            self.explanation()
-        )
+/// A refusal and, where one byte of the book is at fault, which.
+#[derive(Debug, Clone, Copy, PartialEq, Eq, Hash)]
+pub struct Error {
+    pub refusal: Refusal,
+    /// With [`Refusal::NotABook`], [`Refusal::BadName`] and [`Refusal::TooDeep`] the offset in the book of the first
+    /// byte of the item at fault, which is the book's length where an item is missing at its end. With the others none.
+    pub at: Option<usize>,
+}
+
+impl Error {
+    /// None where nothing is refused. There is no other code: that is proved.
+    pub(crate) fn of(code: u32, at: u32) -> Option<Error> {
+        let refusal = Refusal::ALL[(code as usize).checked_sub(1)?];
+        let placed = matches!(
+            refusal,
+            Refusal::NotABook | Refusal::BadName | Refusal::TooDeep
+        );
+        Some(Error {
+            refusal,
+            at: placed.then_some(at as usize),
+        })
     }
 }
 
-impl std::error::Error for Refusal {}
+impl fmt::Display for Error {
+    fn fmt(&self, f: &mut fmt::Formatter) -> fmt::Result {
+        let Error { refusal, at } = self;
+        write!(f, "refused {}", refusal.code())?;
+        if let Some(at) = at {
+            write!(f, " at byte {at}")?;
+        }
+        write!(f, " ({}): {}", refusal.name(), refusal.explanation())
+    }
+}
+
+impl std::error::Error for Error {}

@@ -7,12 +7,14 @@ pub struct Answer {
     pub length: u32,
     pub definitions: u32,
     pub lifted: u32,
+    pub at: u32,
 }
 
 #[repr(C)]
 pub struct PremiseAnswer {
     pub code: u32,
     pub holds: u32,
+    pub at: u32,
 }
 
 extern "C" {

@@ -12,11 +12,25 @@ fn example(name: &str) -> Vec<u8> {
     std::fs::read(examples().join(name)).unwrap()
 }
 
+/// A refusal without a place.
+fn error(refusal: Refusal) -> Error {
+    Error { refusal, at: None }
+}
+
+fn error_at(refusal: Refusal, at: usize) -> Error {
+    let at = Some(at);
+    Error { refusal, at }
+}
+
 /// Document 01's listing of an answer, for names that need no escape.
-fn listing(answer: Result<Elaborated, Refusal>) -> String {
+fn listing(answer: Result<Elaborated, Error>) -> String {
     let result = match answer {
         Ok(result) => result,
-        Err(refusal) => return format!("refused {}\n", refusal.code()),
+        Err(Error { refusal, at: None }) => return format!("refused {}\n", refusal.code()),
+        Err(Error {
+            refusal,
+            at: Some(at),
+        }) => return format!("refused {} at {at}\n", refusal.code()),
     };
     let definitions = result.definitions();
     let mut text = format!("ok {} {}\n", definitions.len(), result.lifted());
@@ -78,13 +92,13 @@ fn macros_that_come_back_are_refused_in_nested_mode() {
     // format "" = ""!() and macro ""!() = ""!()
     let mut book = vec![2, 0, 1, 0, 14, 0, 8, 0, 4, 0, 22, 0, 8, 0];
     book.extend([0, 0, 0, 16, 0, 0, 0, 0].repeat(2));
-    assert_eq!(elaborate_nested(&book), Err(Refusal::MacroCallLeft));
+    assert_eq!(elaborate_nested(&book), Err(error(Refusal::MacroCallLeft)));
     assert_eq!(elaborate(&book).map(|result| result.lifted()), Ok(0));
 
     let (mut out, mut work) = ([9; 64], vec![7; WORK_BYTES]);
     assert_eq!(
         elaborate_nested_into(&book, &mut out, &mut work),
-        Err(Refusal::MacroCallLeft)
+        Err(error(Refusal::MacroCallLeft))
     );
     assert_eq!(out, [9; 64]);
     assert!(work.iter().all(|byte| *byte == 0));
@@ -139,7 +153,7 @@ fn definitions_are_parts_of_the_book() {
 #[test]
 fn the_premise_test_answers() {
     assert_eq!(premise(&[0, 0]), Ok(true));
-    assert_eq!(premise(&[0]), Err(Refusal::NotABook));
+    assert_eq!(premise(&[0]), Err(error_at(Refusal::NotABook, 0)));
     // format "" = "a", which is not defined
     let undefined = [1, 0, 1, 0, 8, 0, 9, 0, 0, 0, 0, 15, 1, b'a', 0, 0, 0];
     assert_eq!(premise(&undefined), Ok(false));
@@ -162,7 +176,7 @@ fn buffers_of_the_caller() {
     work.fill(7);
     assert_eq!(
         elaborate_into(&book, &mut short, &mut work),
-        Err(Refusal::OutTooShort)
+        Err(error(Refusal::OutTooShort))
     );
     assert!(short.iter().all(|byte| *byte == 9));
     assert!(work.iter().all(|byte| *byte == 0));
@@ -171,19 +185,46 @@ fn buffers_of_the_caller() {
     little.fill(7);
     assert_eq!(
         elaborate_into(&book, &mut out, little),
-        Err(Refusal::WorkTooShort)
+        Err(error(Refusal::WorkTooShort))
     );
     assert!(little.iter().all(|byte| *byte == 0));
-    assert_eq!(premise_with(&book, &mut []), Err(Refusal::WorkTooShort));
+    assert_eq!(
+        premise_with(&book, &mut []),
+        Err(error(Refusal::WorkTooShort))
+    );
 }
 
 #[test]
 fn books_that_are_refused() {
-    assert_eq!(elaborate(&[]), Err(Refusal::NotABook));
-    assert_eq!(elaborate(&[0; BOOK_BYTES + 1]), Err(Refusal::BookTooLong));
+    assert_eq!(elaborate(&[]), Err(error_at(Refusal::NotABook, 0)));
     assert_eq!(
-        elaborate(&[1, 0, 2, 0, 8, 0, 2, 0, 1, b'.']),
-        Err(Refusal::BadName)
+        elaborate(&[0; BOOK_BYTES + 1]),
+        Err(error(Refusal::BookTooLong))
     );
-    assert_eq!(elaborate(&example("p04.book")), Err(Refusal::NoBinder));
+    assert_eq!(
+        elaborate(&example("p04.book")),
+        Err(error(Refusal::NoBinder))
+    );
+}
+
+#[test]
+fn every_call_names_the_byte() {
+    // 64 Vecs and a tag
+    let mut deep = vec![1, 0, 1, 0, 8, 0, 68, 0, 0, 0, 0];
+    deep.extend([8; 64]);
+    deep.push(13);
+    for (book, expected) in [
+        (vec![1, 0], error_at(Refusal::NotABook, 2)),
+        (vec![0, 0, 0], error_at(Refusal::NotABook, 2)),
+        (vec![1, 0, 2, 0, 8, 0, 0, 0], error_at(Refusal::NotABook, 8)),
+        (
+            vec![1, 0, 2, 0, 8, 0, 2, 0, 1, b'.'],
+            error_at(Refusal::BadName, 8),
+        ),
+        (deep, error_at(Refusal::TooDeep, 75)),
+    ] {
+        assert_eq!(elaborate(&book), Err(expected));
+        assert_eq!(elaborate_nested(&book), Err(expected));
+        assert_eq!(premise(&book), Err(expected));
+    }
 }

@@ -1,6 +1,6 @@
-//! Names and explanations of the codes.
+//! Names and explanations of the codes, and how an error prints.
 
-use samulsto::Refusal;
+use samulsto::{Error, Refusal};
 use std::collections::HashSet;
 
 #[test]
@@ -20,13 +20,13 @@ fn each_has_its_own_words() {
 }
 
 #[test]
-fn a_refusal_prints_as_one_line() {
+fn an_error_prints_as_one_line_with_its_byte() {
     for refusal in Refusal::ALL {
-        let line = refusal.to_string();
-        assert!(
-            line.starts_with(&format!("refused {} (", refusal.code())),
-            "{line}"
-        );
-        assert!(!line.contains('\n') && !line.contains("  "), "{line}");
+        for (at, begins) in [(None, " ("), (Some(0), " at byte 0 (")] {
+            let line = Error { refusal, at }.to_string();
+            let begins = format!("refused {}{begins}", refusal.code());
+            assert!(line.starts_with(&begins), "{line}");
+            assert!(!line.contains('\n') && !line.contains("  "), "{line}");
+        }
     }
 }
