@@ -1,12 +1,12 @@
 /* Calls the archive for a program that judges its answers: `compare` of oracle/, which runs this one and talks to it
  * over standard input and output. All numbers are little-endian u32.
  *
- * A case: which call (0 premise, 1 elaborate, 2 elaborate_nested), length of the book, of the output, of the work area, a number that
- * chooses the noise, how often to call; the book.
- * Its answer: the last call's four numbers (premise: code, holds, 0, 0); how many bytes of the work area are not zero;
- * how many bytes were written that must not be (of the book, or before a buffer); a measure; how many bytes of the
- * output follow; these. The measure of one call is 0, of several the nanoseconds of the quickest; and where a case is
- * to be called 0 times, it is called once and measured are the bytes of stack that it has used.
+ * A case: which call (0 premise, 1 elaborate, 2 elaborate_nested), length of the book, of the output, of the work
+ * area, a number that chooses the noise, how often to call; the book.
+ * Its answer: the last call's five numbers (premise: code, holds, 0, 0, at); how many bytes of the work area are not
+ * zero; how many bytes were written that must not be (of the book, or before a buffer); a measure; how many bytes of
+ * the output follow; these. The measure of one call is 0, of several the nanoseconds of the quickest; and where a case
+ * is to be called 0 times, it is called once and measured are the bytes of stack that it has used.
  *
  * Output and work area are filled with noise before the first call of a case. Of the output come back the bytes that
  * the answer calls the result, and more where bytes behind them have changed. Each buffer ends where a page begins that
@@ -118,7 +118,7 @@ static struct samulsto_answer call(uint32_t which, const struct buffers *b)
     if (which == 2)
         return samulsto_elaborate_nested(book.bytes, book.length, out.bytes, out.length, work.bytes, work.length);
     struct samulsto_premise_answer got = samulsto_premise(book.bytes, book.length, work.bytes, work.length);
-    struct samulsto_answer numbers = {got.code, got.holds, 0, 0};
+    struct samulsto_answer numbers = {got.code, got.holds, 0, 0, got.at};
     return numbers;
 }
 
@@ -191,8 +191,8 @@ static void answer_case(uint32_t which, uint32_t times, const struct buffers *b,
     uint32_t strayed = differing(b->book.bytes - BEFORE, copy, BEFORE + b->book.length) +
                        differing(b->out.bytes - BEFORE, was, BEFORE) + differing(b->work.bytes - BEFORE, was, BEFORE);
     uint32_t shown = to_show(b->out.bytes, was + BEFORE, b->out.length, which != 0 ? got.length : 0);
-    uint32_t answer[8] = {got.code, got.length, got.definitions, got.lifted, 0, strayed, measure, shown};
-    answer[4] = not_zero(b->work.bytes, b->work.length);
+    uint32_t left = not_zero(b->work.bytes, b->work.length);
+    uint32_t answer[9] = {got.code, got.length, got.definitions, got.lifted, got.at, left, strayed, measure, shown};
     give(answer, sizeof answer);
     give(b->out.bytes, shown);
 }

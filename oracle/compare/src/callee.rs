@@ -49,10 +49,13 @@ pub enum Times {
     ForTime(u32),
 }
 
+/// The numbers of an answer: code, length, definitions, lifted, at; of the premise test code, holds, 0, 0, at.
+pub type Numbers = [u32; 5];
+
 /// What came of it. `out` is the result and whatever else of the output has changed.
 #[derive(Debug, Clone, PartialEq, Eq)]
 pub struct Reply {
-    pub numbers: [u32; 4],
+    pub numbers: Numbers,
     pub out: Vec<u8>,
     pub work_not_zero: u32,
     pub strayed: u32,
@@ -144,19 +147,19 @@ fn ended(running: Running, error: io::Error) -> String {
 fn exchange(running: &mut Running, request: &Request) -> io::Result<Reply> {
     running.input.write_all(&encoded(request))?;
     running.input.flush()?;
-    let mut head = [0; 32];
+    let mut head = [0; 36];
     running.output.read_exact(&mut head)?;
     let number = |place: usize| {
         let at = 4 * place;
         u32::from_le_bytes([head[at], head[at + 1], head[at + 2], head[at + 3]])
     };
-    let mut out = vec![0; number(7) as usize];
+    let mut out = vec![0; number(8) as usize];
     running.output.read_exact(&mut out)?;
     Ok(Reply {
-        numbers: [number(0), number(1), number(2), number(3)],
-        work_not_zero: number(4),
-        strayed: number(5),
-        measure: number(6),
+        numbers: [number(0), number(1), number(2), number(3), number(4)],
+        work_not_zero: number(5),
+        strayed: number(6),
+        measure: number(7),
         out,
     })
 }

@@ -1,15 +1,16 @@
 //! A case, what documents 01 and 02 say of it, and whether the callee says the same.
 
-use crate::callee::{Call, Callee, Reply, Request, Times};
+use crate::callee::{Call, Callee, Numbers, Reply, Request, Times};
 use driver::answer::{answer, premise, Answer, Internal, Premise};
 use driver::cases::Rng;
 use driver::expand::Mode;
 use driver::limits::BOOK_BYTES;
+use driver::stop::Refusal;
 
 pub const WORK_BYTES: usize = 65_536;
 
-const WORK_TOO_SHORT: u32 = 1;
-const OUT_TOO_SHORT: u32 = 11;
+const WORK_TOO_SHORT: u8 = 1;
+const OUT_TOO_SHORT: u8 = 11;
 
 #[derive(Debug, Clone, PartialEq, Eq)]
 pub struct Case {
@@ -82,7 +83,7 @@ pub fn drawn(rng: &mut Rng) -> Sizes {
 /// What the call must answer, and the bytes of the output that it must write.
 #[derive(Debug, Clone, PartialEq, Eq)]
 pub struct Expected {
-    pub numbers: [u32; 4],
+    pub numbers: Numbers,
     pub out: Vec<u8>,
     pub out_bytes: usize,
 }
@@ -95,12 +96,11 @@ pub fn expected(case: &Case) -> Result<Expected, Internal> {
     }
 }
 
-fn refused(code: u32, out_bytes: usize) -> Expected {
-    let numbers = [code, 0, 0, 0];
-    let out = Vec::new();
+/// A refusal of whatever call: every number but code and place is 0.
+fn refused(refusal: Refusal, out_bytes: usize) -> Expected {
     Expected {
-        numbers,
-        out,
+        numbers: [refusal.code.into(), 0, 0, 0, refusal.at as u32],
+        out: Vec::new(),
         out_bytes,
     }
 }
@@ -108,13 +108,14 @@ fn refused(code: u32, out_bytes: usize) -> Expected {
 fn of_premise(case: &Case, judged: Premise) -> Expected {
     let out_bytes = out_bytes(case.sizes.out, 0);
     if case.sizes.work < WORK_BYTES {
-        return refused(WORK_TOO_SHORT, out_bytes);
+        return refused(Refusal::of(WORK_TOO_SHORT), out_bytes);
     }
     match judged {
-        Premise::Refused(refusal) => refused(refusal.code.into(), out_bytes),
+        Premise::Refused(refusal) => refused(refusal, out_bytes),
         Premise::Holds { yes, .. } => Expected {
-            numbers: [0, yes.into(), 0, 0],
-            ..refused(0, out_bytes)
+            numbers: [0, yes.into(), 0, 0, 0],
+            out: Vec::new(),
+            out_bytes,
         },
     }
 }
@@ -126,17 +127,18 @@ fn of_answer(case: &Case, judged: Answer) -> Expected {
     };
     let out_bytes = out_bytes(case.sizes.out, result);
     if case.sizes.work < WORK_BYTES {
-        return refused(WORK_TOO_SHORT, out_bytes);
+        return refused(Refusal::of(WORK_TOO_SHORT), out_bytes);
     }
     match judged {
-        Answer::Refused(refusal) => refused(refusal.code.into(), out_bytes),
-        Answer::Done(_) if out_bytes < result => refused(OUT_TOO_SHORT, out_bytes),
+        Answer::Refused(refusal) => refused(refusal, out_bytes),
+        Answer::Done(_) if out_bytes < result => refused(Refusal::of(OUT_TOO_SHORT), out_bytes),
         Answer::Done(done) => Expected {
             numbers: [
                 0,
                 result as u32,
                 done.definitions as u32,
                 done.lifted as u32,
+                0,
             ],
             out: done.book,
             out_bytes,
@@ -164,18 +166,30 @@ pub fn judge(callee: &mut dyn Callee, case: &Case) -> Result<Result<Expected, St
     };
     Ok(match callee.call(&request) {
         Err(ended) => Err(ended),
-        Ok(reply) => match difference(&expected, &reply) {
+        Ok(reply) => match difference(case.call, &expected, &reply) {
             Some(text) => Err(text),
             None => Ok(expected),
         },
     })
 }
 
-fn difference(expected: &Expected, reply: &Reply) -> Option<String> {
+/// An answer in words, place included.
+fn in_words(call: Call, numbers: Numbers) -> String {
+    let [code, length, definitions, lifted, at] = numbers;
+    match call {
+        Call::Premise => format!("code {code}, holds {length}, at {at}"),
+        Call::Elaborate | Call::Nested => format!(
+            "code {code}, length {length}, definitions {definitions}, lifted {lifted}, at {at}"
+        ),
+    }
+}
+
+fn difference(call: Call, expected: &Expected, reply: &Reply) -> Option<String> {
     if reply.numbers != expected.numbers {
         return Some(format!(
-            "answered {:?}, expected {:?}",
-            reply.numbers, expected.numbers
+            "answered {}; expected {}",
+            in_words(call, reply.numbers),
+            in_words(call, expected.numbers)
         ));
     }
     if reply.work_not_zero != 0 {

@@ -3,6 +3,7 @@
 use crate::callee::Call;
 use crate::case::{drawn, Sizes, OUTS, WORKS};
 use driver::cases::{self, short, sweep, Rng};
+use driver::places::places;
 use driver::stories;
 
 /// A book of more bytes is not swept: each byte makes 258 damages.
@@ -29,6 +30,7 @@ pub fn parts(calls: &[Call], seed: u64, count: u64) -> Vec<Part> {
     let mut parts = vec![
         part("limits", Box::new(around_the_limits(nested))),
         part("tables", Box::new(with_all_sizes(cases::around_tables()))),
+        part("places", Box::new(with_all_sizes(misplaced()))),
         with_sizes("strings", seed, short::strings()),
         with_sizes("small books", seed, short::books()),
         with_sizes("damages", seed, damages),
@@ -77,6 +79,11 @@ fn sized(
 /// Every limit from both sides and the books with a story.
 fn around_the_limits(nested: bool) -> impl Iterator<Item = (Vec<u8>, Sizes)> {
     with_all_sizes(limits(nested).into_iter().chain(told(nested)).collect())
+}
+
+/// A fault of each kind of item, wherever it can stand.
+fn misplaced() -> Vec<Vec<u8>> {
+    places().into_iter().map(|one| one.bytes).collect()
 }
 
 /// With buffers of all lengths around the limits.

@@ -1,4 +1,4 @@
-//! Each book of docs/CODES.md gets the code it stands under.
+//! Each book of docs/CODES.md gets the code it stands under, and the place that is told there.
 
 use compare::callee::Call;
 use compare::case::{expected, Case, Out, Sizes, PLAIN};
@@ -6,12 +6,31 @@ use std::collections::BTreeMap;
 
 const PAGE: &str = include_str!("../../../docs/CODES.md");
 
+/// The sections of the page by code.
+fn sections() -> BTreeMap<u32, &'static str> {
+    let code = |section: &str| section.split(':').next()?.parse().ok();
+    let sections = PAGE.split("\n## ").skip(1);
+    sections
+        .map(|section| {
+            (
+                code(section).expect("a section begins with its code"),
+                section,
+            )
+        })
+        .collect()
+}
+
+/// The place that a section tells of its book: 0 where it tells none.
+fn place(code: u32, section: &str) -> u32 {
+    let told = section.split(&format!("`refused {code} at ")).nth(1);
+    let place = told.and_then(|rest| rest.split('`').next());
+    place.map_or(0, |place| place.parse().expect("a place"))
+}
+
 /// The books of the page by code, and one for 2, which is too long to be shown.
 fn books() -> BTreeMap<u32, Vec<u8>> {
     let mut books = BTreeMap::from([(2, vec![0; 16_385])]);
-    for section in PAGE.split("\n## ").skip(1) {
-        let code = section.split(':').next().and_then(|code| code.parse().ok());
-        let code = code.expect("a section begins with its code");
+    for (code, section) in sections() {
         let Some((_, rest)) = section.split_once("```hex\n") else {
             continue;
         };
@@ -56,7 +75,15 @@ fn each_book_has_its_code() {
             expected(&case)
                 .expect("the oracle agrees with itself")
                 .numbers,
-            [code, 0, 0, 0]
+            [code, 0, 0, 0, place(code, sections()[&code])]
         );
+    }
+}
+
+#[test]
+fn the_codes_with_a_place_tell_it() {
+    for (code, section) in sections() {
+        let told = section.contains(&format!("`refused {code} at "));
+        assert_eq!(told, (3..=5).contains(&code), "code {code}");
     }
 }

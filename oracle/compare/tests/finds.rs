@@ -2,10 +2,11 @@
 
 use compare::callee::{Call, Callee, Reply, Request};
 use compare::case::{expected, judge, Case, Out, Sizes, PLAIN};
-use compare::shrink::shrink;
+use compare::shrink::{shown, shrink};
 use compare::tally::Tally;
 use driver::cases::{case, nested_case, Rng};
 use driver::passes::{passes, End};
+use driver::places::places;
 
 /// Answers as the oracle does, then does what is wrong with it.
 struct Fake(fn(&Request, &mut Reply));
@@ -47,8 +48,12 @@ fn cases(call: Call) -> impl Iterator<Item = Case> {
 
 /// The smallest book for the first difference that a fault makes.
 fn found(call: Call, fault: fn(&Request, &mut Reply)) -> Case {
+    found_in(cases(call), fault)
+}
+
+fn found_in(cases: impl Iterator<Item = Case>, fault: fn(&Request, &mut Reply)) -> Case {
     let mut fake = Fake(fault);
-    for case in cases(call) {
+    for case in cases {
         if let Err(difference) = judge(&mut fake, &case).expect("the oracle agrees with itself") {
             return shrink(&mut fake, case, difference).0;
         }
@@ -130,11 +135,54 @@ fn a_work_area_that_is_not_cleared_when_short_is_noticed() {
 #[test]
 fn a_wrong_yes_shrinks_to_a_call_of_nothing() {
     let case = found(Call::Premise, |_, reply| {
-        if reply.numbers == [0, 0, 0, 0] {
+        if reply.numbers == [0; 5] {
             reply.numbers[1] = 1;
         }
     });
     assert!(case.book.len() <= 20, "{} bytes", case.book.len());
+}
+
+#[test]
+fn a_wrong_place_is_noticed_in_every_call() {
+    for call in Call::ALL {
+        let cases = places().into_iter().map(|one| Case {
+            call,
+            book: one.bytes,
+            sizes: PLAIN,
+        });
+        let case = found_in(cases, |_, reply| {
+            reply.numbers[4] = reply.numbers[4].saturating_sub(1);
+        });
+        assert_eq!(case.book, [1, 0]);
+    }
+}
+
+#[test]
+fn a_place_where_none_belongs_is_noticed() {
+    for call in Call::ALL {
+        let case = found(call, |_, reply| {
+            if reply.numbers[0] == 0 {
+                reply.numbers[4] = 1;
+            }
+        });
+        assert_eq!((case.book, case.sizes), (vec![0, 0], PLAIN));
+    }
+}
+
+#[test]
+fn a_report_tells_both_places() {
+    let case = Case {
+        call: Call::Premise,
+        book: vec![1, 0],
+        sizes: PLAIN,
+    };
+    let mut fake = Fake(|_, reply| reply.numbers[4] = 0);
+    let difference = judge(&mut fake, &case).unwrap().expect_err("a difference");
+    assert_eq!(
+        difference,
+        "answered code 3, holds 0, at 0; expected code 3, holds 0, at 2"
+    );
+    assert!(shown(&case).contains("(refused 3 at 2)"));
 }
 
 #[test]
@@ -170,7 +218,7 @@ fn a_pass_too_few_is_noticed() {
     let case = found(Call::Nested, |request, reply| {
         let last = passes(request.book) == Ok(Some((16, End::Settled)));
         if last && request.work >= 65_536 {
-            (reply.numbers, reply.out) = ([12, 0, 0, 0], Vec::new());
+            (reply.numbers, reply.out) = ([12, 0, 0, 0, 0], Vec::new());
         }
     });
     assert_eq!(passes(&case.book), Ok(Some((16, End::Settled))));

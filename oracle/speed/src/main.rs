@@ -36,6 +36,7 @@ mod archive {
         length: u32,
         definitions: u32,
         lifted: u32,
+        at: u32,
     }
 
     type Call = unsafe extern "C" fn(*const u8, usize, *mut u8, usize, *mut u8, usize) -> Answer;
