@@ -52,12 +52,12 @@ fn rust(path: &Path, name: &str, crates: &[&str]) -> String {
             continue;
         }
         if let Some(inside) = module(line) {
-            let file = path.with_file_name(format!("{inside}.rt"));
+            let file = folder(path).join(format!("{inside}.rt"));
             text += &format!("pub mod {inside} {{\n{}}}\n", rust(&file, name, crates));
             continue;
         }
-        let public = word.strip_prefix("pub ").unwrap_or(word);
-        if (public.starts_with("struct") || public.starts_with("enum")) && !holds_mut(&rattle, line) {
+        let word = without_pub(word);
+        if (word.starts_with("struct") || word.starts_with("enum")) && !holds_mut(&rattle, line) {
             text += "#[derive(Clone, Copy)]\n";
         }
         text += &paths(line, name, crates, &modules);
@@ -66,17 +66,33 @@ fn rust(path: &Path, name: &str, crates: &[&str]) -> String {
     text
 }
 
+/// Where the modules of a file are: beside lib.rt, and in a folder of its name for any other file.
+fn folder(path: &Path) -> PathBuf {
+    match path.file_name() {
+        Some(name) if name == "lib.rt" => path.with_file_name(""),
+        _ => path.with_extension(""),
+    }
+}
+
 /// Whether the type that `line` begins holds a `&mut`: such a type is not copied.
 fn holds_mut(text: &str, line: &str) -> bool {
-    let fields = text.lines().skip_while(|l| *l != line).take_while(|l| *l != "}");
+    let fields = text
+        .lines()
+        .skip_while(|l| *l != line)
+        .take_while(|l| *l != "}");
     fields.skip(1).any(|l| l.contains(" mut "))
 }
 
 /// The name in a line `mod name;`.
 fn module(line: &str) -> Option<&str> {
-    let word = line.trim_start();
-    let word = word.strip_prefix("pub ").unwrap_or(word);
-    word.strip_prefix("mod ")?.strip_suffix(';')
+    without_pub(line.trim_start())
+        .strip_prefix("mod ")?
+        .strip_suffix(';')
+}
+
+fn without_pub(word: &str) -> &str {
+    let public = word.strip_prefix("pub ");
+    public.or(word.strip_prefix("pub(crate) ")).unwrap_or(word)
 }
 
 /// Paths from a Rattle crate as paths from this one. A module of the file itself hides a crate of its name.

@@ -1,6 +1,7 @@
 //! The port's text, compiled natively: reading compared with the driver's and timed against size, the whole call timed beside the Rust.
 
 use driver::cases::case;
+use driver::places::places;
 use driver::read::read;
 use std::hint::black_box;
 use std::time::Instant;
@@ -26,11 +27,15 @@ fn fail(line: &str) {
     std::process::exit(1);
 }
 
-/// Codes and places of faults, on generated cases.
+/// Codes and places of faults: a fault of each kind of item, then generated cases.
 fn compare(seed: u64, count: u64) {
     let mut codes = [0u64; 16];
-    for number in 0..count {
-        let book = case(seed, number).bytes;
+    let told = places().into_iter().map(|one| (one.name, one.bytes));
+    let generated = (0..count).map(|number| {
+        let name = format!("case {number} of seed {seed}");
+        (name, case(seed, number).bytes)
+    });
+    for (name, book) in told.chain(generated) {
         let expected = match read(&book) {
             Ok(_) => (0, 0),
             Err(fault) => (fault.code, fault.at),
@@ -39,10 +44,8 @@ fn compare(seed: u64, count: u64) {
             continue;
         }
         if port::read(&book) != expected {
-            return fail(&format!(
-                "case {number} of seed {seed}: {:?}, expected {expected:?}",
-                port::read(&book)
-            ));
+            let found = port::read(&book);
+            return fail(&format!("{name}: {found:?}, expected {expected:?}"));
         }
         codes[expected.0 as usize] += 1;
     }
