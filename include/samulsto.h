@@ -4,7 +4,7 @@
  * memmove and memset from the C library and nothing else; it keeps no state and calls nobody back, so any number of
  * threads may call it, each with buffers of its own.
  *
- * A call needs stack; docs/SPEED.md says how much.
+ * A call takes at most SAMULSTO_STACK_BYTES of stack; docs/SPEED.md says how that was summed.
  *
  * A book holds definitions of record layouts; docs/CODES.md and oracle/README.md show some. Every string of bytes may
  * be handed in: what is no book, or too much of one, is answered with a code.
@@ -30,6 +30,7 @@ extern "C" {
 #define SAMULSTO_DEFINITIONS 512   /* definitions of a book and of a result, at most */
 #define SAMULSTO_NAME_BYTES 255    /* bytes of a name, at most */
 #define SAMULSTO_LEVELS 64         /* levels of a body, at most */
+#define SAMULSTO_STACK_BYTES 409600 /* stack of a call, at most: for a long book in nested mode; a short one takes 24 KiB on */
 #define SAMULSTO_PASSES 16         /* passes of the nested mode, at most */
 
 /* Codes. They are tested in this order, so a smaller one hides a larger one; but 7 to 10 are tested at each lift, in
