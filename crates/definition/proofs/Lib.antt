@@ -1,4 +1,5 @@
 pub mod Worked
 pub mod Pinned
 pub mod Limits
+pub mod Faults
 pub mod Places

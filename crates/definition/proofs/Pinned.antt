@@ -47,12 +47,6 @@ pinned =
     refl &
     refl &
     refl &
-    -- where the fault stands: the count, an entry, leftover bytes, a tag, a name
-    refl &
-    refl &
-    refl &
-    refl &
-    refl &
     -- rule 1: the last definition of a name counts; a call that is not known stays
     refl &
     refl &

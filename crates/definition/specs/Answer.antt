@@ -1,5 +1,6 @@
 -- Document 01, "What comes back": the code, the counts, the final bytes of output and work area.
 use mathlib.Core.List.{List, _++_}
+use mathlib.Core.Bool.{Bool, true, false}
 use Prim.Native.Nat.{ℕ, _-_}
 use lib.Dec.{leb}
 use lib.ListN.{length, drop, replicate}
@@ -68,16 +69,38 @@ elaborated book = liftedFrom (expanded book)
 unfoldable pub attempt : List ℕ → ℕ → ℕ → Out Result
 attempt book outLength workLength = attemptBy elaborated book outLength workLength
 
--- "It answers a code, the result's length, its count of definitions and the count lifted."; "On a refusal the three numbers are 0"
+-- document 02 a: "Codes 3, 4 and 5 should also give the offset of the item at fault": as many bytes stand before it as the book has more than are
+-- left from there on
+unfoldable pub place : List ℕ → Res (List ℕ) (List Definition) → ℕ
+place book (bad k s) = length book - length s
+place book (ok ds s) = 0
+
+abbrev pub whereRead : Bool → ℕ → ℕ
+whereRead true n = n
+whereRead false n = 0
+
+-- "For all other codes, and on 0, the offset is 0": what code 2 refuses is not read, and what is read without fault has no such item, whatever is
+-- refused later
+unfoldable pub faultOf : List ℕ → ℕ
+unfolding place readBook
+faultOf book = whereRead (leb (length book) 16384) (place book (readBook book))
+
+-- nor is what code 1 refuses
+unfoldable pub faultAt : List ℕ → ℕ → ℕ
+unfolding faultOf
+faultAt book workLength = whereRead (leb 65536 workLength) (faultOf book)
+
+-- "It answers a code, the result's length, its count of definitions and the count lifted."; "On a refusal the three numbers are 0"; and the offset
 pub record Answer : Type 0 where
   pub code : ℕ
   pub size : ℕ
   pub definitions : ℕ
   pub lifts : ℕ
+  pub at : ℕ
 
-unfoldable pub answered : Out Result → Answer
-answered (refused k) = record { code = number k; size = 0; definitions = 0; lifts = 0 }
-answered (done r) = record { code = 0; size = length (wBook (all r)); definitions = length (all r); lifts = length (r .lifted) }
+unfoldable pub answered : ℕ → Out Result → Answer
+answered p (refused k) = record { code = number k; size = 0; definitions = 0; lifts = 0; at = p }
+answered p (done r) = record { code = 0; size = length (wBook (all r)); definitions = length (all r); lifts = length (r .lifted); at = 0 }
 
 -- "On 0 the result fills the output's first bytes and the rest is as before. On a refusal .. the output is as before."
 unfoldable pub filled : Out Result → List ℕ → List ℕ
@@ -86,8 +109,8 @@ filled (done r) out = wBook (all r) ++ drop (length (wBook (all r))) out
 
 -- the call: "a book, an output buffer and a work area"
 unfoldable pub answer : List ℕ → ℕ → ℕ → Answer
-unfolding number answered attempt elaborated readBook wBook expandBook liftBook
-answer book outLength workLength = answered (attempt book outLength workLength)
+unfolding number answered faultAt attempt elaborated readBook wBook expandBook liftBook
+answer book outLength workLength = answered (faultAt book workLength) (attempt book outLength workLength)
 
 -- what the output holds afterwards
 unfoldable pub output : List ℕ → List ℕ → ℕ → List ℕ
@@ -97,8 +120,3 @@ output book out workLength = filled (attempt book (length out) workLength) out
 -- "The work area, short or not, is all zero afterwards in each case."
 unfoldable pub zeroed : List ℕ → List ℕ
 zeroed work = replicate (length work) 0
-
--- where codes 3, 4 and 5 were given: the bytes before the item at fault. For document 02 a; document 01's answer has no place
-unfoldable pub place : List ℕ → Res (List ℕ) (List Definition) → ℕ
-place book (bad k s) = length book - length s
-place book (ok ds s) = 0

@@ -4,25 +4,20 @@ use Prim.Native.Nat.{ℕ, zero, suc, _+_, _-_}
 use Prim.Native.String.{String}
 use lib.ListN.{length}
 use Rattle.definition.specs.Utf8.{utf8}
-use Rattle.definition.specs.Code.{number}
-use Rattle.definition.specs.Res.{Res, bad, ok}
 use Rattle.definition.specs.Tree.{Inner, Combinator, plain, Definition}
-use Rattle.definition.specs.Contents.{readBook}
 use Rattle.definition.specs.Write.{wBook}
-use Rattle.definition.specs.Answer.{Answer, answer, output, zeroed, place}
+use Rattle.definition.specs.Answer.{Answer, answer, output, zeroed}
 use Rattle.definition.specs.Premise.{PremiseAnswer, premise}
 use Rattle.definition.specs.Listing.{listing}
 use Rattle.definition.specs.Rows.{Each}
 use Rattle.definition.specs.Notation.{Nothing, Bytes, one, Macro}
-use Rattle.definition.specs.Worked.{Outcome, refuses, gives, answerOf, noise}
+use Rattle.definition.specs.Worked.{Outcome, refusesAt, gives, answerOf, noise}
 
 pub data Row : Type 0 where
   -- a book, the output's length, the work area's length
   elaborates : List ℕ → ℕ → ℕ → Outcome → Row
-  -- the place of the item at fault (document 02 a)
-  faults : List ℕ → ℕ → ℕ → Row
-  -- the premise test: a book, the work area's length, code, and 1 for yes
-  tells : List ℕ → ℕ → ℕ → ℕ → Row
+  -- the premise test: a book, the work area's length, code, 1 for yes, and the place of the item at fault
+  tellsAt : List ℕ → ℕ → ℕ → ℕ → ℕ → Row
   lists : List ℕ → String → Row
   -- the work area before and after
   clears : List ℕ → List ℕ → Row
@@ -31,7 +26,7 @@ abbrev pub becomes : ℕ → List Definition → Outcome
 becomes n ds = gives n ds (wBook ds)
 
 abbrev room : Outcome → ℕ
-room (refuses k) = 1
+room (refusesAt k p) = 1
 room (gives n ds b) = length b + 1
 
 -- a book given as bytes or as a tree, with room for the result and one byte more
@@ -40,6 +35,10 @@ raw b o = elaborates b (room o) 65536 o
 
 abbrev pub tree : List Definition → Outcome → Row
 tree ds o = raw (wBook ds) o
+
+-- of a book that reads without fault, or is not read
+abbrev pub tells : List ℕ → ℕ → ℕ → ℕ → Row
+tells b w k h = tellsAt b w k h 0
 
 abbrev pub uses : String → Combinator
 uses n = plain (Bytes (n ∷ []))
@@ -58,31 +57,24 @@ nested (suc k) = Macro "z" (nested k ∷ [])
 
 pub data Seen : Type 0 where
   answered : Answer → List ℕ → Seen
-  at : ℕ → ℕ → Seen
   told : PremiseAnswer → Seen
   printed : List ℕ → Seen
   left : List ℕ → Seen
 
-abbrev fault : List ℕ → Res (List ℕ) (List Definition) → Seen
-fault b (bad k s) = at (number k) (place b (bad k s))
-fault b (ok ds s) = at 0 0
-
 unfoldable pub seen : Row → Seen
-unfolding number wBook answer output zeroed place premise listing readBook
+unfolding wBook answer output zeroed premise listing
 seen (elaborates b o w x) = answered (answer b o w) (output b (noise o) w)
-seen (faults b k p) = fault b (readBook b)
-seen (tells b w k h) = told (premise b w)
+seen (tellsAt b w k h p) = told (premise b w)
 seen (lists b l) = printed (listing b)
 seen (clears w z) = left (zeroed w)
 
 abbrev filled : Outcome → ℕ → List ℕ
-filled (refuses k) o = noise o
+filled (refusesAt k p) o = noise o
 filled (gives n ds b) o = b ++ noise (o - length b)
 
 unfoldable pub expected : Row → Seen
 expected (elaborates b o w x) = answered (answerOf x) (filled x o)
-expected (faults b k p) = at k p
-expected (tells b w k h) = told (record { code = k; holds = h })
+expected (tellsAt b w k h p) = told (record { code = k; holds = h; at = p })
 expected (lists b l) = printed (utf8 l)
 expected (clears w z) = left z
 

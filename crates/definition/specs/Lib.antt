@@ -21,4 +21,5 @@ pub mod Worked
 pub mod Asked
 pub mod Pinned
 pub mod Limits
+pub mod Faults
 pub mod Places

@@ -12,7 +12,7 @@ use Rattle.definition.specs.Names.{digits, decimal}
 use Rattle.definition.specs.Contents.{readBook}
 use Rattle.definition.specs.Macros.{expandBook}
 use Rattle.definition.specs.Lift.{liftBook}
-use Rattle.definition.specs.Answer.{Result, all, elaborated}
+use Rattle.definition.specs.Answer.{Result, all, elaborated, faultOf}
 
 unfoldable pub hex : ℕ → ℕ
 hex d = cond (ltb d 10) (48 + d) (55 + d)
@@ -46,6 +46,9 @@ wOk = ascii "ok"
 abbrev wRefused : List ℕ
 wRefused = ascii "refused"
 
+abbrev pub wAt : List ℕ
+wAt = ascii " at"
+
 abbrev pub wFormat : List ℕ
 wFormat = ascii "format"
 
@@ -72,11 +75,19 @@ unfoldable pub lines : List ℕ → List Definition → List ℕ
 lines word [] = []
 lines word (d ∷ ds) = line word d ++ lines word ds
 
+-- document 02 a: "Codes 3, 4 and 5"
+unfoldable pub hasPlace : ℕ → Bool
+hasPlace n = leb 3 n && leb n 5
+
+-- "`refused N at P` for the three"
+unfoldable pub placed : ℕ → ℕ → List ℕ
+placed n p = cond (hasPlace n) (wAt ++ count p) []
+
 -- "It prints `refused N`, or `ok D L` (definitions, lifted) and a line per definition"
-unfoldable pub listed : Out Result → List ℕ
-listed (refused k) = wRefused ++ count (number k) ++ newline
-listed (done r) = wOk ++ count (length (all r)) ++ count (length (r .lifted)) ++ newline ++ lines wFormat (r .kept) ++ lines wLifted (r .lifted)
+unfoldable pub listed : ℕ → Out Result → List ℕ
+listed p (refused k) = wRefused ++ count (number k) ++ placed (number k) p ++ newline
+listed p (done r) = wOk ++ count (length (all r)) ++ count (length (r .lifted)) ++ newline ++ lines wFormat (r .kept) ++ lines wLifted (r .lifted)
 
 unfoldable pub listing : List ℕ → List ℕ
-unfolding hex shownByte shownBytes shown number count line lines listed digits decimal elaborated readBook expandBook liftBook
-listing book = listed (elaborated book)
+unfolding hex shownByte shownBytes shown number count line lines hasPlace placed listed faultOf digits decimal elaborated readBook expandBook liftBook
+listing book = listed (faultOf book) (elaborated book)

@@ -6,8 +6,8 @@ use Rattle.definition.specs.Utf8.{utf8}
 use Rattle.definition.specs.Tree.{leaf, enum, struct, none, by, enums, ints, arrays, choice, invocation, no-field, const, no-case, plain, chained, format, constant, byte-order}
 use Rattle.definition.specs.Write.{wBook}
 use Rattle.definition.specs.Notation.{hex, Int, Enum, Bits, Tail, Nothing, Bytes, Vec, Option, Array, Wrap, Call, ord, dep, on, one, vecs, Macro, param, fmt, mac, m, long, fat}
-use Rattle.definition.specs.Worked.{refuses, gives}
-use Rattle.definition.specs.Asked.{Row, elaborates, faults, tells, lists, becomes, raw, tree, uses, H, zz, nested, Holds}
+use Rattle.definition.specs.Worked.{refusesAt, refuses, gives}
+use Rattle.definition.specs.Asked.{Row, elaborates, tells, lists, becomes, raw, tree, uses, H, zz, nested, Holds}
 
 unfoldable pub bytesRows : List Row
 bytesRows =
@@ -16,44 +16,38 @@ bytesRows =
     elaborates [] 0 0 (refuses 1) ∷
     -- 2, before 3; 16,384 bytes are not too many
     raw (replicate 16385 0) (refuses 2) ∷
-    raw (replicate 16384 0) (refuses 3) ∷
+    raw (replicate 16384 0) (refusesAt 3 2) ∷
     -- 3: a byte order alone is a book; kind 5; no zero byte; an offset too large by one, with a byte left over; bytes left over in a body and behind the last one; a count of 513 with nothing behind it
     raw (hex "01 00 03 00 08 00 02 00 00 00") (gives 0 (byte-order [] ∷ []) (hex "01 00 03 00 08 00 02 00 00 00")) ∷
-    raw (hex "01 00 05 00 08 00 02 00 00 00") (refuses 3) ∷
-    raw (hex "01 00 03 01 08 00 02 00 00 00") (refuses 3) ∷
-    raw (hex "01 00 03 00 09 00 02 00 00 00 00") (refuses 3) ∷
-    raw (hex "01 00 03 00 08 00 03 00 00 00 00") (refuses 3) ∷
-    raw (hex "01 00 03 00 08 00 02 00 00 00 00") (refuses 3) ∷
+    raw (hex "01 00 05 00 08 00 02 00 00 00") (refusesAt 3 2) ∷
+    raw (hex "01 00 03 01 08 00 02 00 00 00") (refusesAt 3 2) ∷
+    raw (hex "01 00 03 00 09 00 02 00 00 00 00") (refusesAt 3 2) ∷
+    raw (hex "01 00 03 00 08 00 03 00 00 00 00") (refusesAt 3 10) ∷
+    raw (hex "01 00 03 00 08 00 02 00 00 00 00") (refusesAt 3 10) ∷
     raw (hex "01 02") (refuses 3) ∷
     -- an unknown tag, and a flag that is neither 0 nor 1
-    raw (hex "01 00 01 00 08 00 08 00 01 65 00 00 11 00 00 00") (refuses 3) ∷
-    raw (hex "01 00 01 00 08 00 08 00 01 65 00 00 0D 00 00 02") (refuses 3) ∷
+    raw (hex "01 00 01 00 08 00 08 00 01 65 00 00 11 00 00 00") (refusesAt 3 12) ∷
+    raw (hex "01 00 01 00 08 00 08 00 01 65 00 00 0D 00 00 02") (refusesAt 3 15) ∷
     -- 4: C0 80, a surrogate, past U+10FFFF, a plain name with '.'; U+10FFFF itself is a character
-    raw (hex "01 00 02 00 08 00 05 00 02 C0 80 00 00") (refuses 4) ∷
-    raw (hex "01 00 02 00 08 00 06 00 03 ED A0 80 00 00") (refuses 4) ∷
-    raw (hex "01 00 02 00 08 00 07 00 04 F4 90 80 80 00 00") (refuses 4) ∷
-    raw (hex "01 00 02 00 08 00 04 00 01 2E 00 00") (refuses 4) ∷
+    raw (hex "01 00 02 00 08 00 05 00 02 C0 80 00 00") (refusesAt 4 8) ∷
+    raw (hex "01 00 02 00 08 00 06 00 03 ED A0 80 00 00") (refusesAt 4 8) ∷
+    raw (hex "01 00 02 00 08 00 07 00 04 F4 90 80 80 00 00") (refusesAt 4 8) ∷
+    raw (hex "01 00 02 00 08 00 04 00 01 2E 00 00") (refusesAt 4 8) ∷
     raw (hex "01 00 02 00 08 00 07 00 04 F4 8F BF BF 00 00") (becomes 0 (constant (hex "F4 8F BF BF") [] ∷ [])) ∷
     -- reading 10: a count larger than what is left is no fault of the count
-    raw (hex "01 00 04 00 08 00 05 00 00 03 00 01 2E") (refuses 4) ∷
+    raw (hex "01 00 04 00 08 00 05 00 00 03 00 01 2E") (refusesAt 4 11) ∷
     -- reading 11: a name that runs past its body is 3, whatever its bytes are
-    raw (hex "01 00 02 00 08 00 02 00 05 C0") (refuses 3) ∷
+    raw (hex "01 00 02 00 08 00 02 00 05 C0") (refusesAt 3 8) ∷
     -- reading 12: a byte behind the last body is 3 before a body's 4
-    raw (hex "01 00 02 00 08 00 04 00 01 2E 00 00 00") (refuses 3) ∷
+    raw (hex "01 00 02 00 08 00 04 00 01 2E 00 00 00") (refusesAt 3 12) ∷
     -- 5: 63 Vecs pass, 64 do not; 63 macro calls around an argument pass, 64 do not; a chain in the 63rd Vec is too deep; a tag at level 65 with nothing behind it; an unknown tag there is 3
     tree (m (vecs 63 (plain Nothing))) (becomes 0 (m (vecs 63 (plain Nothing)))) ∷
-    tree (m (vecs 64 (plain Nothing))) (refuses 5) ∷
+    tree (m (vecs 64 (plain Nothing))) (refusesAt 5 76) ∷
     tree (m (plain (nested 63))) (becomes 0 (m (plain (nested 63)))) ∷
-    tree (m (plain (nested 64))) (refuses 5) ∷
-    tree (m (vecs 63 (chained Nothing (plain Nothing)))) (refuses 5) ∷
-    raw (hex "01 00 01 00 08 00 45 00 01 76 00 00" ++ replicate 64 8 ++ hex "0D") (refuses 5) ∷
-    raw (hex "01 00 01 00 08 00 45 00 01 76 00 00" ++ replicate 64 8 ++ hex "11") (refuses 3) ∷
-    -- where the fault stands: the count, an entry, leftover bytes, a tag, a name
-    faults (hex "01") 3 0 ∷
-    faults (hex "01 00 05 00 08 00 02 00 00 00") 3 2 ∷
-    faults (hex "01 00 03 00 08 00 03 00 00 00 00") 3 10 ∷
-    faults (hex "01 00 01 00 08 00 08 00 01 65 00 00 11 00 00 00") 3 12 ∷
-    faults (hex "01 00 04 00 08 00 05 00 00 03 00 01 2E") 4 11 ∷
+    tree (m (plain (nested 64))) (refusesAt 5 332) ∷
+    tree (m (vecs 63 (chained Nothing (plain Nothing)))) (refusesAt 5 79) ∷
+    raw (hex "01 00 01 00 08 00 45 00 01 76 00 00" ++ replicate 64 8 ++ hex "0D") (refusesAt 5 76) ∷
+    raw (hex "01 00 01 00 08 00 45 00 01 76 00 00" ++ replicate 64 8 ++ hex "11") (refusesAt 3 76) ∷
     []
 
 unfoldable pub macroRows : List Row
@@ -177,7 +171,7 @@ saidRows =
     lists (wBook (fmt "%" (param "n" Nothing ∷ []) (plain Enum) ∷ constant (utf8 "-") [] ∷ constant [] [] ∷ constant (utf8 "é /~") [] ∷ byte-order [] ∷ [])) "ok 5 0\nformat %25 1\nconst %2D\nconst -\nconst %C3%A9%20/~\norder\n" ∷
     lists (wBook (constant (utf8 "--") [] ∷ [])) "ok 1 0\nconst --\n" ∷
     lists (wBook (m (one "h" H))) "refused 8\n" ∷
-    lists [] "refused 3\n" ∷
+    lists [] "refused 3 at 0\n" ∷
     []
 
 unfoldable pub table : List Row

@@ -12,7 +12,7 @@ use Rattle.definition.specs.Bodies.{everyInvocation, chainsOk, everyBody
 use Rattle.definition.specs.Lift.{names}
 use Rattle.definition.specs.Contents.{readBook}
 use Rattle.definition.specs.Macros.{expandBook}
-use Rattle.definition.specs.Answer.{expanded}
+use Rattle.definition.specs.Answer.{expanded, faultAt}
 
 -- "every Invocation in a format body, macro arguments aside, names a kind 1 or 2 definition"
 unfoldable pub callsKnown : List Definition → Bool
@@ -29,17 +29,18 @@ tested book workLength = do
   ds ← expanded b
   done (callsKnown ds && chainsPlain ds)
 
--- the answer in numbers: the code, and 1 for yes
+-- the answer in numbers: the code, 1 for yes, and the offset of the item at fault (document 02 a)
 pub record PremiseAnswer : Type 0 where
   pub code : ℕ
   pub holds : ℕ
+  pub at : ℕ
 
-unfoldable pub told : Out Bool → PremiseAnswer
-told (refused k) = record { code = number k; holds = 0 }
-told (done true) = record { code = 0; holds = 1 }
-told (done false) = record { code = 0; holds = 0 }
+unfoldable pub told : ℕ → Out Bool → PremiseAnswer
+told p (refused k) = record { code = number k; holds = 0; at = p }
+told p (done true) = record { code = 0; holds = 1; at = 0 }
+told p (done false) = record { code = 0; holds = 0; at = 0 }
 
 -- "The work area is all zero afterwards": `zeroed` of Answer
 unfoldable pub premise : List ℕ → ℕ → PremiseAnswer
-unfolding number everyInvocation chainsOk everyBody callsKnown chainsPlain expanded readBook expandBook eqName elem bytesOrTail isTail names tested told
-premise book workLength = told (tested book workLength)
+unfolding number everyInvocation chainsOk everyBody callsKnown chainsPlain expanded readBook expandBook eqName elem bytesOrTail isTail names tested told faultAt
+premise book workLength = told (faultAt book workLength) (tested book workLength)

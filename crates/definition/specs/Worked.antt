@@ -16,8 +16,13 @@ use Rattle.definition.specs.Notation.{hex, Int, Enum, Nothing, Bytes, Ve
 
 -- what comes of a book: a code, or the result's tree and bytes and the count lifted
 pub data Outcome : Type 0 where
-  refuses : ℕ → Outcome
+  -- a code, and the place of the item at fault
+  refusesAt : ℕ → ℕ → Outcome
   gives : ℕ → List Definition → List ℕ → Outcome
+
+-- a code without a place
+abbrev pub refuses : ℕ → Outcome
+refuses k = refusesAt k 0
 
 pub record Row : Type 0 where
   -- no tree: the bytes are no book
@@ -139,16 +144,16 @@ bytesOf absent b = b
 bytesOf (just ds) b = wBook ds
 
 abbrev treeOf : Outcome → List ℕ
-treeOf (refuses k) = []
+treeOf (refusesAt k p) = []
 treeOf (gives n ds b) = wBook ds
 
 abbrev resultOf : Outcome → List ℕ
-resultOf (refuses k) = []
+resultOf (refusesAt k p) = []
 resultOf (gives n ds b) = b
 
 abbrev pub answerOf : Outcome → Answer
-answerOf (refuses k) = record { code = k; size = 0; definitions = 0; lifts = 0 }
-answerOf (gives n ds b) = record { code = 0; size = length b; definitions = length ds; lifts = n }
+answerOf (refusesAt k p) = record { code = k; size = 0; definitions = 0; lifts = 0; at = p }
+answerOf (gives n ds b) = record { code = 0; size = length b; definitions = length ds; lifts = n; at = 0 }
 
 abbrev pub noise : ℕ → List ℕ
 noise n = replicate n 170

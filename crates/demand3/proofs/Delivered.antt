@@ -14,7 +14,7 @@ use Rattle.definition.specs.Out.{Out, refused, done, given}
 use Rattle.definition.specs.Tree.{Definition}
 use Rattle.definition.specs.Contents.{readBook}
 use Rattle.definition.specs.Write.{wBook}
-use Rattle.definition.specs.Answer.{expanded, Result, all, answered, attempt, answer, output}
+use Rattle.definition.specs.Answer.{expanded, Result, all, answered, faultAt, attempt, answer, output}
 use Rattle.definition.specs.Premise.{callsKnown, chainsPlain, tested, told, premise}
 use Rattle.laws.specs.Laws.{AcceptedBy}
 use Rattle.laws.proofs.Tests.{both-true}
@@ -29,9 +29,9 @@ module _ (expansion : Out (List Definition)) (r : Result) (c : Comes expansion r
   abbrev bytesOf : List ℕ
   bytesOf = wBook (all r)
 
-  written : readBook bytesOf ≡ ok (all r) [] → DeliveredFrom expansion (answered (done r)) (bytesOf ++ drop (length bytesOf) out)
+  written : (p : ℕ) → readBook bytesOf ≡ ok (all r) [] → DeliveredFrom expansion (answered p (done r)) (bytesOf ++ drop (length bytesOf) out)
   unfolding answered
-  written e =
+  written p e =
       let n : length (all r) - length (r .lifted) ≡ length (r .kept) = simp length-append (omega arith) in
       record {
         list = c .list;
@@ -44,21 +44,21 @@ module _ (expansion : Out (List Definition)) (r : Result) (c : Comes expansion r
       }
 
 -- whichever way the list was expanded: what is accepted, and comes from the expansion, is delivered
-pub delivered : (expansion : Out (List Definition)) (m : Out Result) (out after : List ℕ) (k : AcceptedBy m out after) → Comes expansion (k .result) → DeliveredFrom expansion (answered m) after
-delivered expansion m out after k c = rw (k .fills, k .attempted) (written expansion (k .result) c out (k .reads))
+pub delivered : (p : ℕ) (expansion : Out (List Definition)) (m : Out Result) (out after : List ℕ) (k : AcceptedBy m out after) → Comes expansion (k .result) → DeliveredFrom expansion (answered p m) after
+delivered p expansion m out after k c = rw (k .fills, k .attempted) (written expansion (k .result) c out p (k .reads))
 
 pub accepted-is-delivered : AcceptedIsDelivered
 unfolding answer
 accepted-is-delivered book out w b a after e f z =
     let k = result-is-book book out w b (rw e at z) in
-    rw (e, f) (delivered (expanded book) (attempt book (length out) w) out (output book out w) k (yielded (attempt-yields (Comes (expanded book)) book (comes book b) (length out) w) (k .attempted) .0))
+    rw (e, f) (delivered (faultAt book w) (expanded book) (attempt book (length out) w) out (output book out w) k (yielded (attempt-yields (Comes (expanded book)) book (comes book b) (length out) w) (k .attempted) .0))
 
 -- the premise test
-told-yes : (m : Out Bool) → told m .holds ≡ 1 → m ≡ done true
+told-yes : (p : ℕ) (m : Out Bool) → told p m .holds ≡ 1 → m ≡ done true
 unfolding told
-told-yes (refused k) h = absurd (omega arith)
-told-yes (done true) h = refl
-told-yes (done false) h = absurd (omega arith)
+told-yes p (refused k) h = absurd (omega arith)
+told-yes p (done true) h = refl
+told-yes p (done false) h = absurd (omega arith)
 
 yes-premises : (book : List ℕ) (w : ℕ) → tested book w ≡ done true → (65536 ≤ w) × Premises book
 unfolding tested
@@ -75,6 +75,6 @@ premises-yes book w h p = rw (le-leb 65536 w h, p .expands, calls-known (p .list
 pub yes-is-premises : YesIsPremises
 unfolding premise told
 yes-is-premises book w = (
-  (λ h. yes-premises book w (told-yes (tested book w) (h .1))),
+  (λ h. yes-premises book w (told-yes (faultAt book w) (tested book w) (h .1))),
   (λ h. rw (premises-yes book w (h .0) (h .1)) (refl, refl)),
 )

@@ -170,6 +170,6 @@ attempt-again ds e o w p q =
     let b : leb (length (wBook ds)) o ≡ true = le-leb (length (wBook ds)) o q in
     rw (a, twice ds e, append-nil ds, b)
 
-pub answer-again : (ds : List Definition) → Ends ds → (o w : ℕ) → 65536 ≤ w → length (wBook ds) ≤ o → answer (wBook ds) o w ≡ record { code = 0; size = length (wBook ds); definitions = length ds; lifts = 0 }
+pub answer-again : (ds : List Definition) → Ends ds → (o w : ℕ) → 65536 ≤ w → length (wBook ds) ≤ o → answer (wBook ds) o w ≡ record { code = 0; size = length (wBook ds); definitions = length ds; lifts = 0; at = 0 }
 unfolding answer answered
 answer-again ds e o w p q = rw (attempt-again ds e o w p q, append-nil ds)

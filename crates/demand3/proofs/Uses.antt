@@ -7,11 +7,12 @@ use Prim.Native.Nat.{ℕ}
 use lib.Dec.{eqb}
 use borrow.Author.Tests.{eqb-true, eqb-false, ne-eqb}
 use Rattle.definition.specs.Tree.{Name, Shell, wrap, vec, option, array, Selector, none, by, FieldKind, ordinary, dependent, Combinator, plain, chained, Inner, leaf, struct, choice, shell, bytes, invocation, macro-invocation, Fields, no-field, field, const, Cases, no-case, case}
-use Rattle.definition.specs.Names.{eqName, elem, remove, root, sorted}
+use Rattle.definition.specs.Names.{elem, root, sorted}
 use Rattle.definition.specs.Collect.{bytesOrTail, only, selectorUses, shellUses, unbound, free, freeI, freeF, freeC}
 use Rattle.laws.specs.Lists.{Distinct}
+use Rattle.laws.proofs.Collected.{stays, stayed}
 use Rattle.laws.proofs.Tests.{by-test, not-both}
-use Rattle.laws.proofs.Members.{eqName-true, eqName-refl, elem-in, in-elem}
+use Rattle.laws.proofs.Members.{elem-in, in-elem}
 use Rattle.laws.proofs.Order.{elem-sorted, sorted-distinct}
 use Rattle.demand3.specs.Words.{PlainChains, PlainChainsI, PlainChainsF, PlainChainsC, Root, SomeRoot, SelectorUse, ShellUse, Past, Unbound, UnboundI, UnboundF, UnboundC}
 use Rattle.demand3.specs.Shortest.{NoneTwice, Shortest}
@@ -80,24 +81,6 @@ use-shell (wrap a b) u w = absurd (List·Memᴰ·not-nil w)
 use-shell vec u w = absurd (List·Memᴰ·not-nil w)
 use-shell option u w = absurd (List·Memᴰ·not-nil w)
 use-shell (array l) u w = w
-
--- binders
-stays : (l u : Name) (ns : List Name) → (u ≡ l → ⊥) → List·Memᴰ u ns → List·Memᴰ u (remove l ns)
-unfolding remove
-stays l u [] h w = absurd (List·Memᴰ·not-nil w)
-stays l u (m ∷ ns) h w = by-test (eqName l m)
-    (λ q. rw q (⊎-elim (λ e. absurd (h (e ∙ sym (eqName-true l m q)))) (λ t. stays l u ns h t) (List·Memᴰ·cases-cons w)))
-    (λ q. rw q (⊎-elim (λ e. List·Memᴰ·head e) (λ t. List·Memᴰ·tail (stays l u ns h t)) (List·Memᴰ·cases-cons w)))
-
-stayed : (l u : Name) (ns : List Name) → List·Memᴰ u (remove l ns) → (u ≡ l → ⊥) × List·Memᴰ u ns
-unfolding remove
-stayed l u [] w = absurd (List·Memᴰ·not-nil w)
-stayed l u (m ∷ ns) w = by-test (eqName l m)
-    (λ q. let v = stayed l u ns (rw q at w) in (v .0, List·Memᴰ·tail (v .1)))
-    (λ q. ⊎-elim
-    (λ e. ((λ e₂. not-both (eqName l m) (rw (← e, e₂) (eqName-refl l)) q), List·Memᴰ·head e))
-    (λ t. let v = stayed l u ns t in (v .0, List·Memᴰ·tail (v .1)))
-    (List·Memᴰ·cases-cons (rw q at w)))
 
 past : (k : FieldKind) (l u : Name) (X : Type 0) (ns : List Name) → (X → List·Memᴰ u ns) → Past k l u X → List·Memᴰ u (unbound k l ns)
 unfolding unbound

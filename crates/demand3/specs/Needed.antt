@@ -79,7 +79,7 @@ seen r = record { result = elaborated (wBook (r .list)); told = premise (wBook (
 
 -- each of them is accepted, and for each the premise test says no
 unfoldable pub expected : Row → Seen
-expected r = record { result = done (record { kept = r .kept; lifted = r .lifted }); told = record { code = 0; holds = 0 }; back = r .after }
+expected r = record { result = done (record { kept = r .kept; lifted = r .lifted }); told = record { code = 0; holds = 0; at = 0 }; back = r .after }
 
 unfoldable pub table : List Row
 table = endless ∷ mistaken ∷ unmoved ∷ loose ∷ []

@@ -161,5 +161,5 @@ pub record Trial : Type 0 where
   pub other-arguments : Demand3 source (packing (call "p_a" ("k" ∷ "k" ∷ []))) rightMade → ⊥
   pub other-order : Demand3 source (packing (call "p_a" ("n" ∷ "k" ∷ []))) rightMade → ⊥
   -- of the empty book: an answer that counts a definition and a lift, and one that counts a lift alone
-  pub counted-too-many : DeliveredFrom (done []) (record { code = 0; size = 2; definitions = 1; lifts = 1 }) (0 ∷ 0 ∷ []) → ⊥
-  pub lifts-too-many : DeliveredFrom (done []) (record { code = 0; size = 2; definitions = 0; lifts = 1 }) (0 ∷ 0 ∷ []) → ⊥
+  pub counted-too-many : DeliveredFrom (done []) (record { code = 0; size = 2; definitions = 1; lifts = 1; at = 0 }) (0 ∷ 0 ∷ []) → ⊥
+  pub lifts-too-many : DeliveredFrom (done []) (record { code = 0; size = 2; definitions = 0; lifts = 1; at = 0 }) (0 ∷ 0 ∷ []) → ⊥

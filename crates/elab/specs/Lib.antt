@@ -1,1 +1,2 @@
 pub mod Delivers
+pub mod Only

@@ -1,6 +1,6 @@
 -- The nested mode's answer, from what the passes and the lifts say.
 -- Assumes nothing.
-use mathlib.Core.Path.{_≡_, refl, _∙_}
+use mathlib.Core.Path.{_≡_, refl, sym, _∙_}
 use mathlib.Core.List.{List, []}
 use mathlib.Core.Bool.{Bool, true, false}
 use Prim.Native.Nat.{ℕ, _≤_}
@@ -13,10 +13,10 @@ use Rattle.definition.specs.Tree.{Definition}
 use Rattle.definition.specs.Write.{wBook}
 use Rattle.definition.specs.Macros.{macros}
 use Rattle.definition.specs.Lift.{liftBook}
-use Rattle.definition.specs.Answer.{Result, all, outcome}
+use Rattle.definition.specs.Answer.{Result, all, outcome, faultAt}
 use Rattle.laws.specs.Book.{Bytes}
 use Rattle.laws.proofs.Steps.{grouped-out}
-use Rattle.nested.specs.Nested.{again, expandedNested, elaboratedNested, attemptNested, answerNested, outputNested}
+use Rattle.nested.specs.Nested.{again, expandedNested, elaboratedNested, attemptNested, outputNested}
 use Rattle.open_book.specs.declared.opened.Opened.the-variants.{Book, Refused as Stopped}
 use Rattle.open_book.specs.opened.Opens.{Opens}
 use Rattle.expand_nested.specs.declared.passes.Passes.{Passes}
@@ -24,15 +24,15 @@ use Rattle.expand_nested.specs.declared.passes.Passes.the-variants.{Book as Las
 use Rattle.expand_nested.specs.passes.Repeats.{AgainBy, Again}
 use Rattle.what_comes_back.specs.declared.Elaborated.{Elaborated}
 use Rattle.what_comes_back.specs.declared.Elaborated.the-variants.{Refused}
-use Rattle.what_comes_back.specs.Elaborates.{reported, Reports, lifted, Expanded, Lifts}
+use Rattle.what_comes_back.specs.Elaborates.{elaboratedAs, Reports, lifted, Expanded, Lifts}
 use Rattle.what_comes_back.proofs.Reporting.{reports-refused, reports-lifted}
 use Rattle.elaborate_nested.specs.OpensNested.{openedNested, OpensNested}
 use Rattle.elaborate_nested.proofs.Source.{source-written, nested-refused, nested-more, opened-long, nested-long}
 
 module _ {b : List ℕ} {n m : ℕ} {area : List ℕ} (lm : m ≡ 16384) where
   -- codes 1 to 6
-  pub opens-code : {code : ℕ} {area′ : List ℕ} → Opens b n m area (Stopped code) → OpensNested b n area′ (Stopped code)
-  opens-code o = record { by = record { reason = o .by lm .reason; is = nested-refused b n (o .by lm .is); numbered = o .by lm .numbered } }
+  pub opens-code : {code at : ℕ} {area′ : List ℕ} → Opens b n m area (Stopped code at) → OpensNested b n area′ (Stopped code at)
+  opens-code o = record { by = record { reason = o .by lm .reason; is = nested-refused b n (o .by lm .is); numbered = o .by lm .numbered }; placed = o .placed }
 
   module _ {len : ℕ} (o : Opens b n m area (Book len)) where
     pub areas-long : 32768 ≤ n
@@ -45,18 +45,18 @@ module _ {b : List ℕ} {n m : ℕ} {area : List ℕ} (lm : m ≡ 16384) where
           let w = source-written b small ds i in
           go ds e (v .says ds (o .by lm .left) (w .0) (w .1) (o .by lm .holds) (o .by lm .isBook) (o .by lm .fits) (long ∙ lm) la ln)
 
-      pub opens-6 : r ≡ Grown → OpensNested b n area′ (Stopped 6)
+      pub opens-6 : r ≡ Grown → OpensNested b n area′ (Stopped 6 0)
       unfolding number
-      opens-6 q = more λ ds e a. record { by = record { reason = macro-growth; is = e ∙ (rw q at a); numbered = refl } }
+      opens-6 q = more λ ds e a. record { by = record { reason = macro-growth; is = e ∙ (rw q at a); numbered = refl }; placed = sym (o .placed) }
 
-      pub opens-12 : r ≡ Left → OpensNested b n area′ (Stopped 12)
+      pub opens-12 : r ≡ Left → OpensNested b n area′ (Stopped 12 0)
       unfolding number
-      opens-12 q = more λ ds e a. record { by = record { reason = macro-left; is = e ∙ (rw q at a); numbered = refl } }
+      opens-12 q = more λ ds e a. record { by = record { reason = macro-left; is = e ∙ (rw q at a); numbered = refl }; placed = sym (o .placed) }
 
       pub opens-last : (len′ : ℕ) → r ≡ Last len′ → OpensNested b n area′ (Book len′)
       opens-last len′ q = more λ ds e a.
           let s = rw q at a in
-          record { by = record { left = s .list; is = e ∙ s .is; isBook = s .isBook; holds = s .holds; fits = s .fits } }
+          record { by = record { left = s .list; is = e ∙ s .is; isBook = s .isBook; holds = s .holds; fits = s .fits }; placed = o .placed }
 
 -- 7 to 11
 attempt-is : (b : List ℕ) (o n : ℕ) → attemptNested b o n ≡ (openedNested b n >>= λ ds. lifted ds o)
@@ -71,8 +71,8 @@ attempt-is b o n = both (leb 65536 n)
     both false = refl
 
 module _ {b : List ℕ} {n : ℕ} {book : List ℕ} where
-  pub reports-code : {out : List ℕ} {code : ℕ} → OpensNested b n book (Stopped code) → Reports (attemptNested b (length out) n) out out (Refused code)
-  reports-code {out} o = rw (attempt-is b (length out) n) (reports-refused (o .by .is) (o .by .numbered))
+  pub reports-code : {out : List ℕ} {code at : ℕ} → OpensNested b n book (Stopped code at) → Reports (faultAt b n) (attemptNested b (length out) n) out out (Refused code at)
+  reports-code {out} o = rw (attempt-is b (length out) n) (reports-refused (o .by .is) (o .by .numbered) (o .placed))
 
   module _ {len : ℕ} (o : OpensNested b n book (Book len)) where
     pub work-long : 65536 ≤ n
@@ -81,12 +81,11 @@ module _ {b : List ℕ} {n : ℕ} {book : List ℕ} where
     pub opened-book : Expanded (take len book)
     opened-book = record { of = o .by .left; book = o .by .holds; isBook = o .by .isBook }
 
-    pub reports-lifts : {out out′ : List ℕ} {r : Elaborated} → Lifts (take len book) out out′ r → Reports (attemptNested b (length out) n) out out′ r
-    reports-lifts {out} l = rw (attempt-is b (length out) n) (reports-lifted (o .by .is) (o .by .holds) (o .by .isBook) l)
+    pub reports-lifts : {out out′ : List ℕ} {r : Elaborated} → Lifts (take len book) out out′ r → Reports (faultAt b n) (attemptNested b (length out) n) out out′ r
+    reports-lifts {out} l = rw (attempt-is b (length out) n) (reports-lifted (o .placed) (o .by .is) (o .by .holds) (o .by .isBook) l)
 
-module _ (b : List ℕ) {out out′ : List ℕ} (n : ℕ) {r : Elaborated} (p : Reports (attemptNested b (length out) n) out out′ r) where
-  pub answers-it : reported r ≡ answerNested b (length out) n
-  unfolding answerNested
+module _ (b : List ℕ) {out out′ : List ℕ} (n : ℕ) {r : Elaborated} (p : Reports (faultAt b n) (attemptNested b (length out) n) out out′ r) where
+  pub answers-it : r ≡ elaboratedAs (faultAt b n) (attemptNested b (length out) n)
   answers-it = p .answers
 
   pub fills-it : out′ ≡ outputNested b out n

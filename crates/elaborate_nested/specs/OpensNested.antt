@@ -5,9 +5,10 @@ use lib.Dec.{leb}
 use Rattle.definition.specs.Code.{work-short}
 use Rattle.definition.specs.Out.{Out, _>>=_, given}
 use Rattle.definition.specs.Tree.{Definition}
+use Rattle.definition.specs.Answer.{faultAt}
 use Rattle.nested.specs.Nested.{expandedNested}
 use Rattle.open_book.specs.declared.opened.Opened.{Opened}
-use Rattle.open_book.specs.opened.Opens.{OpensBy}
+use Rattle.open_book.specs.opened.Opens.{OpensBy, PlacedBy}
 
 -- 1, then 2 to 6 and 12
 unfoldable pub openedNested : List ℕ → ℕ → Out (List Definition)
@@ -15,3 +16,4 @@ openedNested book workLength = given (leb 65536 workLength) work-short book >>= 
 
 pub record OpensNested (book : List ℕ) (workLength : ℕ) (out : List ℕ) (r : Opened) : Type 0 where
   pub by : OpensBy (openedNested book workLength) out r
+  pub placed : PlacedBy (faultAt book workLength) r

@@ -12,14 +12,14 @@ use Rattle.laws.proofs.Tests.{by-test, not-both, either}
 use Rattle.laws.proofs.Members.{eqName-true, eqName-refl}
 
 -- names without one of them
-stays : (l n : Name) (ns : List Name) → (n ≡ l → ⊥) → List·Memᴰ n ns → List·Memᴰ n (remove l ns)
+pub stays : (l n : Name) (ns : List Name) → (n ≡ l → ⊥) → List·Memᴰ n ns → List·Memᴰ n (remove l ns)
 unfolding remove
 stays l n [] h w = absurd (List·Memᴰ·not-nil w)
 stays l n (m ∷ ns) h w = by-test (eqName l m)
     (λ q. rw q (⊎-elim (λ e. absurd (h (e ∙ sym (eqName-true l m q)))) (λ t. stays l n ns h t) (List·Memᴰ·cases-cons w)))
     (λ q. rw q (⊎-elim (λ e. List·Memᴰ·head e) (λ t. List·Memᴰ·tail (stays l n ns h t)) (List·Memᴰ·cases-cons w)))
 
-stayed : (l n : Name) (ns : List Name) → List·Memᴰ n (remove l ns) → (n ≡ l → ⊥) × List·Memᴰ n ns
+pub stayed : (l n : Name) (ns : List Name) → List·Memᴰ n (remove l ns) → (n ≡ l → ⊥) × List·Memᴰ n ns
 unfolding remove
 stayed l n [] w = absurd (List·Memᴰ·not-nil w)
 stayed l n (m ∷ ns) w = by-test (eqName l m)

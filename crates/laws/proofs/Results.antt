@@ -1,13 +1,14 @@
 -- From the bytes of a book to the result: what is read, expanded and lifted a book can hold.
 use mathlib.Core.Path.{_≡_, refl, ap, _∙_}
 use mathlib.Core.List.{List, _++_}
+use mathlib.Core.Bool.{Bool, true, false}
 use Prim.Native.Nat.{ℕ, _≤_}
 use native.Mathlib.Omega.{arith}
 use lib.Dec.{leb}
 use lib.ListN.{length}
 use borrow.Author.Tests.{leb-true}
 use Rattle.definition.specs.Code.{Code, number, work-short, book-long, not-a-book, bad-name, too-deep, macro-growth, leftover-macro, no-binder, name-long, result-long, output-short, macro-left}
-use Rattle.definition.specs.Res.{Res}
+use Rattle.definition.specs.Res.{Res, bad, ok}
 use Rattle.definition.specs.Out.{Out, refused, done}
 use Rattle.definition.specs.Tree.{Definition}
 use Rattle.definition.specs.Contents.{book, readBook}
@@ -15,7 +16,7 @@ use Rattle.definition.specs.Write.{wBook}
 use Rattle.definition.specs.Size.{sizeBook}
 use Rattle.definition.specs.Macros.{expandList, expandBook}
 use Rattle.definition.specs.Lift.{full, State, walkAll, start, liftBook}
-use Rattle.definition.specs.Answer.{out, source, expanded, Result, outcome, elaborated, all, attempt, answered, answer, filled, output}
+use Rattle.definition.specs.Answer.{out, source, expanded, Result, outcome, elaborated, all, attempt, answered, place, whereRead, faultOf, faultAt, answer, filled, output}
 use Rattle.laws.specs.Book.{Bytes, IsBook}
 use Rattle.laws.specs.Lists.{NoMacro}
 use Rattle.laws.specs.Laws.{ExpandedIsBook, WrittenIsRead, ReadIsWritten, AcceptedBy, ResultIsBook}
@@ -110,19 +111,29 @@ positive output-short e = absurd (omega arith)
 positive macro-left e = absurd (omega arith)
 
 -- code 0: there is a result
-pub code-done : {X : Type 0} (m : Out Result) → answered m .code ≡ 0 → ((r : Result) → m ≡ done r → X) → X
+pub code-done : {X : Type 0} (p : ℕ) (m : Out Result) → answered p m .code ≡ 0 → ((r : Result) → m ≡ done r → X) → X
 unfolding answered
-code-done (refused k) e go = positive k e
-code-done (done r) e go = go r refl
+code-done p (refused k) e go = positive k e
+code-done p (done r) e go = go r refl
 
 -- where all results of an attempt are books that fit, one with code 0 is accepted
-pub accepted-by : (m : Out Result) (o : List ℕ) → Yields (λ r. IsBook (all r) × (length (wBook (all r)) ≤ length o)) m → answered m .code ≡ 0 → AcceptedBy m o (filled m o)
+pub accepted-by : (p : ℕ) (m : Out Result) (o : List ℕ) → Yields (λ r. IsBook (all r) × (length (wBook (all r)) ≤ length o)) m → answered p m .code ≡ 0 → AcceptedBy m o (filled m o)
 unfolding filled
-accepted-by m o y e = code-done m e λ r g.
+accepted-by p m o y e = code-done p m e λ r g.
     let k = yielded y g in
     let z = written-is-read (all r) (k .0) in
     record { result = r; attempted = g; isBook = k .0; small = z .0; reads = z .1; fits = k .1; fills = rw g }
 
 pub result-is-book : ResultIsBook
 unfolding answer output
-result-is-book s o w h e = accepted-by (attempt s (length o) w) o (attempt-yields (λ r. IsBook (all r)) s (elaborated-book s h) (length o) w) e
+result-is-book s o w h e = accepted-by (faultAt s w) (attempt s (length o) w) o (attempt-yields (λ r. IsBook (all r)) s (elaborated-book s h) (length o) w) e
+
+-- the item at fault stands in the book, or at its end
+pub fault-inside : (s : List ℕ) → faultOf s ≤ 16384
+unfolding faultOf place
+fault-inside s = of (leb (length s) 16384) refl (readBook s)
+  where
+    of : (t : Bool) → leb (length s) 16384 ≡ t → (m : Res (List ℕ) (List Definition)) → whereRead t (place s m) ≤ 16384
+    of true e (bad k z) = omega (arith, leb-true (length s) 16384 e)
+    of true e (ok ds z) = omega arith
+    of false e m = omega arith

@@ -46,10 +46,10 @@ pub(crate) fn lift_with(
 {
     let body = expand_definitions(s, ends, binders, bound, uses, spare, sheet, number);
     match body {
-        Body::Refused(code) => Elaborated::Refused { code },
+        Body::Refused(code) => Elaborated::Refused { code, at: 0 },
         Body::Named(counts, n) => {
             if out.len() < counts.bytes {
-                return Elaborated::Refused { code: 11 };
+                return Elaborated::Refused { code: 11, at: 0 };
             }
             let length = counts.bytes as u16;
             let definitions = counts.defns as u16;

@@ -24,7 +24,7 @@ pub(crate) fn lift_nothing(s: &[u8], out: &mut [u8]) -> Elaborated
     ensures { λ r. ⌜ Lifts (now (s .entry)) (now (out .entry)) (now (out .exit)) r ⌝ }
 {
     if !copy_book(s, out) {
-        return Elaborated::Refused { code: 11 };
+        return Elaborated::Refused { code: 11, at: 0 };
     }
     let length = s.len() as u16;
     let definitions = number(s, 0);

@@ -2,8 +2,8 @@
 use libc::STDIN_FILENO;
 use libc::STDOUT_FILENO;
 use listing_lines::lines::put_lines;
-use listing_lines::words::Mode;
-use listing_lines::words::mode_of;
+use words::Mode;
+use words::mode_of;
 
 // One byte more than the longest book has: so a longer one is refused with no more of it read.
 fn list(nested: bool) {

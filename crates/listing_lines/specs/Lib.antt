@@ -3,4 +3,3 @@ pub mod refusal
 pub mod printed
 pub mod answers
 pub mod lines
-pub mod words

@@ -21,7 +21,7 @@ pub(crate) fn put_answer(answer: Elaborated, out: &[u8], text: &mut [u8]) -> usi
     ensures { λ r. ⌜ Prints answer (now (out .entry)) (now (text .entry)) (now (text .exit)) r ⌝ }
 {
     match answer {
-        Elaborated::Refused { code } => put_refusal(code, text),
+        Elaborated::Refused { code, at } => put_refusal(code, at, text),
         Elaborated::Done {
             length,
             definitions,

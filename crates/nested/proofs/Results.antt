@@ -12,7 +12,7 @@ use Rattle.definition.specs.Tree.{Definition}
 use Rattle.definition.specs.Write.{wBook}
 use Rattle.definition.specs.Macros.{Macro, macros}
 use Rattle.definition.specs.Lift.{full, walkAll, start}
-use Rattle.definition.specs.Answer.{Result, all}
+use Rattle.definition.specs.Answer.{Result, all, faultAt}
 use Rattle.laws.specs.Book.{Bytes, IsBook}
 use Rattle.laws.specs.Lists.{NoMacro}
 use Rattle.laws.proofs.Steps.{Gives, Yields, stops, yields, next, where-true, of-result, yielded}
@@ -56,11 +56,11 @@ attempt-yields P s h o w = next {P = λ b. Yields P (elaboratedNested b)} (where
 
 pub result-is-book : ResultIsBook
 unfolding answerNested outputNested
-result-is-book s o w h e = accepted-by (attemptNested s (length o) w) o (attempt-yields (λ r. IsBook (all r)) s (λ ds x. lifted-book ds (expanded-is-book s h ds x .0)) (length o) w) e
+result-is-book s o w h e = accepted-by (faultAt s w) (attemptNested s (length o) w) o (attempt-yields (λ r. IsBook (all r)) s (λ ds x. lifted-book ds (expanded-is-book s h ds x .0)) (length o) w) e
 
 pub accepted-is-delivered : AcceptedIsDelivered
 unfolding answerNested
 accepted-is-delivered book out w b a after e f z =
     let k = result-is-book book out w b (rw e at z) in
     let c = yielded (attempt-yields (Comes (expandedNested book)) book (λ ds x. walk-comes (expandedNested book) ds x (expanded-is-book book b ds x .1)) (length out) w) (k .attempted) .0 in
-    rw (e, f) (delivered (expandedNested book) (attemptNested book (length out) w) out (outputNested book out w) k c)
+    rw (e, f) (delivered (faultAt book w) (expandedNested book) (attemptNested book (length out) w) out (outputNested book out w) k c)

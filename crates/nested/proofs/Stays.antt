@@ -16,7 +16,7 @@ use Rattle.definition.specs.Write.{wBook}
 use Rattle.definition.specs.Macros.{Macro, macros, expandBy, expandMacro, expand, expandI, expandF, expandC, expandAll, expandList, expandBook}
 use Rattle.definition.specs.Bodies.{everyBody}
 use Rattle.definition.specs.Lift.{liftBook}
-use Rattle.definition.specs.Answer.{source, expanded, Result, all, outcome, elaborated, attempt, answered, answer, filled, output}
+use Rattle.definition.specs.Answer.{source, expanded, Result, all, outcome, elaborated, attempt, answered, faultAt, answer, filled, output}
 use Rattle.laws.specs.Lists.{NoMacro}
 use Rattle.laws.proofs.Tests.{both-true, not-both, not-true}
 use Rattle.laws.proofs.Results.{expand-says}
@@ -106,4 +106,4 @@ module _ (book : List ℕ) (h : (ds es : List Definition) → source book ≡ do
 
 pub settled-is-plain : SettledIsPlain
 unfolding answerNested answer outputNested output
-settled-is-plain book out w h = (ap (λ (m : Out Result). answered m) (same-attempt book h (length out) w), ap (λ (m : Out Result). filled m out) (same-attempt book h (length out) w))
+settled-is-plain book out w h = (ap (λ (m : Out Result). answered (faultAt book w) m) (same-attempt book h (length out) w), ap (λ (m : Out Result). filled m out) (same-attempt book h (length out) w))

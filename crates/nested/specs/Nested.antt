@@ -15,7 +15,7 @@ unfoldable pub use Rattle.definition.specs.Macros.{pass}
 use Rattle.definition.specs.Bodies.{everyBody}
 use Rattle.definition.specs.Contents.{readBook}
 use Rattle.definition.specs.Lift.{liftBook}
-use Rattle.definition.specs.Answer.{source, Result, outcome, expandedBy, liftedFrom, attemptBy, Answer, answered, filled}
+use Rattle.definition.specs.Answer.{source, Result, outcome, expandedBy, liftedFrom, attemptBy, Answer, answered, faultOf, faultAt, filled}
 use Rattle.definition.specs.Listing.{listed}
 
 -- every macro call passes a test, where the pass reaches (document 01, rule 2)
@@ -82,12 +82,12 @@ attemptNested book outLength workLength = attemptBy elaboratedNested book outLen
 
 -- what `listing --nested` prints
 abbrev pub listingNested : List ℕ → List ℕ
-listingNested book = listed (elaboratedNested book)
+listingNested book = listed (faultOf book) (elaboratedNested book)
 
 -- the answer of document 01's call
 unfoldable pub answerNested : List ℕ → ℕ → ℕ → Answer
-unfolding number answered outcome source attemptNested elaboratedNested expandedNested nestedList again until pass settled isMacro everyMacroCall everyBody eqName macros expandAll expandList expandBook sizeBook levelsBook readBook wBook liftBook
-answerNested book outLength workLength = answered (attemptNested book outLength workLength)
+unfolding number answered faultAt outcome source attemptNested elaboratedNested expandedNested nestedList again until pass settled isMacro everyMacroCall everyBody eqName macros expandAll expandList expandBook sizeBook levelsBook readBook wBook liftBook
+answerNested book outLength workLength = answered (faultAt book workLength) (attemptNested book outLength workLength)
 
 -- what the output holds afterwards; of the work area it is `zeroed` of document 01
 unfoldable pub outputNested : List ℕ → List ℕ → ℕ → List ℕ

@@ -10,7 +10,7 @@ use Rattle.definition.specs.Write.{wBook}
 use Rattle.definition.specs.Answer.{Answer, answer, output}
 use Rattle.definition.specs.Notation.{Int, Enum, Tail, Nothing, Bytes, Vec, Option, Array, Wrap, Call, ord, on, one, vecs, Macro, param, fmt, mac, m, long, fat}
 use Rattle.definition.specs.Rows.{Each}
-use Rattle.definition.specs.Worked.{Outcome, refuses, gives, answerOf, noise}
+use Rattle.definition.specs.Worked.{Outcome, refusesAt, refuses, gives, answerOf, noise}
 use Rattle.definition.specs.Asked.{becomes}
 use Rattle.nested.specs.Nested.{answerNested, outputNested}
 
@@ -23,7 +23,7 @@ pub record Row : Type 0 where
   pub nested : Outcome
 
 abbrev room : Outcome → ℕ
-room (refuses k) = 0
+room (refusesAt k p) = 0
 room (gives n ds b) = length b
 
 -- room for each result and one byte more
@@ -135,9 +135,9 @@ codeRows =
     -- 1 to 5 as in document 01, before the 12 of the same book
     record { book = wBook (looped []); out = 100; work = 65535; plainly = refuses 1; nested = refuses 1 } ∷
     alike (looped (m (fat 16384))) (refuses 2) ∷
-    raw (wBook (looped []) ++ 0 ∷ []) (refuses 3) (refuses 3) ∷
-    alike (looped (constant (utf8 ".") [] ∷ [])) (refuses 4) ∷
-    alike (looped (m (vecs 64 (plain Nothing)))) (refuses 5) ∷
+    raw (wBook (looped []) ++ 0 ∷ []) (refusesAt 3 34) (refusesAt 3 34) ∷
+    alike (looped (constant (utf8 ".") [] ∷ [])) (refusesAt 4 40) ∷
+    alike (looped (m (vecs 64 (plain Nothing)))) (refusesAt 5 108) ∷
     -- 6 in the second pass: the finished book has over 16,384 bytes, or 65 levels; the body of q has, though only its Nothing would be put in. 64 levels pass
     apart (def "q" (fat 900) ∷ def "p" (many 20 (use-of "q")) ∷ m (use-of "p")) (becomes 0 (m (many 20 (use-of "q")))) (refuses 6) ∷
     apart (def "q" (vecs 40 (plain Nothing)) ∷ def "p" (vecs 24 (use-of "q")) ∷ m (use-of "p")) (becomes 0 (m (vecs 24 (use-of "q")))) (refuses 6) ∷
@@ -171,11 +171,11 @@ pub record Seen : Type 0 where
   pub nested-output : List ℕ
 
 abbrev plainOutput : Outcome → Row → List ℕ
-plainOutput (refuses k) r = []
+plainOutput (refusesAt k p) r = []
 plainOutput (gives n ds b) r = output (r .book) (noise (r .out)) (r .work)
 
 abbrev nestedOutput : Outcome → Row → List ℕ
-nestedOutput (refuses k) r = []
+nestedOutput (refusesAt k p) r = []
 nestedOutput (gives n ds b) r = outputNested (r .book) (noise (r .out)) (r .work)
 
 unfoldable pub seen : Row → Seen
@@ -188,7 +188,7 @@ seen r = record {
 }
 
 abbrev filled : Outcome → ℕ → List ℕ
-filled (refuses k) o = []
+filled (refusesAt k p) o = []
 filled (gives n ds b) o = b ++ noise (o - length b)
 
 unfoldable pub expected : Row → Seen

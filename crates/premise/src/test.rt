@@ -6,18 +6,18 @@ use open_book::opened::open_book;
 use what_comes_back::Tested;
 ghost use mathlib.Core.Path.{_≡_};
 ghost use lib.ListN.{length};
-ghost use Rattle.definition.specs.Answer.{zeroed};
-ghost use Rattle.definition.specs.Premise.{premise};
-ghost use Rattle.what_comes_back.specs.Tells.{told};
+ghost use Rattle.definition.specs.Answer.{faultAt, zeroed};
+ghost use Rattle.definition.specs.Premise.{tested};
+ghost use Rattle.what_comes_back.specs.Tells.{testedAs};
 
 // The premise test, with the work area left as it is then.
 fn test(book: &[u8], work: &mut [u8]) -> Tested
-    ensures { λ r. ⌜ told r ≡ premise (now (book .entry)) (length (now (work .entry))) ⌝ }
+    ensures { λ r. ⌜ r ≡ testedAs (faultAt (now (book .entry)) (length (now (work .entry)))) (tested (now (book .entry)) (length (now (work .entry)))) ⌝ }
 {
     let mut expanded = [0u8; 16384];
     let opened = open_book(book, work, &mut expanded);
     match opened {
-        Opened::Refused { code } => Tested::Refused { code },
+        Opened::Refused { code, at } => Tested::Refused { code, at },
         Opened::Book { len } => {
             if holds(&expanded[..len]) {
                 return Tested::Holds;
@@ -29,7 +29,7 @@ fn test(book: &[u8], work: &mut [u8]) -> Tested
 
 // "takes a book and a work area, gives 1 to 6 as above, else yes or no"; "The work area is all zero afterwards."
 pub fn premise(book: &[u8], work: &mut [u8]) -> Tested
-    ensures { λ r. ⌜ told r ≡ premise (now (book .entry)) (length (now (work .entry))) ⌝ }
+    ensures { λ r. ⌜ r ≡ testedAs (faultAt (now (book .entry)) (length (now (work .entry)))) (tested (now (book .entry)) (length (now (work .entry)))) ⌝ }
     ensures { λ _. ⌜ now (work .exit) ≡ zeroed (now (work .entry)) ⌝ }
 {
     let answer = test(book, work);

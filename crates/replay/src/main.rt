@@ -34,7 +34,7 @@ struct Bytes {
     pub to: usize,
 }
 
-// A record: where its book stands, the answer of `elaborate` and the result, the answer of the premise test and the expanded book, and the
+// A record: where its book stands, the answer of `elaborate` with the place of a fault and the result, the answer of the premise test and the expanded book, and the
 // next record.
 struct Case {
     pub from: usize,
@@ -42,6 +42,7 @@ struct Case {
     pub code: u8,
     pub definitions: u16,
     pub lifted: u16,
+    pub place: u16,
     pub result: Bytes,
     pub premise: u8,
     pub holds: u8,
@@ -86,7 +87,9 @@ fn case_at(s: &[u8], at: usize) -> Case {
     let lifted_at = past(s, to, 3);
     let definitions = number(s, definitions_at);
     let lifted = number(s, lifted_at);
-    let result_at = past(s, to, 5);
+    let place_at = past(s, to, 5);
+    let place = number(s, place_at);
+    let result_at = past(s, to, 7);
     let result = recorded(s, result_at);
     let premise_at = result.to;
     let premise = byte(s, premise_at);
@@ -101,6 +104,7 @@ fn case_at(s: &[u8], at: usize) -> Case {
         code,
         definitions,
         lifted,
+        place,
         result,
         premise,
         holds,
@@ -147,19 +151,25 @@ fn expands_as(book: &[u8], code: u8, expanded: &[u8]) -> bool {
     }
 }
 
-// Whether reading gives this book the recorded code; a book that is refused later reads without fault.
-fn reads_as(book: &[u8], code: u8) -> bool {
+// Whether reading gives this book the recorded code and place; a book that is refused later reads without fault.
+fn reads_as(book: &[u8], code: u8, place: u16) -> bool {
     if code == 2 {
         return 16384 < book.len();
     }
-    let found = match read_book::book::read(book) {
-        Verdict::Sound => 0,
-        Verdict::Refused(f) => f.code,
-    };
-    if code < 6 {
-        return found == code;
+    match read_book::book::read(book) {
+        Verdict::Sound => {
+            if code == 0 {
+                return true;
+            }
+            6 <= code
+        }
+        Verdict::Refused(f) => {
+            if f.code == code {
+                return f.at == (place as usize);
+            }
+            false
+        }
     }
-    found == 0
 }
 
 // Whether all of these bytes are this one.
@@ -174,13 +184,13 @@ fn all_are(s: &[u8], b: u8) -> bool {
     true
 }
 
-// Whether the premise test gives this book the recorded answer, and leaves a work area of zeros.
-fn tests_as(book: &[u8], code: u8, holds: u8) -> bool {
+// Whether the premise test gives this book the recorded answer and place, and leaves a work area of zeros.
+fn tests_as(book: &[u8], code: u8, place: u16, holds: u8) -> bool {
     let mut work = [170u8; 65536];
     let alike = match premise::test::premise(book, &mut work) {
         Tested::Holds => { if code == 0 { holds == 1 } else { false } }
         Tested::Fails => { if code == 0 { holds == 0 } else { false } }
-        Tested::Refused { code: found } => found == code,
+        Tested::Refused { code: found, at } => { if found == code { at == place } else { false } }
     };
     if all_are(&work, 0) {
         return alike;
@@ -212,7 +222,7 @@ fn begins_with(out: &[u8], n: usize, result: &[u8]) -> bool {
     false
 }
 
-// Whether `elaborate` gives this book the recorded code, counts and bytes, writes nothing else, and leaves a work area of zeros.
+// Whether `elaborate` gives this book the recorded code, place, counts and bytes, writes nothing else, and leaves a work area of zeros.
 fn answers_as(book: &[u8], c: Case, result: &[u8]) -> bool {
     let mut out = [170u8; 16400];
     let mut work = [170u8; 65536];
@@ -221,8 +231,11 @@ fn answers_as(book: &[u8], c: Case, result: &[u8]) -> bool {
         return false;
     }
     match answer {
-        Elaborated::Refused { code } => {
-            if code == c.code {
+        Elaborated::Refused { code, at } => {
+            if code != c.code {
+                return false;
+            }
+            if at == c.place {
                 return all_are(&out, 170);
             }
             false
@@ -274,9 +287,10 @@ fn judge(s: &[u8], c: Case, t: Tally) -> Tally {
     let code = c.code;
     let premise = c.premise;
     let book = part(s, c.from, c.to);
-    let reads = reads_as(book, code);
+    let place = c.place;
+    let reads = reads_as(book, code, place);
     u.reading = counted(t.reading, code, reads);
-    let tests = tests_as(book, premise, c.holds);
+    let tests = tests_as(book, premise, place, c.holds);
     u.premise = counted(t.premise, premise, tests);
     let r = result_of(c);
     let answers = answers_as(book, c, part(s, r.from, r.to));

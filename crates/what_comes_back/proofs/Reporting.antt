@@ -10,13 +10,13 @@ use Rattle.definition.specs.Out.{Out, refused, done, _>>=_}
 use Rattle.definition.specs.Tree.{Definition}
 use Rattle.definition.specs.Write.{wBook}
 use Rattle.definition.specs.Size.{sizeBook}
-use Rattle.definition.specs.Answer.{all, answered, filled}
+use Rattle.definition.specs.Answer.{all, filled}
 use Rattle.laws.specs.Book.{IsBook}
 use Rattle.laws.proofs.Steps.{yielded}
 use Rattle.laws.proofs.Results.{lifted-book, lifted-yields}
 use Rattle.what_comes_back.specs.declared.Elaborated.{Elaborated}
 use Rattle.what_comes_back.specs.declared.Elaborated.the-variants.{Refused}
-use Rattle.what_comes_back.specs.Elaborates.{reported, Reports, lifted, Expanded, Lifts}
+use Rattle.what_comes_back.specs.Elaborates.{elaboratedAs, Reports, lifted, Expanded, Lifts}
 
 -- no expanded book is longer than the input may be
 pub expanded-short : {s : List ℕ} → Expanded s → length s ≤ 16384
@@ -24,9 +24,10 @@ unfolding sizeBook
 expanded-short x = omega (arith, ap length (x .book), x .isBook .short)
 
 module _ {m : Out (List Definition)} {out : List ℕ} where
-  pub reports-refused : {k : Code} → m ≡ refused k → {code : ℕ} → code ≡ number k → Reports (m >>= λ ds. lifted ds (length out)) out out (Refused code)
-  unfolding reported answered filled
-  reports-refused e n = record { answers = rw (e, n); fills = rw e }
+  pub reports-refused : {k : Code} → m ≡ refused k → {code at p : ℕ} → code ≡ number k → at ≡ p → Reports p (m >>= λ ds. lifted ds (length out)) out out (Refused code at)
+  unfolding elaboratedAs filled
+  reports-refused e n a = record { answers = rw (e, n, a); fills = rw e }
 
-  pub reports-lifted : {ds : List Definition} → m ≡ done ds → {s : List ℕ} → s ≡ wBook ds → IsBook ds → {out′ : List ℕ} {r : Elaborated} → Lifts s out out′ r → Reports (m >>= λ ds. lifted ds (length out)) out out′ r
-  reports-lifted {ds} e w b l = rw e (l .lifts ds w b (λ q g. yielded {a = q} (lifted-yields (λ r. IsBook (all r)) ds (lifted-book ds b)) g))
+  -- what was read has no item at fault
+  pub reports-lifted : {p : ℕ} → p ≡ 0 → {ds : List Definition} → m ≡ done ds → {s : List ℕ} → s ≡ wBook ds → IsBook ds → {out′ : List ℕ} {r : Elaborated} → Lifts s out out′ r → Reports p (m >>= λ ds. lifted ds (length out)) out out′ r
+  reports-lifted z {ds} e w b l = rw (z, e) (l .lifts ds w b (λ q g. yielded {a = q} (lifted-yields (λ r. IsBook (all r)) ds (lifted-book ds b)) g))

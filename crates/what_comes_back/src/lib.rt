@@ -3,7 +3,7 @@ ghost use mathlib.Core.Path.{_≡_};
 ghost use Rattle.what_comes_back.specs.Elaborates.{reported};
 ghost use Rattle.what_comes_back.specs.Tells.{told};
 
-// The result's length, its count of definitions and the count lifted, or a code.
+// The result's length, its count of definitions and the count lifted; or a code, and the place of the item at fault where it has one.
 pub enum Elaborated {
     Done {
         length: u16,
@@ -12,14 +12,15 @@ pub enum Elaborated {
     },
     Refused {
         code: u8,
+        at: u16,
     },
 }
 
-// The premise test's answer: yes, no or a code.
+// The premise test's answer: yes, no, or a code and a place.
 pub enum Tested {
     Holds,
     Fails,
-    Refused { code: u8 },
+    Refused { code: u8, at: u16 },
 }
 
 // An elaboration's answer in numbers.
@@ -29,18 +30,20 @@ pub struct Report {
     pub length: u32,
     pub definitions: u32,
     pub lifted: u32,
+    pub at: u32,
 }
 
-// The premise test's: the code, and 1 for yes.
+// The premise test's: the code, 1 for yes, and the place.
 #[repr(C)]
 pub struct Numbers {
     pub code: u32,
     pub holds: u32,
+    pub at: u32,
 }
 
-// An elaboration's answer in four numbers: "On a refusal the three numbers are 0".
-pub fn in_four_numbers(e: Elaborated) -> Report
-    ensures { λ r. ⌜ (r .code ≡ reported e .code) × (r .length ≡ reported e .size) × (r .definitions ≡ reported e .definitions) × (r .lifted ≡ reported e .lifts) ⌝ }
+// An elaboration's answer in numbers: "On a refusal the three numbers are 0".
+pub fn elaborated_in_numbers(e: Elaborated) -> Report
+    ensures { λ r. ⌜ (r .code ≡ reported e .code) × (r .length ≡ reported e .size) × (r .definitions ≡ reported e .definitions) × (r .lifted ≡ reported e .lifts) × (r .at ≡ reported e .at) ⌝ }
 {
     match e {
         Elaborated::Done {
@@ -52,26 +55,37 @@ pub fn in_four_numbers(e: Elaborated) -> Report
             length: length as u32,
             definitions: definitions as u32,
             lifted: lifted as u32,
+            at: 0,
         },
-        Elaborated::Refused { code } => Report {
+        Elaborated::Refused { code, at } => Report {
             code: code as u32,
             length: 0,
             definitions: 0,
             lifted: 0,
+            at: at as u32,
         },
     }
 }
 
-// The premise test's answer in two.
-pub fn in_two_numbers(t: Tested) -> Numbers
-    ensures { λ r. ⌜ (r .code ≡ told t .code) × (r .holds ≡ told t .holds) ⌝ }
+// The premise test's answer in numbers.
+pub fn tested_in_numbers(t: Tested) -> Numbers
+    ensures { λ r. ⌜ (r .code ≡ told t .code) × (r .holds ≡ told t .holds) × (r .at ≡ told t .at) ⌝ }
 {
     match t {
-        Tested::Holds => Numbers { code: 0, holds: 1 },
-        Tested::Fails => Numbers { code: 0, holds: 0 },
-        Tested::Refused { code } => Numbers {
+        Tested::Holds => Numbers {
+            code: 0,
+            holds: 1,
+            at: 0,
+        },
+        Tested::Fails => Numbers {
+            code: 0,
+            holds: 0,
+            at: 0,
+        },
+        Tested::Refused { code, at } => Numbers {
             code: code as u32,
             holds: 0,
+            at: at as u32,
         },
     }
 }

@@ -15,10 +15,12 @@ attempt-expanded-requires : tie.Need-attempt-expanded-requires
 attempt-expanded-requires c κs = (rw (c .before .before .enum-told2 .given .1) at (c .before .before .before .before .begin .ensures))
 
 returns : tie.Need-returns
-returns c = reports-code _ _ (rw (c .before .begun .given .1) at (c .before .before .before .begin .ensures))
+returns c = let b = (rw (c .before .begun .given .1) at (c .before .before .before .begin .ensures)) in reports-code _ _ (b .0) (b .1)
 
 returns-2 : tie.Need-returns-2
-returns-2 c = reports-plain _ _ ((rw (c .before .before .before .before .before .before .before .enum-told .given .1) at (c .before .before .before .before .before .before .before .before .before .begin .ensures)) .1) (c .before .before .before .before .lift-book .ensures)
+returns-2 c =
+    let b = (rw (c .before .before .before .before .before .before .before .enum-told .given .1) at (c .before .before .before .before .before .before .before .before .before .begin .ensures)) in
+    reports-plain _ _ (b .1) (b .0 .faultless) (c .before .before .before .before .lift-book .ensures)
 
 pub attempt-spec : {M : Type 1} → statement M
 attempt-spec =

@@ -18,10 +18,10 @@ lift-expanded-requires : tie.Need-lift-expanded-requires
 lift-expanded-requires c κs = (opened-book _ _ ((rw (c .before .before .before .before .opened2 .given .1) at (c .before .before .before .before .before .before .before .before .before .expand-book .ensures)) .by (length-replicate {0} {A = ℕ} 16384 0)), omega (arith, c .before .before .before .before .before .before .before .before .before .before .before .before .before .before .before .pre .wide, c .before .before .before .before .before .before .before .before .work .given))
 
 returns : tie.Need-returns
-returns c = reports-code _ _ ((rw (c .before .opened .given .1) at (c .before .before .before .before .before .before .expand-book .ensures)) .by (length-replicate {0} {A = ℕ} 16384 0))
+returns c = let o = (rw (c .before .opened .given .1) at (c .before .before .before .before .before .before .expand-book .ensures)) in reports-code _ _ (o .by (length-replicate {0} {A = ℕ} 16384 0)) (o .placed)
 
 returns-2 : tie.Need-returns-2
-returns-2 c = reports-lifts _ _ ((rw (c .before .before .before .before .before .before .before .before .before .opened2 .given .1) at (c .before .before .before .before .before .before .before .before .before .before .before .before .before .before .expand-book .ensures)) .by (length-replicate {0} {A = ℕ} 16384 0)) (c .before .before .before .before .lift-expanded .ensures)
+returns-2 c = let o = (rw (c .before .before .before .before .before .before .before .before .before .opened2 .given .1) at (c .before .before .before .before .before .before .before .before .before .before .before .before .before .before .expand-book .ensures)) in reports-lifts _ _ (o .by (length-replicate {0} {A = ℕ} 16384 0)) (o .placed) (c .before .before .before .before .lift-expanded .ensures)
 
 pub expand-fully-spec : {M : Type 1} → statement M
 expand-fully-spec =

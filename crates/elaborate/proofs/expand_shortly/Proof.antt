@@ -25,7 +25,7 @@ returns : tie.Need-returns
 returns c = rw (c .before .before .before .before .before .before .before .before .before .before .before .work .given) at (c .before .before .before .before .expand-fully .ensures)
 
 returns-2 : tie.Need-returns-2
-returns-2 c = reports-lifts _ _ (expands-all _ (((rw (c .before .before .before .before .before .before .before .before .before .opened .given .1) at (c .before .before .before .before .before .before .before .before .before .before .before .before .before .before .expand-book .ensures)) .within (omega (arith, length-replicate {0} {A = ℕ} 2048 0))) .0)) (c .before .before .before .before .lift-expanded .ensures)
+returns-2 c = let o = (rw (c .before .before .before .before .before .before .before .before .before .opened .given .1) at (c .before .before .before .before .before .before .before .before .before .before .before .before .before .before .expand-book .ensures)) in reports-lifts _ _ (expands-all _ ((o .within (omega (arith, length-replicate {0} {A = ℕ} 2048 0))) .0)) (o .placed) (c .before .before .before .before .lift-expanded .ensures)
 
 pub expand-shortly-spec : {M : Type 1} → statement M
 expand-shortly-spec =

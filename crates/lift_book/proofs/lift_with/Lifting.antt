@@ -16,7 +16,7 @@ use Rattle.definition.specs.Tree.{Definition}
 use Rattle.definition.specs.Write.{wBook}
 use Rattle.definition.specs.Size.{sizeBook}
 use Rattle.definition.specs.Lift.{liftBook}
-use Rattle.definition.specs.Answer.{Result, all, outcome, answered, filled}
+use Rattle.definition.specs.Answer.{Result, all, outcome, filled}
 use Rattle.laws.specs.Book.{IsBook}
 use Rattle.laws.proofs.Sizes.{size-bodies, size-book}
 use Rattle.lifting.specs.After.{Lift, liftsAll, firstAt, Stands}
@@ -40,7 +40,7 @@ use Rattle.write_result.specs.result.Model.{tables}
 use Rattle.write_result.specs.result.Held.{Held, Writes}
 use Rattle.write_result.proofs.result.Numbered.{numbered-by}
 use Rattle.what_comes_back.specs.declared.Elaborated.the-variants.{Done, Refused}
-use Rattle.what_comes_back.specs.Elaborates.{reported, Reports, lifted, Expanded, Lifts}
+use Rattle.what_comes_back.specs.Elaborates.{elaboratedAs, Reports, lifted, Expanded, Lifts}
 use Rattle.lift_book.specs.lift_with.Lent.{Lent}
 
 pub starts : (sheet : List ℕ) {s ends number binders bound uses spare : List ℕ} → Expanded s → Lent s ends number binders bound uses spare → 40552 ≤ length sheet → Starts s (madeIn sheet) (rowsIn sheet) (paramsIn sheet) number (orderIn sheet)
@@ -104,12 +104,12 @@ in-book ds t e i h =
 
 module _ {m : Out Result} {out : List ℕ} where
   -- codes 7 to 10
-  reports-refusal : {c : ℕ} → Refusal m c → Reports (m >>= λ r. given (leb (length (wBook (all r))) (length out)) output-short r) out out (Refused c)
-  unfolding reported answered filled
+  reports-refusal : {c : ℕ} → Refusal m c → Reports 0 (m >>= λ r. given (leb (length (wBook (all r))) (length out)) output-short r) out out (Refused c 0)
+  unfolding elaboratedAs filled
   reports-refusal f = record { answers = rw (f .is, f .numbered); fills = rw (f .is) }
 
 module _ {s made rows params number order : List ℕ} where
-  pub lifts-refused : {out : List ℕ} {c : ℕ} → Expands s made rows params number order (Stopped c) → Lifts s out out (Refused c)
+  pub lifts-refused : {out : List ℕ} {c : ℕ} → Expands s made rows params number order (Stopped c) → Lifts s out out (Refused c 0)
   unfolding lifted
   lifts-refused x = record { lifts = λ ds w b q. reports-refusal (refusal _ _ (walks-as-traced ds) (comes ds) (x .expands ds w b)) }
 
@@ -160,15 +160,15 @@ module _ {s made rows params number order : List ℕ} where
       lifts-count = h .gave .lifts ∙ sym finished-count
 
       -- code 11
-      short-out : {out : List ℕ} → length out < v .bytes → Reports (lifted ds (length out)) out out (Refused 11)
-      unfolding lifted reported answered filled number
+      short-out : {out : List ℕ} → length out < v .bytes → Reports 0 (lifted ds (length out)) out out (Refused 11 0)
+      unfolding lifted elaboratedAs filled number
       short-out {out} l =
           let e : length out < length (wBook (all (h .result))) = rw bytes l in
           record { answers = rw (h .is, lt-leb _ _ e); fills = rw (h .is, lt-leb _ _ e) }
 
       written : {out out′ : List ℕ} {k : ℕ} → v .bytes ≤ length out → IsBook (all (h .result)) → Writes (tables s made rows params number) order n out out′ k
-          → Reports (lifted ds (length out)) out out′ (Done (v .bytes) (v .defns) n)
-      unfolding lifted reported answered filled
+          → Reports 0 (lifted ds (length out)) out out′ (Done (v .bytes) (v .defns) n)
+      unfolding lifted elaboratedAs filled
       written {out} l b f =
           let e : length (wBook (all (h .result))) ≤ length out = rw bytes l in
           record {
@@ -176,7 +176,7 @@ module _ {s made rows params number order : List ℕ} where
             fills = rw (h .is, le-leb _ _ e) (f ds [] (h .trace) (h .result) (h .traced) (h .is) b held .holds e);
           }
 
-    pub lifts-short : {out : List ℕ} → length out < v .bytes → Lifts s out out (Refused 11)
+    pub lifts-short : {out : List ℕ} → length out < v .bytes → Lifts s out out (Refused 11 0)
     lifts-short l = record { lifts = λ ds w b q. short-out ds w (given-by ds w b) l }
 
     pub lifts-written : {out out′ : List ℕ} {k : ℕ} → v .bytes ≤ length out → Writes (tables s made rows params number) order n out out′ k → Lifts s out out′ (Done (v .bytes) (v .defns) n)

@@ -13,7 +13,7 @@ use Rattle.definition.specs.Out.{done}
 use Rattle.definition.specs.Tree.{Definition}
 use Rattle.definition.specs.Write.{wBook}
 use Rattle.definition.specs.Lift.{liftBook}
-use Rattle.definition.specs.Answer.{outcome, answered, filled}
+use Rattle.definition.specs.Answer.{outcome, filled}
 use Rattle.laws.specs.Book.{IsBook}
 use Rattle.layout.specs.items.At.{numberAt}
 use Rattle.walker.proofs.definitions.Listed.{book-listed}
@@ -22,7 +22,7 @@ use Rattle.buffer.proofs.writes.Put.{put-fits}
 use Rattle.lift_book.specs.flat.Told.{Told}
 use Rattle.lift_book.proofs.flat.Still.{book-stays}
 use Rattle.what_comes_back.specs.declared.Elaborated.the-variants.{Done, Refused}
-use Rattle.what_comes_back.specs.Elaborates.{reported, lifted, Lifts}
+use Rattle.what_comes_back.specs.Elaborates.{elaboratedAs, lifted, Lifts}
 use Rattle.lift_book.specs.unlifted.Copied.{Copied}
 
 pub told-flat : {s : List ℕ} {r : Bool} → Told s r → r ≡ true → Told s true
@@ -40,14 +40,14 @@ module _ {s : List ℕ} (t : Told s true) {out out′ : List ℕ} {r : Bool} (k 
   fits : (ds : List Definition) → s ≡ wBook ds → {b : Bool} → r ≡ b → leb (length (wBook (ds ++ []))) (length out) ≡ b
   fits ds w e = rw (append-nil ds, ← w) (sym (k .fits) ∙ e)
 
-  pub copied-short : r ≡ false → Lifts s out out′ (Refused 11)
-  unfolding lifted reported answered filled number
+  pub copied-short : r ≡ false → Lifts s out out′ (Refused 11 0)
+  unfolding lifted elaboratedAs filled number
   copied-short e = record {
     lifts = λ ds w b q. record { answers = rw (stays ds w b, fits ds w e); fills = rw (stays ds w b, fits ds w e) (k .holds ∙ rw e) };
   }
 
   pub copied-whole : r ≡ true → {n : ℕ} → n ≡ numberAt s 0 → Lifts s out out′ (Done (length s) n 0)
-  unfolding lifted reported answered filled
+  unfolding lifted elaboratedAs filled
   copied-whole e g = record {
     lifts = λ ds w b q. record {
       answers = rw (stays ds w b, fits ds w e, append-nil ds, ← w, g ∙ book-listed s ds w b .0);

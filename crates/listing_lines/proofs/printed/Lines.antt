@@ -100,14 +100,14 @@ pub lists : {s d d₁ d₂ d₃ d′ : List ℕ} {definitions lifted kept o₁ o
     → kept ≡ definitions - lifted → AllLines s kept d₃ o₃ d′ r → Lists s definitions lifted d d′ r
 unfolding listed
 lists {d = d} {d′ = d′} {definitions = definitions} {lifted = lifted} {kept = kept} {r = r} a b c k m = record {
-  says = λ q e i x y.
+  says = λ p q e i x y.
       let n : kept ≡ length (q .kept) = omega (arith, length-append (q .kept) (q .lifted)) in
-      of q x y (glue (glue (glue a b) c) (m .says (q .kept) (q .lifted) e i n));
+      of p q x y (glue (glue (glue a b) c) (m .says (q .kept) (q .lifted) e i n));
 }
   where
     head : List ℕ
     head = (111 ∷ 107 ∷ []) ++ count definitions ++ count lifted
 
-    of : (q : Result) → definitions ≡ length (all q) → lifted ≡ length (q .lifted)
-        → Wrote d 0 (head ++ ((10 ∷ []) ++ (lines wFormat (q .kept) ++ lines wLifted (q .lifted)))) d′ r → Wrote d 0 (listed (done q)) d′ r
-    of q x y w = rw (← x, ← y, append-assoc (head ++ (10 ∷ [])) (lines wFormat (q .kept)) (lines wLifted (q .lifted)), append-assoc head (10 ∷ []) (lines wFormat (q .kept) ++ lines wLifted (q .lifted))) w
+    of : (p : ℕ) (q : Result) → definitions ≡ length (all q) → lifted ≡ length (q .lifted)
+        → Wrote d 0 (head ++ ((10 ∷ []) ++ (lines wFormat (q .kept) ++ lines wLifted (q .lifted)))) d′ r → Wrote d 0 (listed p (done q)) d′ r
+    of p q x y w = rw (← x, ← y, append-assoc (head ++ (10 ∷ [])) (lines wFormat (q .kept)) (lines wLifted (q .lifted)), append-assoc head (10 ∷ []) (lines wFormat (q .kept) ++ lines wLifted (q .lifted))) w

@@ -13,7 +13,7 @@ use Rattle.definition.specs.Tree.{Name, Param, Definition, format, constant, by
 use Rattle.definition.specs.Names.{digits, decimal}
 use Rattle.definition.specs.Write.{wU16, wName, wText, wAll, wList, wParam, wDefinition, sizeOf}
 use Rattle.definition.specs.Answer.{Result, all}
-use Rattle.definition.specs.Listing.{hex, shownByte, shownBytes, shown, count, wFormat, wLifted, line, lines, listed}
+use Rattle.definition.specs.Listing.{hex, shownByte, shownBytes, shown, count, wFormat, wLifted, line, lines, wAt, hasPlace, placed, listed}
 use Rattle.laws.specs.Book.{IsBook}
 use Rattle.laws.proofs.Splits.{s-param}
 use Rattle.laws.proofs.Sizes.{adds, head, size-format, room, room-append, size-book, size-some}
@@ -78,9 +78,9 @@ unfolding lines room
 lines-room word w [] = omega arith
 lines-room word w (d ∷ ds) = omega (arith, length-append (line word d) (lines word ds), line-room word w d, lines-room word w ds)
 
-result-room : (r : Result) → IsBook (all r) → length (listed (done r)) ≤ 65536
+result-room : (p : ℕ) (r : Result) → IsBook (all r) → length (listed p (done r)) ≤ 65536
 unfolding listed
-result-room r i =
+result-room p r i =
     let d = count (length (all r)) in
     let l = count (length (r .lifted)) in
     let k = lines wFormat (r .kept) in
@@ -109,7 +109,18 @@ code-range macro-left = (omega arith, omega arith)
 pub code-some : (k : Code) → 1 ≤ number k
 code-some k = code-range k .0
 
-pub listed-room : {m : Out Result} → Yields (λ r. IsBook (all r)) m → length (listed m) ≤ 65536
+placed-room : (n p : ℕ) → length (placed n p) ≤ p + 5
+unfolding placed
+placed-room n p = of (hasPlace n)
+  where
+    of : (t : Bool) → length (cond t (wAt ++ count p) []) ≤ p + 5
+    of true = omega (arith, length-append wAt (count p), count-room p)
+    of false = omega arith
+
+pub listed-room : {p : ℕ} → p ≤ 16384 → {m : Out Result} → Yields (λ r. IsBook (all r)) m → length (listed p m) ≤ 65536
 unfolding listed
-listed-room (stops {k = k}) = omega (arith, length-append (count (number k)) (10 ∷ []), count-room (number k), code-range k .1)
-listed-room (yields {a = r} i) = result-room r i
+listed-room {p} b (stops {k = k}) =
+    let s = placed (number k) p in
+    let c = count (number k) in
+    omega (arith, length-append ((114 ∷ 101 ∷ 102 ∷ 117 ∷ 115 ∷ 101 ∷ 100 ∷ []) ++ c ++ s) (10 ∷ []), length-append ((114 ∷ 101 ∷ 102 ∷ 117 ∷ 115 ∷ 101 ∷ 100 ∷ []) ++ c) s, count-room (number k), placed-room (number k) p, code-range k .1)
+listed-room {p} b (yields {a = r} i) = result-room p r i

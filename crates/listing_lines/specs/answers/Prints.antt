@@ -18,4 +18,4 @@ pub record Filled (lines text text′ : List ℕ) (n : ℕ) : Type 0 where
 
 -- whatever the answer and the output are of, its lines: for each of the elaboration's modes
 pub record Prints (r : Elaborated) (out text text′ : List ℕ) (n : ℕ) : Type 0 where
-  pub prints : (m : Out Result) (out₀ : List ℕ) → Reports m out₀ out r → ((q : Result) → m ≡ done q → IsBook (all q)) → Filled (listed m) text text′ n
+  pub prints : (p : ℕ) → p ≤ 16384 → (m : Out Result) (out₀ : List ℕ) → Reports p m out₀ out r → ((q : Result) → m ≡ done q → IsBook (all q)) → Filled (listed p m) text text′ n

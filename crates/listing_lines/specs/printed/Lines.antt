@@ -33,4 +33,4 @@ pub record AllLines (s : List ℕ) (kept : ℕ) (d : List ℕ) (o : ℕ) (d′ :
 
 -- "`ok D L` (definitions, lifted) and a line per definition"
 pub record Lists (s : List ℕ) (definitions lifted : ℕ) (d d′ : List ℕ) (n : ℕ) : Type 0 where
-  pub says : (r : Result) → s ≡ wBook (all r) → IsBook (all r) → definitions ≡ length (all r) → lifted ≡ length (r .lifted) → Wrote d 0 (listed (done r)) d′ n
+  pub says : (p : ℕ) (r : Result) → s ≡ wBook (all r) → IsBook (all r) → definitions ≡ length (all r) → lifted ≡ length (r .lifted) → Wrote d 0 (listed p (done r)) d′ n

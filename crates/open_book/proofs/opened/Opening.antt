@@ -81,9 +81,9 @@ module _ (b : List ℕ) (n size : ℕ) (out : List ℕ) (p : Passes b n) (small 
   sixes = fit-six size (rw opened-pass (only-six (macros (p .source) []) (p .source)))
 
   -- code 6
-  pub opens-6 : x ≡ Grown → Opens b n size out (Refused 6)
+  pub opens-6 : x ≡ Grown → Opens b n size out (Refused 6 0)
   unfolding number
-  opens-6 t = record { within = λ h. too-long h; by = λ h. rw (all-fits h) at (too-long (omega arith)) }
+  opens-6 t = record { within = λ h. too-long h; by = λ h. rw (all-fits h) at (too-long (omega arith)); placed = sym (p .faultless) }
     where
       grown : {y : Out (List Definition)} → fitting size (opened b n) ≡ y → Grows y → answerOf y ≡ Grown → Refuses (fitting size (opened b n)) 6
       grown o six q = record { reason = macro-growth; is = o; numbered = refl }
@@ -94,7 +94,7 @@ module _ (b : List ℕ) (n size : ℕ) (out : List ℕ) (p : Passes b n) (small 
 
   pub opens-book : (len : ℕ) → x ≡ Whole len → Opens b n size out (Book len)
   unfolding sizeBook
-  opens-book len t = record { within = λ h. stands h; by = λ h. rw (all-fits h) at (stands (omega arith) .0) }
+  opens-book len t = record { within = λ h. stands h; by = λ h. rw (all-fits h) at (stands (omega arith) .0); placed = p .faultless }
     where
       written : (y : Out (List Definition)) → fitting size (opened b n) ≡ y → Whole len ≡ answerOf y → leaves y area out → Expands (fitting size (opened b n)) out len × (len ≤ size)
       written (refused k) o q s = absurd (let z : _≡_ {A = ℕ} 0 1 = cc in omega arith)
@@ -115,5 +115,5 @@ module _ (b : List ℕ) (n size : ℕ) (out : List ℕ) (p : Passes b n) (small 
       stands h = written (fitting size (opened b n)) refl (sym t ∙ passed h .0) (passed h .1)
 
 -- what `begin` says of a refusal
-pub opens-refused : {b : List ℕ} {n size : ℕ} {out : List ℕ} {code : ℕ} → Begins b n (begun.Refused code) → Opens b n size out (Refused code)
-opens-refused {size = size} r = record { within = λ _. record { reason = r .reason; is = fit-refused size (r .is); numbered = r .numbered }; by = λ _. r }
+pub opens-refused : {b : List ℕ} {n size : ℕ} {out : List ℕ} {code at : ℕ} → Begins b n (begun.Refused code at) → Opens b n size out (Refused code at)
+opens-refused {size = size} r = record { within = λ _. record { reason = r .0 .reason; is = fit-refused size (r .0 .is); numbered = r .0 .numbered }; by = λ _. r .0; placed = r .1 }

@@ -9,7 +9,7 @@ use Rattle.definition.specs.Out.{Out, refused, done, _>>=_, given}
 use Rattle.definition.specs.Tree.{Definition}
 use Rattle.definition.specs.Write.{wBook}
 use Rattle.definition.specs.Macros.{expandBook}
-use Rattle.definition.specs.Answer.{expanded}
+use Rattle.definition.specs.Answer.{expanded, faultAt}
 use Rattle.laws.specs.Book.{IsBook}
 use Rattle.open_book.specs.declared.begin.Begun.{Begun}
 use Rattle.open_book.specs.declared.begin.Begun.the-variants as begun
@@ -39,9 +39,10 @@ pub record Sound (book : List ℕ) (workLength : ℕ) : Type 0 where
   pub isBook : IsBook source
   pub written : book ≡ wBook source
   pub wide : 65536 ≤ workLength
+  pub faultless : faultAt book workLength ≡ 0
 
 -- a book without macros is its own expansion
 abbrev pub Begins : List ℕ → ℕ → Begun → Type 0
 Begins book workLength begun.Plain = Sound book workLength × Expands (opened book workLength) book (length book)
 Begins book workLength begun.Macros = Sound book workLength
-Begins book workLength (begun.Refused code) = Refuses (opened book workLength) code
+Begins book workLength (begun.Refused code at) = Refuses (opened book workLength) code × (at ≡ faultAt book workLength)

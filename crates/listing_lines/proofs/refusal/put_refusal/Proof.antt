@@ -1,8 +1,7 @@
 -- `refusal::put_refusal` meets its contract.
 -- Assumes nothing.
 use borrow.Author.Needs.{needs}
-use Rattle.buffer.proofs.writes.Wrote.{glue}
-use Rattle.listing_lines.specs.refusal.Refusal.{refusal}
+use Rattle.listing_lines.proofs.refusal.Placed.{with-place, without-place}
 use Rattle.listing_lines.proofs.refusal.put_refusal.Statement.{statement}
 use Rattle.listing_lines.proofs.refusal.put_refusal.Tie as tie
 
@@ -15,6 +14,18 @@ put-bytes-requires c κs = search needs
 put-count-requires : tie.Need-put-count-requires
 put-count-requires c κs = search needs
 
+has-place-requires : tie.Need-has-place-requires
+has-place-requires c κs = search needs
+
+slice-aggregate-put-bytes-2 : tie.Need-slice-aggregate-put-bytes-2
+slice-aggregate-put-bytes-2 c = search needs
+
+put-bytes-requires-2 : tie.Need-put-bytes-requires-2
+put-bytes-requires-2 c κs = search needs
+
+put-count-requires-2 : tie.Need-put-count-requires-2
+put-count-requires-2 c κs = search needs
+
 put-byte-requires : tie.Need-put-byte-requires
 put-byte-requires c κs = search needs
 
@@ -22,8 +33,17 @@ same-length : tie.Need-same-length
 same-length c = search needs
 
 returns : tie.Need-returns
-unfolding refusal
-returns c = glue (c .before .before .before .before .before .before .before .before .before .before .put-bytes .ensures) (glue (c .before .before .before .before .before .before .put-count .ensures) (c .before .before .put-byte .ensures))
+returns c =
+    with-place _ _ (c .before .before .before .before .before .before .before .before .before .before .before .before .before .before .has-place .ensures) (c .before .before .before .before .before .before .before .before .before .before .before .before .before .before .before .before .before .before .before .before .before .put-bytes .ensures) (c .before .before .before .before .before .before .before .before .before .before .before .before .before .before .before .before .before .put-count .ensures) (c .before .before .before .before .before .before .before .before .before .before .before .before .before .if1 .taken) (c .before .before .before .before .before .before .before .before .before .before .put-bytes2 .ensures) (c .before .before .before .before .before .before .put-count2 .ensures) (c .before .before .put-byte .ensures)
+
+put-byte-requires-2 : tie.Need-put-byte-requires-2
+put-byte-requires-2 c κs = search needs
+
+same-length-2 : tie.Need-same-length-2
+same-length-2 c = search needs
+
+returns-2 : tie.Need-returns-2
+returns-2 c = without-place _ _ (c .before .before .before .before .before .has-place .ensures) (c .before .before .before .before .before .before .before .before .before .before .before .before .put-bytes .ensures) (c .before .before .before .before .before .before .before .before .put-count .ensures) (c .before .before .before .before .if1 .left) (c .before .before .put-byte2 .ensures)
 
 pub put-refusal-spec : {M : Type 1} → statement M
 put-refusal-spec =
@@ -32,6 +52,13 @@ put-refusal-spec =
     slice-aggregate-put-bytes
     put-bytes-requires
     put-count-requires
+    has-place-requires
+    slice-aggregate-put-bytes-2
+    put-bytes-requires-2
+    put-count-requires-2
     put-byte-requires
     same-length
-    returns)
+    returns
+    put-byte-requires-2
+    same-length-2
+    returns-2)

@@ -2,7 +2,7 @@
 -- Assumes nothing.
 use borrow.Author.Needs.{needs}
 use native.Mathlib.Omega.{arith}
-use Rattle.open_book.proofs.begin.Beginning.{all-bytes, begins-1, begins-2, begins-bad, begins-sound, begins-plain}
+use Rattle.open_book.proofs.begin.Beginning.{all-bytes, begins-1, begins-2, begins-bad, verdict-inside, begins-sound, begins-plain}
 use Rattle.open_book.proofs.begin.begin.Statement.{statement}
 use Rattle.open_book.proofs.begin.begin.Tie as tie
 
@@ -18,6 +18,9 @@ read-requires c κs = search needs
 enum-known-verdict : tie.Need-enum-known-verdict
 enum-known-verdict c = search needs
 
+cast-t8 : tie.Need-cast-t8
+cast-t8 c = omega (arith, verdict-inside (c .before .before .before .before .before .before .before .before .args .book .now) _ (c .before .before .before .before .before .before .if1 .left) (c .before .before .before .before .before .if2 .left) (c .before .before .before .before .read .ensures) (c .before .before .verdict .given .1))
+
 enum-told : tie.Need-enum-told
 enum-told c = search needs
 
@@ -28,7 +31,7 @@ returns-3 : tie.Need-returns-3
 returns-3 c = begins-plain _ _ (c .before .before .before .before .before .before .if1 .left) (c .before .before .before .before .before .if2 .left) (begins-sound _ _ (c .before .before .before .before .before .before .if1 .left) (c .before .before .before .before .before .if2 .left) (c .before .before .before .before .read .ensures) (c .before .before .enum-told .given .1) (all-bytes (c .before .before .before .before .before .before .before .before .args .book .now) (λ i. omega (arith, c .before .before .before .before .before .before .before .shared-slice-known .given i)))) (c .before .has-no-macros .ensures) (c .if3 .taken)
 
 returns-4 : tie.Need-returns-4
-returns-4 c = begins-bad _ _ (c .before .before .before .before .before .if1 .left) (c .before .before .before .before .if2 .left) (c .before .before .before .read .ensures) (c .before .verdict .given .1)
+returns-4 c = begins-bad _ _ (c .before .before .before .before .before .before .if1 .left) (c .before .before .before .before .before .if2 .left) (c .before .before .before .before .read .ensures) (c .before .before .verdict .given .1)
 
 returns-5 : tie.Need-returns-5
 returns-5 c = begins-sound _ _ (c .before .before .before .before .before .before .if1 .left) (c .before .before .before .before .before .if2 .left) (c .before .before .before .before .read .ensures) (c .before .before .enum-told .given .1) (all-bytes (c .before .before .before .before .before .before .before .before .args .book .now) (λ i. omega (arith, c .before .before .before .before .before .before .before .shared-slice-known .given i)))
@@ -41,6 +44,7 @@ begin-spec =
     returns-2
     read-requires
     enum-known-verdict
+    cast-t8
     enum-told
     has-no-macros-requires
     returns-3

@@ -1,11 +1,11 @@
--- Document 02 b: `listing --nested`. "an unknown word gets one line .. that says what the words are".
+-- The words of the program `listing`: none, or --nested for the mode of document 02 b. Any others get one line that names these.
 use mathlib.Core.List.{List, [], _∷_}
 use mathlib.Core.Bool.{Bool, true, false}
 use Prim.Native.Nat.{ℕ}
 use lib.Dec.{ltb}
 use Rattle.definition.specs.Names.{eqName}
-use Rattle.listing_lines.specs.declared.words.Mode.{Mode}
-use Rattle.listing_lines.specs.declared.words.Mode.the-variants.{Plain, Nested, Unknown}
+use Rattle.words.specs.declared.Mode.{Mode}
+use Rattle.words.specs.declared.Mode.the-variants.{Plain, Nested, Unknown}
 
 abbrev pick : Bool → Mode → Mode → Mode
 pick true a b = a

@@ -6,10 +6,10 @@ use mathlib.Core.Bool.{Bool}
 use Prim.Native.Nat.{ℕ}
 use borrow.Author.Tests.{lt-ltb, le-ltb}
 use Rattle.definition.specs.Names.{eqName}
-use Rattle.listing_lines.specs.words.Mode.{wNested}
+use Rattle.words.specs.Mode.{wNested}
 use borrow.Author.Needs.{needs}
-use Rattle.listing_lines.proofs.words.mode_of.Statement.{statement}
-use Rattle.listing_lines.proofs.words.mode_of.Tie as tie
+use Rattle.words.proofs.mode_of.Statement.{statement}
+use Rattle.words.proofs.mode_of.Tie as tie
 
 -- what was found of the word, by what was asked of it
 asked : (word : List ℕ) {same : Bool} → same ≡ eqName word wNested → {r : Bool} → same ≡ r → eqName word wNested ≡ r

@@ -1,7 +1,7 @@
 // The words that the program `listing` is started with.
 use layout::lookup::same_name;
 ghost use mathlib.Core.Path.{_≡_};
-ghost use Rattle.listing_lines.specs.words.Mode.{modeOf};
+ghost use Rattle.words.specs.Mode.{modeOf};
 
 // What it lists: in document 01's mode, in the nested one of document 02 b, or nothing, since the words are others.
 pub enum Mode {
