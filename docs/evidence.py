@@ -65,6 +65,19 @@ def called(crate, name):
     return seen
 
 
+def handed_to(key):
+    """The functions of other crates that the one at KEY calls, as CRATE and FUNCTION."""
+    crate, name = key.split('::')[0], key.split('::')[-1]
+    for path in sources(crate):
+        text = read(path)
+        m = re.search(rf'(?m)^(?:pub(?:\(crate\))? )?(?:extern "C" )?fn {name}\b', text)
+        if m and f'{module(crate, path)}::{name}' == key:
+            body = text[text.find('\n{', m.end()):text.find('\n}', m.end())]
+            for used in re.findall(r'(?m)^use ([\w:]+);', text):
+                if used.split('::')[0] in CRATES and re.search(rf'\b{used.split("::")[-1]}\(', body):
+                    yield used.split('::')[0], used.split('::')[-1]
+
+
 def user_calls():
     """What a user can call, as CRATE::MODULE::FUNCTION: comment and contract."""
     named = set()
@@ -149,6 +162,11 @@ def main():
             out += ['**It asks something of its caller.**', '']
         if own:
             out += ['Refused in it: ' + ', '.join(f'`{e}`' for e in own) + '.', '']
+        for other, function in sorted(handed_to(key)):
+            there = called(other, function) | {function}
+            also = [e for (c, e), (_, place) in edits.items() if c == other and any(w.startswith('src/') and n in there for w, n in place)]
+            if also:
+                out += [f'Refused in `{function}` of `{other}`, which it calls: ' + ', '.join(f'`{e}`' for e in also) + '.', '']
         if below:
             out += ['Refused in what it calls there: ' + ', '.join(f'`{e}`' for e in below) + '.', '']
     out += ['## What stands at a crate\'s border and asks something of its callers', '',

@@ -1,4 +1,4 @@
--- Small books that show what each premise of demand 3 is needed for (readings.md, 15 and 1).
+-- Small books that show what each premise of demand 3 is needed for (docs/READINGS.md, 15 and 1).
 use mathlib.Core.Path.{_≡_}
 use mathlib.Core.List.{List, [], _∷_, map}
 use Prim.Native.Nat.{ℕ, _≤_}
