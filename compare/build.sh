@@ -7,12 +7,7 @@
 # and archive.sh says where the archive comes from.
 . "$(dirname "$0")/archive.sh"
 
-# The check alone is the loader's archive.
 flags=''
-if [ "${1:-} ${2:-}" = '--only check' ]; then
-    crate=loader
-    flags=-DCHECK_ALONE
-fi
 emulated=''
 if [ "$machine" = x86_64 ]; then
     cc=${SAMULSTO_CC:-cc}
@@ -27,7 +22,7 @@ else
     [ -n "$run" ] || die "this is $machine and the archive is x86-64 code: install qemu-x86_64 (Debian: qemu-user) or set SAMULSTO_RUN"
     # linked whole, so that no x86-64 C library has to be found; and an emulator is slow at the copying instructions
     # that a processor is quick at
-    flags="$flags -static"
+    flags=-static
     emulated='GLIBC_TUNABLES=glibc.cpu.hwcaps=-ERMS,-FSRM'
 fi
 command -v "$cc" >/dev/null || die "no $cc: install a C compiler for x86-64 (Debian: gcc, or gcc-x86-64-linux-gnu with libc6-dev-amd64-cross) or set SAMULSTO_CC"
@@ -48,7 +43,7 @@ judged() {
 only_of() {
     only=''
     if [ "${1:-}" = --only ]; then
-        [ $# -ge 2 ] || die '--only what? elaborate, nested, delivery, delivery-nested, premise or check'
+        [ $# -ge 2 ] || die '--only what? elaborate, nested or premise'
         only="--only $2"
         shift 2
     fi

@@ -1,20 +1,16 @@
 /* Calls the archive for a program that judges its answers: `compare` of oracle/, which runs this one and talks to it
  * over standard input and output. All numbers are little-endian u32.
  *
- * A case: which call (0 premise, 1 elaborate, 2 elaborate_nested, 3 elaborate_delivery, 4 elaborate_delivery_nested,
- * 5 check), length of the book, of the output, of the work area, a number that chooses the noise, how often to call; the
- * book.
- * Its answer: the last call's five numbers (premise: code, holds, 0, 0, at; check: code, 0, 0, 0, at); how many bytes of
- * the work area are not zero (check, which is lent none: are not as before); how many bytes were written that must not
- * be (of the book, or before a buffer); a measure; how many bytes of the output follow; these. The measure of one call
- * is 0, of several the nanoseconds of the quickest; and where a case is to be called 0 times, it is called once and
- * measured are the bytes of stack that it has used.
+ * A case: which call (0 premise, 1 elaborate, 2 elaborate_nested), length of the book, of the output, of the work
+ * area, a number that chooses the noise, how often to call; the book.
+ * Its answer: the last call's five numbers (premise: code, holds, 0, 0, at); how many bytes of the work area are not
+ * zero; how many bytes were written that must not be (of the book, or before a buffer); a measure; how many bytes of
+ * the output follow; these. The measure of one call is 0, of several the nanoseconds of the quickest; and where a case
+ * is to be called 0 times, it is called once and measured are the bytes of stack that it has used.
  *
  * Output and work area are filled with noise before the first call of a case. Of the output come back the bytes that
  * the answer calls the result, and more where bytes behind them have changed. Each buffer ends where a page begins that
  * can't be touched, and begins behind bytes that are held against what they were.
- *
- * With CHECK_ALONE it is for the loader's archive, which has no call but check.
  */
 #define _DEFAULT_SOURCE
 #include "samulsto.h"
@@ -116,30 +112,14 @@ struct buffers {
 
 static struct samulsto_answer call(uint32_t which, const struct buffers *b)
 {
-    struct slice book = b->book;
-    if (which == 5) {
-        struct samulsto_checked got = samulsto_check(book.bytes, book.length);
-        struct samulsto_answer numbers = {got.code, 0, 0, 0, got.at};
-        return numbers;
-    }
-#ifdef CHECK_ALONE
-    fail("this archive has no such call");
-    exit(1);
-#else
-    struct slice out = b->out, work = b->work;
+    struct slice book = b->book, out = b->out, work = b->work;
     if (which == 1)
         return samulsto_elaborate(book.bytes, book.length, out.bytes, out.length, work.bytes, work.length);
     if (which == 2)
         return samulsto_elaborate_nested(book.bytes, book.length, out.bytes, out.length, work.bytes, work.length);
-    if (which == 3)
-        return samulsto_elaborate_delivery(book.bytes, book.length, out.bytes, out.length, work.bytes, work.length);
-    if (which == 4)
-        return samulsto_elaborate_delivery_nested(book.bytes, book.length, out.bytes, out.length, work.bytes,
-                                                  work.length);
     struct samulsto_premise_answer got = samulsto_premise(book.bytes, book.length, work.bytes, work.length);
     struct samulsto_answer numbers = {got.code, got.holds, 0, 0, got.at};
     return numbers;
-#endif
 }
 
 static uint64_t now(void)
@@ -211,8 +191,7 @@ static void answer_case(uint32_t which, uint32_t times, const struct buffers *b,
     uint32_t strayed = differing(b->book.bytes - BEFORE, copy, BEFORE + b->book.length) +
                        differing(b->out.bytes - BEFORE, was, BEFORE) + differing(b->work.bytes - BEFORE, was, BEFORE);
     uint32_t shown = to_show(b->out.bytes, was + BEFORE, b->out.length, which != 0 ? got.length : 0);
-    uint32_t left = which == 5 ? differing(b->work.bytes, was + BEFORE, b->work.length)
-                               : not_zero(b->work.bytes, b->work.length);
+    uint32_t left = not_zero(b->work.bytes, b->work.length);
     uint32_t answer[9] = {got.code, got.length, got.definitions, got.lifted, got.at, left, strayed, measure, shown};
     give(answer, sizeof answer);
     give(b->out.bytes, shown);

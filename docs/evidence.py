@@ -7,7 +7,7 @@ A must-fail edit is told with the comment at its head and the function or defini
 import os
 import re
 
-USERS = ['elab', 'loader', 'listing']  # the exports, and the program
+USERS = ['elab', 'listing']  # the exports, and the program
 
 
 def read(path):
@@ -66,18 +66,16 @@ def called(crate, name):
 
 
 def handed_to(key):
-    """The functions of other crates that the one at KEY calls, itself or by functions of its file, as CRATE and FUNCTION."""
+    """The functions of other crates that the one at KEY calls, as CRATE and FUNCTION."""
     crate, name = key.split('::')[0], key.split('::')[-1]
     for path in sources(crate):
         text = read(path)
-        if f'{module(crate, path)}::{name}' != key:
-            continue
-        names = '|'.join(sorted(called(crate, name) | {name}))
-        body = ''.join(text[text.find('\n{', m.end()):text.find('\n}', m.end())]
-                       for m in re.finditer(rf'(?m)^(?:pub(?:\(crate\))? )?(?:extern "C" )?fn (?:{names})\b', text))
-        for used in re.findall(r'(?m)^use ([\w:]+);', text):
-            if used.split('::')[0] in CRATES and re.search(rf'\b{used.split("::")[-1]}\(', body):
-                yield used.split('::')[0], used.split('::')[-1]
+        m = re.search(rf'(?m)^(?:pub(?:\(crate\))? )?(?:extern "C" )?fn {name}\b', text)
+        if m and f'{module(crate, path)}::{name}' == key:
+            body = text[text.find('\n{', m.end()):text.find('\n}', m.end())]
+            for used in re.findall(r'(?m)^use ([\w:]+);', text):
+                if used.split('::')[0] in CRATES and re.search(rf'\b{used.split("::")[-1]}\(', body):
+                    yield used.split('::')[0], used.split('::')[-1]
 
 
 def user_calls():

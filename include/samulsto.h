@@ -2,11 +2,9 @@
  *
  * Link with target/staticlib/libelab.a, which `rt staticlib elab` writes for x86-64 Linux. The archive takes memcpy,
  * memmove and memset from the C library and nothing else; it keeps no state and calls nobody back, so any number of
- * threads may call it, each with buffers of its own. A loader that only checks books links
- * target/staticlib/libloader.a in its place, which `rt staticlib loader` writes and which holds samulsto_check alone.
+ * threads may call it, each with buffers of its own.
  *
- * A call takes at most SAMULSTO_STACK_BYTES of stack, samulsto_check SAMULSTO_CHECK_STACK_BYTES; docs/SPEED.md says how
- * that was summed.
+ * A call takes at most SAMULSTO_STACK_BYTES of stack; docs/SPEED.md says how that was summed.
  *
  * A book holds definitions of record layouts; docs/CODES.md and oracle/README.md show some. Every string of bytes may
  * be handed in: what is no book, or too much of one, is answered with a code.
@@ -33,13 +31,11 @@ extern "C" {
 #define SAMULSTO_NAME_BYTES 255    /* bytes of a name, at most */
 #define SAMULSTO_LEVELS 64         /* levels of a body, at most */
 #define SAMULSTO_STACK_BYTES 409600 /* stack of a call, at most: for a long book in nested mode; a short one takes 24 KiB on */
-#define SAMULSTO_CHECK_STACK_BYTES 1024 /* stack of samulsto_check, at most, at any depth of the book */
 #define SAMULSTO_PASSES 16         /* passes of the nested mode, at most */
 
 /* Codes. They are tested in this order, so a smaller one hides a larger one; but 7 to 10 are tested at each lift, in
- * the order 9, 7, 8, 10, and the first lift with one of them decides; and 12, which the nested mode alone answers, and
- * 13 and 14, which the delivery profile alone answers, are tested in this order after 6 and before any lift. The
- * profile never answers 7: its order at each lift is 9, 8, 10. docs/CODES.md says what to do about each. */
+ * the order 9, 7, 8, 10, and the first lift with one of them decides; and 12, which the nested mode alone answers, is
+ * tested after 6 and before any lift. docs/CODES.md says what to do about each. */
 enum samulsto_code {
     SAMULSTO_DONE = 0,                 /* done */
     SAMULSTO_WORK_TOO_SHORT = 1,       /* the work area is under 65,536 bytes */
@@ -53,14 +49,11 @@ enum samulsto_code {
     SAMULSTO_LIFTED_NAME_TOO_LONG = 9, /* the name of a lifted format would be over 255 bytes */
     SAMULSTO_RESULT_TOO_LARGE = 10,    /* the result would be over 16,384 bytes or 512 definitions */
     SAMULSTO_OUT_TOO_SHORT = 11,       /* the output is shorter than the result */
-    SAMULSTO_MACRO_CALL_LEFT = 12,     /* a known macro call is left after pass 16 */
-    SAMULSTO_CALL_LEFT = 13,           /* delivery profile: a macro call is left in a format's body after expansion */
-    SAMULSTO_CHAIN_ELSEWHERE = 14      /* delivery profile: a chained format stands elsewhere than on Bytes and Tail */
+    SAMULSTO_MACRO_CALL_LEFT = 12      /* a known macro call is left after pass 16 */
 };
 
-/* What samulsto_elaborate (0 to 11), samulsto_elaborate_nested (0 to 12), samulsto_elaborate_delivery (0 to 6, 8 to 11,
- * 13, 14) and samulsto_elaborate_delivery_nested (0 to 6, 8 to 14) answer. After a refusal every number but `code` and
- * `at` is 0.
+/* What samulsto_elaborate (0 to 11) and samulsto_elaborate_nested (0 to 12) answer. After a refusal every number but
+ * `code` and `at` is 0.
  *
  * `at` is 0 unless `code` is 3, 4 or 5. With these it is the offset in the book of the first byte of the item at fault:
  * of a count, of an entry of the contents, of a tag, kind or flag, of a name or text (its length), or of the first
@@ -79,16 +72,6 @@ struct samulsto_premise_answer {
     uint32_t holds; /* 1 for yes, 0 for no */
     uint32_t at;    /* for 3, 4 and 5 the byte of the book at fault, else 0 */
 };
-
-/* What samulsto_check answers. */
-struct samulsto_checked {
-    uint32_t code; /* 0, or 2 to 5 of enum samulsto_code */
-    uint32_t at;   /* for 3, 4 and 5 the byte of the book at fault, else 0 */
-};
-
-/* Whether a book can be read, for a loader with little stack: 0, or what every other call with a sufficient work area
- * answers of this book, code and place. It is lent the book alone, which is not written to. */
-struct samulsto_checked samulsto_check(const uint8_t *book, size_t book_length);
 
 /* Expands the macros of a book and lifts its nested formats into definitions of their own.
  *
@@ -109,27 +92,9 @@ struct samulsto_answer samulsto_elaborate(const uint8_t *book, size_t book_lengt
 struct samulsto_answer samulsto_elaborate_nested(const uint8_t *book, size_t book_length, uint8_t *out,
                                                  size_t out_length, uint8_t *work, size_t work_length);
 
-/* The same in the delivery profile, for layouts that leave the house, in one pass and in nested mode. Once macros are
- * expanded, and before any format is lifted, two rules are tested over the bodies of all formats; parameter types are
- * not looked at.
- *
- * 13: a macro call is left, of whatever macro; tested over the whole book before the other rule.
- * 14: a chained format stands on something else than Bytes or Tail.
- * Where both rules hold, the answer and the output are those of the call without the profile. Code 7 is never answered:
- * where no macro call is left, none is met. Output, counts, work area and book: as with samulsto_elaborate. */
-struct samulsto_answer samulsto_elaborate_delivery(const uint8_t *book, size_t book_length, uint8_t *out,
-                                                   size_t out_length, uint8_t *work, size_t work_length);
-struct samulsto_answer samulsto_elaborate_delivery_nested(const uint8_t *book, size_t book_length, uint8_t *out,
-                                                          size_t out_length, uint8_t *work, size_t work_length);
-
-/* The result of any of these calls may be handed in again: it is accepted, comes back byte for byte the same, and
- * nothing is lifted. The second call may be another one, but not one of the profile after one without it. */
-
-/* Whether, once macros are expanded as samulsto_elaborate does, every format that is called in a format's body or in a
- * parameter type is defined in the book (constants count too), and chains stand there on Bytes and Tail alone. Types are
- * looked at as they stand, and macro calls pass with their arguments. Where the answer is yes, no generator meets a name
- * that nobody has in these places, putting the lifted definitions back gives the expanded book again, and their
- * parameters are exactly the ones that are needed. (The last two need no more than that bodies are such.)
+/* Whether, once macros are expanded as samulsto_elaborate does, every format that is called in a format's body is
+ * defined in the book (constants count too) and chains stand on Bytes and Tail alone. Where it does, putting the lifted
+ * definitions back gives the expanded book again, and their parameters are exactly the ones that are needed.
  * In every case work is all zero afterwards, however long it is, and the book is not written to. */
 struct samulsto_premise_answer samulsto_premise(const uint8_t *book, size_t book_length, uint8_t *work,
                                                 size_t work_length);

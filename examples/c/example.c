@@ -14,8 +14,7 @@ int main(void)
     /* One byte more than a book may have, so that a longer one is seen to be longer. */
     size_t length = fread(book, 1, sizeof book, stdin);
     struct samulsto_premise_answer premise = samulsto_premise(book, length, work, sizeof work);
-    /* For macros that call macros: samulsto_elaborate_nested, with the same words. For layouts that leave the house:
-     * samulsto_elaborate_delivery, or samulsto_elaborate_delivery_nested. */
+    /* For macros that call macros: samulsto_elaborate_nested, with the same words. */
     struct samulsto_answer answer = samulsto_elaborate(book, length, out, sizeof out, work, sizeof work);
 
     if (answer.code != SAMULSTO_DONE) {
@@ -25,7 +24,7 @@ int main(void)
         fputs("; docs/CODES.md says what to do\n", stderr);
         return 1;
     }
-    fprintf(stderr, "%u definitions, %u of them lifted, %u bytes; the premise test says %s\n", (unsigned)answer.definitions,
-            (unsigned)answer.lifted, (unsigned)answer.length, premise.holds ? "yes" : "no");
+    fprintf(stderr, "%u definitions, %u of them lifted, %u bytes; the premises %s\n", (unsigned)answer.definitions,
+            (unsigned)answer.lifted, (unsigned)answer.length, premise.holds ? "hold" : "do not hold");
     return fwrite(out, 1, answer.length, stdout) == answer.length ? 0 : 1;
 }

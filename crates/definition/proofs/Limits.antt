@@ -22,11 +22,17 @@ limits =
     refl &
     refl &
     refl &
+    -- 2: a book of 16,384 bytes passes
+    refl &
+    -- 6: a macro's combinator of 16,384 bytes passes, of 16,385 with its chain does not
+    refl &
+    refl &
     -- 10: 512 definitions pass; it is tested before the lifts inside (reading 2), of which one is 8; the listing prints a number of two digits
     refl &
     refl &
     refl &
     -- "The work area, short or not, is all zero afterwards", and as long as it was
+    refl &
     refl &
     refl &
     all

@@ -58,7 +58,9 @@ pinned =
     -- a parameter named twice is substituted twice; an argument that calls an earlier parameter keeps that call; extra ones are ignored
     refl &
     refl &
-    -- rule 5: 64 levels pass and 65 do not (over 16,384 bytes: `Large` of crate `laws`)
+    -- rule 5: 64 levels pass and 65 do not; over 16,384 bytes after the first parameter, whatever the second takes away; the finished book
+    refl &
+    refl &
     refl &
     refl &
     -- 7 where collection goes, and nowhere else (reading 8); before 8 at one lift; not before the 8 of an earlier lift (reading 2)
@@ -77,7 +79,9 @@ pinned =
     refl &
     refl &
     refl &
-    -- 10: 513 definitions do not pass (16,385 bytes: `Large` of crate `laws`)
+    -- 10: 16,384 bytes pass and 16,385 do not, nor do 513 definitions
+    refl &
+    refl &
     refl &
     -- 11: one byte short, and just enough
     refl &
@@ -112,21 +116,9 @@ pinned =
     refl &
     refl &
     refl &
-    -- macro arguments aside (reading 14); after expansion; a macro is no kind 1 or 2
+    -- macro arguments aside (reading 14), and parameter types; after expansion; a macro is no kind 1 or 2
     refl &
     refl &
-    refl &
-    -- document 02 c, a type that calls: nobody, the format itself, a macro's name; nobody, deep inside, in a second type, in a later format
-    refl &
-    refl &
-    refl &
-    refl &
-    refl &
-    refl &
-    -- a chain inside a type: on Nothing, on Tail
-    refl &
-    refl &
-    -- reading 19: macro calls in a type pass with their arguments, known or not, and are never expanded
     refl &
     refl &
     -- it gives 1 to 6, and nothing later: this book is 8 for the call

@@ -1,5 +1,5 @@
 -- A row of the tables `Pinned`, `Limits` and `Places`: what is asked of the definition, and what it says.
-use Rattle.std.specs.Prelude.{List, [], ◌∷◌, ◌++◌, map, ℕ, zero, suc, ◌+◌, ◌-◌, length}
+use Rattle.std.specs.Prelude.{List, [], ◌∷◌, ◌++◌, ℕ, zero, suc, ◌+◌, ◌-◌, length}
 use Prim.Native.String.{String}
 use Rattle.definition.specs.Utf8.{utf8}
 use Rattle.definition.specs.Tree.{Inner, Combinator, plain, Definition}
@@ -8,7 +8,7 @@ use Rattle.definition.specs.Answer.{Answer, answer, output, zeroed}
 use Rattle.definition.specs.Premise.{PremiseAnswer, premise}
 use Rattle.definition.specs.Listing.{listing}
 use Rattle.definition.specs.Rows.{Each}
-use Rattle.definition.specs.Notation.{Nothing, Bytes, one, Macro, param, fmt}
+use Rattle.definition.specs.Notation.{Nothing, Bytes, one, Macro}
 use Rattle.definition.specs.Worked.{Outcome, refuses_at, gives, answer_of, noise}
 
 pub data Row : Type 0 where
@@ -47,10 +47,6 @@ H = one "b" (uses "n")
 
 abbrev pub zz : Combinator
 zz = plain (Macro "zz" [])
-
--- a format m with parameters n of these types
-abbrev pub typed : List Inner → List Definition
-typed is = fmt "m" (map (param "n") is) (plain Nothing) ∷ []
 
 -- a macro call inside a macro call, k deep
 unfoldable pub nested : ℕ → Inner

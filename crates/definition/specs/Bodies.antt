@@ -1,6 +1,6 @@
--- Tests over the bodies of formats and over their parameter types, macro arguments aside.
+-- Tests over the bodies of formats, macro arguments aside.
 use Rattle.std.specs.Prelude.{List, [], ◌∷◌, Bool, true, ◌&&◌}
-use Rattle.definition.specs.Tree.{Name, Combinator, plain, chained, Inner, leaf, struct, choice, shell, bytes, invocation, macro_invocation, Fields, no_field, field, const, Cases, no_case, case, Param, Definition, format, constant, byte_order, macro}
+use Rattle.definition.specs.Tree.{Name, Combinator, plain, chained, Inner, leaf, struct, choice, shell, bytes, invocation, macro_invocation, Fields, no_field, field, const, Cases, no_case, case, Definition, format, constant, byte_order, macro}
 use Rattle.definition.specs.Collect.{bytes_or_tail}
 
 -- every called name passes a test
@@ -57,15 +57,3 @@ every_body test (format n ps c ∷ ds) = test c && every_body test ds
 every_body test (constant n x ∷ ds) = every_body test ds
 every_body test (byte_order x ∷ ds) = every_body test ds
 every_body test (macro n ps c ∷ ds) = every_body test ds
-
--- every type of a format's parameters, as it stands
-unfoldable pub every_param : (Inner → Bool) → List Param → Bool
-every_param test [] = true
-every_param test (p ∷ ps) = test p.type && every_param test ps
-
-unfoldable pub every_type : (Inner → Bool) → List Definition → Bool
-every_type test [] = true
-every_type test (format n ps c ∷ ds) = every_param test ps && every_type test ds
-every_type test (constant n x ∷ ds) = every_type test ds
-every_type test (byte_order x ∷ ds) = every_type test ds
-every_type test (macro n ps c ∷ ds) = every_type test ds

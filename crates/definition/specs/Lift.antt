@@ -54,17 +54,16 @@ bind dependent l d binders = binders ++ (record { name = l; type = inner_of d } 
 abbrev pub Walk : Type 0
 Walk = Name → List Param → State → Res State Combinator
 
--- what a walk lifts, by the child and the count of definitions so far; where collecting meets a macro call; and what is within the limits, by bytes and
--- definitions. Document 01's walk is `full`. Two things need another: the laws about code 10 (crate `laws`, `measure_is_size` and those after it) look at
--- walks that stop earlier, and document 02 f has a walk for the delivery profile that looks for no macro call (crate `modes`)
+-- what a walk lifts, by the child and the count of definitions so far, and what it holds to be within the limits, by bytes and definitions.
+-- Document 01's walk is `full`. Two things need another: the laws about code 10 (crate `laws`, `measure_is_size` and those after it) look at walks that stop earlier,
+-- and document 02 f will have a walk for the delivery profile, "9, 8, 10 at each lift"
 pub record Course : Type 0 where
   pub lifts : Combinator → ℕ → Bool
-  pub meets : Combinator → Bool
   pub within : ℕ → ℕ → Bool
 
 -- "An anonymous child is lifted"; "10: result over 16,384 bytes or 512 definitions"
 abbrev pub full : Course
-full = record { lifts = λ c n. anonymous c; meets = λ c. leftover c; within = λ b n. leb b 16384 && leb n 512 }
+full = record { lifts = λ c n. anonymous c; within = λ b n. leb b 16384 && leb n 512 }
 
 module _ (course : Course) where
   -- "9, 7, 8, 10": the measure of 10 is taken with this lift made
@@ -78,7 +77,7 @@ module _ (course : Course) where
       let ns = sorted (free c) in
       let there = plain (invocation n ns) in do
         (u, s) ← require (leb (length n) 255) name_long s
-        (u, s) ← require (not (course.meets c)) leftover_macro s
+        (u, s) ← require (not (leftover c)) leftover_macro s
         (ps, s) ← typed binders ns s
         (u, s) ← measured (grow (format n ps c) there c s)
         (d, s) ← inside n binders (take n s)
@@ -160,11 +159,6 @@ unfoldable pub start : List Definition → State
 start ds = record { taken = names ds; made = []; bytes = size_book ds; defns = length ds }
 
 -- the definitions with what was lifted out of them replaced by calls; the lifted ones are in the state. It has all that it takes to compute on its line
-unfoldable pub lift_book_by : Course → List Definition → Res State (List Definition)
-unfolding eq_name elem remove before insert sorted root letter letters segment digits decimal child case_segment shell_segment numbered first_free fresh size_of size size_book w_book inner_of anonymous_leaf anonymous is_tail bytes_or_tail selector_uses shell_uses unbound free leftover binder bound typed take grow measured append lift child_by bind walk walk_all names start
-lift_book_by course ds = walk_all course ds (start ds)
-
--- document 01's
 unfoldable pub lift_book_of : List Definition → Res State (List Definition)
-unfolding lift_book_by
-lift_book_of ds = lift_book_by full ds
+unfolding eq_name elem remove before insert sorted root letter letters segment digits decimal child case_segment shell_segment numbered first_free fresh size_of size size_book w_book inner_of anonymous_leaf anonymous is_tail bytes_or_tail selector_uses shell_uses unbound free leftover binder bound typed take grow measured append lift child_by bind walk walk_all names start
+lift_book_of ds = walk_all full ds (start ds)

@@ -21,6 +21,11 @@ table =
     raw (hex "01 00 01 00 08 00 44 00 01 76 00 00" ++ replicate 64 8) (refuses_at 3 76) ∷
     tree (fmt "m" (param "n" (nested 63) ∷ []) (plain Nothing) ∷ []) (becomes 0 (fmt "m" (param "n" (nested 63) ∷ []) (plain Nothing) ∷ [])) ∷
     tree (fmt "m" (param "n" (nested 64) ∷ []) (plain Nothing) ∷ []) (refuses_at 5 334) ∷
+    -- 2: a book of 16,384 bytes passes
+    tree (m (fat 16368)) (becomes 0 (m (fat 16368))) ∷
+    -- 6: a macro's combinator of 16,384 bytes passes, of 16,385 with its chain does not
+    tree (mac "p" ("a" ∷ []) (chained (Call "a" []) (plain (Call "a" []))) ∷ m (plain (Macro "p" (leaf enum (replicate 8188 46) ∷ [])))) (becomes 0 (m (fat 8188))) ∷
+    tree (mac "p" ("a" ∷ []) (chained (Call "a" []) (chained (Call "a" []) (plain (Int "k")))) ∷ m (plain (Macro "p" (leaf enum (replicate 8186 46) ∷ [])))) (refuses 6) ∷
     -- 10: 512 definitions pass; it is tested before the lifts inside (reading 2), of which one is 8; the listing prints a number of two digits
     tree (fmt "m" [] (one "a" (plain Enum)) ∷ replicate 510 (byte_order [])) (becomes 1 (fmt "m" [] (one "a" (plain (Call "m_a" []))) ∷ (replicate 510 (byte_order []) ++ (fmt "m_a" [] (plain Enum) ∷ [])))) ∷
     tree (m (one "a" (chained (leaf enum (replicate 16330 46)) H))) (refuses 10) ∷
@@ -28,6 +33,7 @@ table =
     -- "The work area, short or not, is all zero afterwards", and as long as it was
     clears [] [] ∷
     clears (hex "AA 00 FF") (hex "00 00 00") ∷
+    clears (noise 65536) (replicate 65536 0) ∷
     []
 
 -- the theorem

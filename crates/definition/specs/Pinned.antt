@@ -6,7 +6,7 @@ use Rattle.definition.specs.Tree.{leaf, enum, struct, none, by, enums, ints, arr
 use Rattle.definition.specs.Write.{w_book}
 use Rattle.definition.specs.Notation.{hex, Int, Enum, Bits, Tail, Nothing, Bytes, Vec, Option, Array, Wrap, Call, ord, dep, on, one, vecs, Macro, param, fmt, mac, m, long, fat}
 use Rattle.definition.specs.Worked.{refuses_at, refuses, gives}
-use Rattle.definition.specs.Asked.{Row, elaborates, tells, lists, becomes, raw, tree, uses, H, zz, nested, typed, Holds}
+use Rattle.definition.specs.Asked.{Row, elaborates, tells, lists, becomes, raw, tree, uses, H, zz, nested, Holds}
 
 unfoldable pub bytes_rows : List Row
 bytes_rows =
@@ -64,9 +64,12 @@ macro_rows =
     -- a parameter named twice is substituted twice; an argument that calls an earlier parameter keeps that call; extra ones are ignored
     tree (mac "p" ("a" ∷ "a" ∷ []) (plain (Call "a" [])) ∷ m (plain (Macro "p" (Vec (plain (Call "a" [])) ∷ Nothing ∷ [])))) (becomes 0 (m (plain (Vec (plain Nothing))))) ∷
     tree (mac "p" ("a" ∷ "b" ∷ []) (plain (Call "b" [])) ∷ m (plain (Macro "p" (Nothing ∷ Call "a" [] ∷ Enum ∷ [])))) (becomes 0 (m (plain (Call "a" [])))) ∷
-    -- rule 5: 64 levels pass and 65 do not (over 16,384 bytes: `Large` of crate `laws`)
+    -- rule 5: 64 levels pass and 65 do not; over 16,384 bytes after the first parameter, whatever the second takes away; the finished book
     tree (mac "p" ("a" ∷ []) (vecs 63 (plain (Call "a" []))) ∷ m (plain (Macro "p" (Nothing ∷ [])))) (becomes 0 (m (vecs 63 (plain Nothing)))) ∷
     tree (mac "p" ("a" ∷ []) (vecs 63 (plain (Call "a" []))) ∷ m (plain (Macro "p" (Vec (plain Nothing) ∷ [])))) (refuses 6) ∷
+    tree (mac "p" ("a" ∷ "b" ∷ []) (plain (struct (ord "x" (plain (Call "a" [])) (ord "y" (plain (Call "a" [])) (ord "z" (plain (invocation (utf8 "b") (replicate 32 (long 250)))) no_field)))))
+    ∷ m (plain (Macro "p" (leaf enum (replicate 4500 46) ∷ Nothing ∷ [])))) (refuses 6) ∷
+    tree (mac "p" [] (fat 9000) ∷ m (plain (struct (ord "x" (plain (Macro "p" [])) (ord "y" (plain (Macro "p" [])) no_field))))) (refuses 6) ∷
     []
 
 unfoldable pub lift_rows : List Row
@@ -88,7 +91,9 @@ lift_rows =
     (becomes 1 (format (long 251) [] (one "a" (plain (invocation (long 251 ++ utf8 "_a_0") []))) ∷ constant (long 251 ++ utf8 "_a") [] ∷ format (long 251 ++ utf8 "_a_0") [] (plain Enum) ∷ [])) ∷
     tree (format (long 252) [] (one "a" (plain Enum)) ∷ constant (long 252 ++ utf8 "_a") [] ∷ []) (refuses 9) ∷
     tree (format (long 254) [] (one "a" (one "x" zz)) ∷ []) (refuses 9) ∷
-    -- 10: 513 definitions do not pass (16,385 bytes: `Large` of crate `laws`)
+    -- 10: 16,384 bytes pass and 16,385 do not, nor do 513 definitions
+    tree (m (one "a" (fat 16341))) (becomes 1 (fmt "m" [] (one "a" (plain (Call "m_a" []))) ∷ fmt "m_a" [] (fat 16341) ∷ [])) ∷
+    tree (m (one "a" (fat 16342))) (refuses 10) ∷
     tree (fmt "m" [] (one "a" (plain Enum)) ∷ replicate 511 (byte_order [])) (refuses 10) ∷
     -- 11: one byte short, and just enough
     elaborates (w_book (m (plain Nothing))) 15 65536 (refuses 11) ∷
@@ -152,23 +157,11 @@ said_rows =
     tells (w_book (constant (utf8 "q") [] ∷ m (one "x" (plain (Call "q" []))))) 65536 0 1 ∷
     tells (w_book (m (one "x" (chained Enum (plain Nothing))))) 65536 0 0 ∷
     tells (w_book (m (one "x" (chained Tail (chained (Bytes []) (plain Nothing)))))) 65536 0 1 ∷
-    -- macro arguments aside (reading 14); after expansion; a macro is no kind 1 or 2
+    -- macro arguments aside (reading 14), and parameter types; after expansion; a macro is no kind 1 or 2
     tells (w_book (m (plain (Macro "z" (Call "q" [] ∷ Vec (chained Enum (plain Nothing)) ∷ []))))) 65536 0 1 ∷
+    tells (w_book (fmt "m" (param "n" (Call "q" []) ∷ []) (plain Nothing) ∷ [])) 65536 0 1 ∷
     tells (w_book (mac "p" [] (plain (Call "q" [])) ∷ m (plain (Macro "p" [])))) 65536 0 0 ∷
     tells (w_book (mac "q" [] (plain Nothing) ∷ m (plain (Call "q" [])))) 65536 0 0 ∷
-    -- document 02 c, a type that calls: nobody, the format itself, a macro's name; nobody, deep inside, in a second type, in a later format
-    tells (w_book (typed (Call "q" [] ∷ []))) 65536 0 0 ∷
-    tells (w_book (typed (Call "m" [] ∷ []))) 65536 0 1 ∷
-    tells (w_book (mac "q" [] (plain Nothing) ∷ typed (Call "q" [] ∷ []))) 65536 0 0 ∷
-    tells (w_book (typed (Vec (one "x" (chained Tail (plain (Call "q" [])))) ∷ []))) 65536 0 0 ∷
-    tells (w_book (typed (Call "m" [] ∷ Call "q" [] ∷ []))) 65536 0 0 ∷
-    tells (w_book (fmt "e" [] (plain Nothing) ∷ typed (Call "q" [] ∷ []))) 65536 0 0 ∷
-    -- a chain inside a type: on Nothing, on Tail
-    tells (w_book (typed (Vec (chained Nothing (plain Nothing)) ∷ []))) 65536 0 0 ∷
-    tells (w_book (typed (Vec (chained Tail (plain (Call "m" []))) ∷ []))) 65536 0 1 ∷
-    -- reading 19: macro calls in a type pass with their arguments, known or not, and are never expanded
-    tells (w_book (typed (Macro "z" (Call "q" [] ∷ Vec (chained Nothing (plain Nothing)) ∷ []) ∷ []))) 65536 0 1 ∷
-    tells (w_book (mac "p" ("a" ∷ []) (one "x" (plain (Call "q" []))) ∷ typed (Macro "p" (Call "q" [] ∷ []) ∷ []))) 65536 0 1 ∷
     -- it gives 1 to 6, and nothing later: this book is 8 for the call
     tells [] 65535 1 0 ∷
     tells [] 65536 3 0 ∷

@@ -1,12 +1,11 @@
--- Premise test: "yes exactly when after macro expansion every Invocation in a format body, macro arguments aside, names a kind 1 or 2 definition, and every chain there stands on Bytes or Tail" (reading 14, docs/READINGS.md),
--- and of parameter types the same (document 02 c).
+-- Premise test: "yes exactly when after macro expansion every Invocation in a format body, macro arguments aside, names a kind 1 or 2 definition, and every chain there stands on Bytes or Tail" (reading 14, docs/READINGS.md).
 use Rattle.std.specs.Prelude.{List, Bool, true, false, ◌&&◌, ℕ, leb}
 use Rattle.definition.specs.Code.{number, work_short}
 use Rattle.definition.specs.Out.{Out, refused, done, ◌>>=◌, given}
 use Rattle.definition.specs.Tree.{Definition}
 use Rattle.definition.specs.Names.{eq_name, elem}
 use Rattle.definition.specs.Collect.{bytes_or_tail, is_tail}
-use Rattle.definition.specs.Bodies.{every_invocation, every_invocation_i, chains_ok, chains_ok_i, every_body, every_param, every_type}
+use Rattle.definition.specs.Bodies.{every_invocation, chains_ok, every_body}
 use Rattle.definition.specs.Lift.{names}
 use Rattle.definition.specs.Contents.{read_book_of}
 use Rattle.definition.specs.Macros.{expand_book}
@@ -20,20 +19,12 @@ calls_known ds = every_body (λ c. every_invocation c (λ n. elem n (names ds)))
 unfoldable pub chains_plain : List Definition → Bool
 chains_plain ds = every_body chains_ok ds
 
--- document 02 c: "every Invocation in a parameter type, macro arguments aside, must also name a kind 1 or 2 definition for a yes" (reading 19, docs/READINGS.md)
-unfoldable pub types_known : List Definition → Bool
-types_known ds = every_type (λ i. every_invocation_i i (λ n. elem n (names ds))) ds
-
--- "and the chain rule holds for whatever combinators such a type contains"
-unfoldable pub types_plain : List Definition → Bool
-types_plain ds = every_type chains_ok_i ds
-
 -- "takes a book and a work area, gives 1 to 6 as above, else yes or no"
 unfoldable pub tested : List ℕ → ℕ → Out Bool
 tested book workLength = do
   b ← given (leb 65536 workLength) work_short book
   ds ← expanded b
-  done ((calls_known ds && chains_plain ds) && (types_known ds && types_plain ds))
+  done (calls_known ds && chains_plain ds)
 
 -- the answer in numbers: the code, 1 for yes, and the offset of the item at fault (document 02 a)
 pub record PremiseAnswer : Type 0 where
@@ -48,5 +39,5 @@ told p (done false) = record { code = 0; holds = 0; at = 0 }
 
 -- "The work area is all zero afterwards": `zeroed` of Answer
 unfoldable pub premise : List ℕ → ℕ → PremiseAnswer
-unfolding number every_invocation chains_ok every_body every_param every_type calls_known chains_plain types_known types_plain expanded read_book_of expand_book eq_name elem bytes_or_tail is_tail names tested told fault_at
+unfolding number every_invocation chains_ok every_body calls_known chains_plain expanded read_book_of expand_book eq_name elem bytes_or_tail is_tail names tested told fault_at
 premise book workLength = told (fault_at book workLength) (tested book workLength)

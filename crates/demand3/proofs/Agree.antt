@@ -3,15 +3,15 @@ use mathlib.Core.Path.{◌≡◌, refl}
 use mathlib.Core.Logic.{◌⊎◌, inl, inr}
 use mathlib.Core.List.{List, [], ◌∷◌}
 use mathlib.Core.Bool.{Bool, true, false, ◌&&◌}
-use Rattle.definition.specs.Tree.{Name, Leaf, constraint_int, constraint_enum, bits, enum, tail, nothing, never, Combinator, plain, chained, Inner, leaf, struct, choice, shell, bytes, invocation, macro_invocation, Fields, no_field, field, const, Cases, no_case, case, Param, Definition, format, constant, byte_order, macro}
+use Rattle.definition.specs.Tree.{Name, Leaf, constraint_int, constraint_enum, bits, enum, tail, nothing, never, Combinator, plain, chained, Inner, leaf, struct, choice, shell, bytes, invocation, macro_invocation, Fields, no_field, field, const, Cases, no_case, case, Definition, format, constant, byte_order, macro}
 use Rattle.definition.specs.Names.{eq_name, elem}
 use Rattle.definition.specs.Collect.{is_tail, bytes_or_tail}
 use Rattle.definition.specs.Lift.{names}
-use Rattle.definition.specs.Bodies.{every_invocation, every_invocation_i, every_invocation_f, every_invocation_c, chains_ok, chains_ok_i, chains_ok_f, chains_ok_c, every_body, every_param, every_type}
-use Rattle.definition.specs.Premise.{calls_known, chains_plain, types_known, types_plain}
+use Rattle.definition.specs.Bodies.{every_invocation, every_invocation_i, every_invocation_f, every_invocation_c, chains_ok, chains_ok_i, chains_ok_f, chains_ok_c, every_body}
+use Rattle.definition.specs.Premise.{calls_known, chains_plain}
 use Rattle.laws.proofs.Tests.{by_test, not_both, both_true}
 use Rattle.laws.proofs.Members.{eq_name-true, eq_name_refl}
-use Rattle.demand3.specs.Words.{Named, EachBody, EachParam, EachType, EachCall, EachCallI, EachCallF, EachCallC, IsTail, BytesOrTail, PlainChains, PlainChainsI, PlainChainsF, PlainChainsC}
+use Rattle.demand3.specs.Words.{Named, EachBody, EachCall, EachCallI, EachCallF, EachCallC, IsTail, BytesOrTail, PlainChains, PlainChainsI, PlainChainsF, PlainChainsC}
 use Rattle.demand3.specs.Demand3.{CallsKnown, ChainsPlain}
 
 -- names of the list
@@ -57,7 +57,7 @@ module _ (P : Name → Type 0) (test : Name → Bool) (h : (n : Name) → P n �
     calls_pass (plain i) p = calls_pass_i i p
     calls_pass (chained i c) p = rw (calls_pass_i i p.0, calls_pass c p.1)
 
-    pub calls_pass_i : (i : Inner) → EachCallI i P → every_invocation_i i test ≡ true
+    calls_pass_i : (i : Inner) → EachCallI i P → every_invocation_i i test ≡ true
     calls_pass_i (leaf k x) p = refl
     calls_pass_i (struct f) p = calls_pass_f f p
     calls_pass_i (choice s k f) p = calls_pass_c f p
@@ -83,7 +83,7 @@ module _ (P : Name → Type 0) (test : Name → Bool) (h : (n : Name) → test n
     passed_calls (plain i) p = passed_calls_i i p
     passed_calls (chained i c) p = let q = both_true (every_invocation_i i test) (every_invocation c test) p in (passed_calls_i i q.0, passed_calls c q.1)
 
-    pub passed_calls_i : (i : Inner) → every_invocation_i i test ≡ true → EachCallI i P
+    passed_calls_i : (i : Inner) → every_invocation_i i test ≡ true → EachCallI i P
     passed_calls_i (leaf k x) p = tt
     passed_calls_i (struct f) p = passed_calls_f f p
     passed_calls_i (choice s k f) p = passed_calls_c f p
@@ -245,35 +245,7 @@ module _ (P : Combinator → Type 0) (test : Combinator → Bool) where
   passed_bodies h (byte_order x ∷ ds) p = passed_bodies h ds p
   passed_bodies h (macro n ps c ∷ ds) p = passed_bodies h ds p
 
--- all types
-module _ (P : Inner → Type 0) (test : Inner → Bool) where
-  params_pass : ((i : Inner) → P i → test i ≡ true) → (ps : List Param) → EachParam P ps → every_param test ps ≡ true
-  unfolding every_param
-  params_pass h [] p = refl
-  params_pass h (q ∷ ps) p = rw (h q.type p.0, params_pass h ps p.1)
-
-  passed_params : ((i : Inner) → test i ≡ true → P i) → (ps : List Param) → every_param test ps ≡ true → EachParam P ps
-  unfolding every_param
-  passed_params h [] p = tt
-  passed_params h (q ∷ ps) p = let r = both_true (test q.type) (every_param test ps) p in (h q.type r.0, passed_params h ps r.1)
-
-  types_pass : ((i : Inner) → P i → test i ≡ true) → (ds : List Definition) → EachType P ds → every_type test ds ≡ true
-  unfolding every_type
-  types_pass h [] p = refl
-  types_pass h (format n ps c ∷ ds) p = rw (params_pass h ps p.0, types_pass h ds p.1)
-  types_pass h (constant n x ∷ ds) p = types_pass h ds p
-  types_pass h (byte_order x ∷ ds) p = types_pass h ds p
-  types_pass h (macro n ps c ∷ ds) p = types_pass h ds p
-
-  passed_types : ((i : Inner) → test i ≡ true → P i) → (ds : List Definition) → every_type test ds ≡ true → EachType P ds
-  unfolding every_type
-  passed_types h [] p = tt
-  passed_types h (format n ps c ∷ ds) p = let q = both_true (every_param test ps) (every_type test ds) p in (passed_params h ps q.0, passed_types h ds q.1)
-  passed_types h (constant n x ∷ ds) p = passed_types h ds p
-  passed_types h (byte_order x ∷ ds) p = passed_types h ds p
-  passed_types h (macro n ps c ∷ ds) p = passed_types h ds p
-
--- the two premises, and the same of types
+-- the two premises
 module _ (ds : List Definition) where
   abbrev Known : Name → Type 0
   Known n = Named n ds
@@ -296,19 +268,3 @@ module _ (ds : List Definition) where
   pub plain_chains : chains_plain ds ≡ true → ChainsPlain ds
   unfolding chains_plain
   plain_chains p = passed_bodies PlainChains chains_ok (λ c w. passed_chains c w) ds p
-
-  pub types_known_lem : EachType (λ i. EachCallI i Known) ds → types_known ds ≡ true
-  unfolding types_known
-  types_known_lem p = types_pass (λ i. EachCallI i Known) (λ i. every_invocation_i i known) (λ i w. calls_pass_i Known known (λ n q. named_elem n ds q) i w) ds p
-
-  pub known_types : types_known ds ≡ true → EachType (λ i. EachCallI i Known) ds
-  unfolding types_known
-  known_types p = passed_types (λ i. EachCallI i Known) (λ i. every_invocation_i i known) (λ i w. passed_calls_i Known known (λ n q. elem_named n ds q) i w) ds p
-
-  pub types_plain_lem : EachType PlainChainsI ds → types_plain ds ≡ true
-  unfolding types_plain
-  types_plain_lem p = types_pass PlainChainsI chains_ok_i (λ i w. chains_pass_i i w) ds p
-
-  pub plain_types : types_plain ds ≡ true → EachType PlainChainsI ds
-  unfolding types_plain
-  plain_types p = passed_types PlainChainsI chains_ok_i (λ i w. passed_chains_i i w) ds p

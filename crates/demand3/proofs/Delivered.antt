@@ -1,33 +1,27 @@
 -- Demand 3 about the bytes that are written, and about the premise test's answer.
-use mathlib.Core.Path.{◌≡◌, refl, sym, ap, ◌∙◌}
-use mathlib.Core.Logic.{⊎_elim}
-use mathlib.Core.List.{List, [], ◌∷◌, ◌++◌}
+use mathlib.Core.Path.{◌≡◌, refl}
+use mathlib.Core.List.{List, [], ◌++◌}
 use mathlib.Core.Bool.{Bool, true, false, ◌&&◌}
 use Prim.Native.Nat.{ℕ, ◌+◌, ◌-◌, ◌≤◌}
 use native.Mathlib.Omega.{arith}
 use lib.Dec.{leb}
-use lib.ListN.{length, drop, get_or, length-append}
+use lib.ListN.{length, drop, length-append}
 use lib.Seq.{take-append_seam, drop-append_seam}
 use borrow.Author.Tests.{leb-true, le-leb}
 use Rattle.definition.specs.Res.{ok}
 use Rattle.definition.specs.Code.{work_short}
 use Rattle.definition.specs.Out.{Out, refused, done, given}
-use Rattle.definition.specs.Tree.{plain, Definition}
-use Rattle.definition.specs.Utf8.{utf8}
+use Rattle.definition.specs.Tree.{Definition}
 use Rattle.definition.specs.Contents.{read_book_of}
-use Rattle.definition.specs.Macros.{expand_book}
 use Rattle.definition.specs.Write.{w_book}
 use Rattle.definition.specs.Answer.{expanded, Result, all, answered, fault_at, attempt, answer, output}
-use Rattle.definition.specs.Premise.{calls_known, chains_plain, types_known, types_plain, tested, told, premise}
-use Rattle.definition.specs.Notation.{Nothing, Call, param, fmt}
+use Rattle.definition.specs.Premise.{calls_known, chains_plain, tested, told, premise}
 use Rattle.laws.specs.Laws.{AcceptedBy}
 use Rattle.laws.proofs.Tests.{both_true}
 use Rattle.laws.proofs.Steps.{yielded, did_out, did_given}
 use Rattle.laws.proofs.Results.{attempt_yields, result_is_book}
-use Rattle.demand3.specs.Delivered.{DeliveredFrom, AcceptedIsDelivered, Premises, Types, type_of_nobody, YesIsPremises, YesSaysMore}
-use Rattle.demand3.specs.Words.{Named, EachType, EachCallI}
-use Rattle.demand3.specs.Demand3.{CallsKnown, ChainsPlain}
-use Rattle.demand3.proofs.Agree.{calls_known_lem, known_calls, chains_plain_lem, plain_chains, types_known_lem, known_types, types_plain_lem, plain_types}
+use Rattle.demand3.specs.Delivered.{DeliveredFrom, AcceptedIsDelivered, Premises, YesIsPremises}
+use Rattle.demand3.proofs.Agree.{calls_known_lem, known_calls, chains_plain_lem, plain_chains}
 use Rattle.demand3.proofs.Demand3.{Comes, comes}
 
 -- the lifted ones are the last
@@ -66,64 +60,21 @@ told_yes p (refused k) h = absurd (omega arith)
 told_yes p (done true) h = refl
 told_yes p (done false) h = absurd (omega arith)
 
-yes_premises : (book : List ℕ) (w : ℕ) → tested book w ≡ done true → (65536 ≤ w) × (Premises book × Types book)
+yes_premises : (book : List ℕ) (w : ℕ) → tested book w ≡ done true → (65536 ≤ w) × Premises book
 unfolding tested
 yes_premises book w e = did_out (given (leb 65536 w) work_short book) _ true e λ b g e₁. did_out (expanded b) _ true e₁ λ ds x e₂.
     let p = did_given (leb 65536 w) work_short book b g in
-    let q : (calls_known ds && chains_plain ds) && (types_known ds && types_plain ds) ≡ true = cc in
-    let r = both_true (calls_known ds && chains_plain ds) (types_known ds && types_plain ds) q in
-    let u = both_true (calls_known ds) (chains_plain ds) r.0 in
-    let v = both_true (types_known ds) (types_plain ds) r.1 in
-    let y : expanded book ≡ done ds = rw p.1 x in
-    (leb-true 65536 w p.0, (record { list = ds; expands = y; calls = known_calls ds u.0; chains = plain_chains ds u.1 }, record { list = ds; expands = y; calls = known_types ds v.0; chains = plain_types ds v.1 }))
+    let q : calls_known ds && chains_plain ds ≡ true = cc in
+    let r = both_true (calls_known ds) (chains_plain ds) q in
+    (leb-true 65536 w p.0, record { list = ds; expands = rw p.1 x; calls = known_calls ds r.0; chains = plain_chains ds r.1 })
 
--- the two speak of one list
-same_list : {m : Out (List Definition)} {ds es : List Definition} → m ≡ done ds → m ≡ done es → es ≡ ds
-same_list h k = done_is (sym k ∙ h)
-  where
-    done_is : {a b : List Definition} → done a ≡ done b → a ≡ b
-    done_is e = cc
-
-premises_yes : (book : List ℕ) (w : ℕ) → 65536 ≤ w → Premises book → Types book → tested book w ≡ done true
+premises_yes : (book : List ℕ) (w : ℕ) → 65536 ≤ w → Premises book → tested book w ≡ done true
 unfolding tested
-premises_yes book w h p t =
-    let e : t.list ≡ p.list = same_list p.expands t.expands in
-    let k : types_known p.list ≡ true = rw (← e) (types_known_lem t.list t.calls) in
-    let c : types_plain p.list ≡ true = rw (← e) (types_plain_lem t.list t.chains) in
-    rw (le-leb 65536 w h, p.expands, calls_known_lem p.list p.calls, chains_plain_lem p.list p.chains, k, c)
+premises_yes book w h p = rw (le-leb 65536 w h, p.expands, calls_known_lem p.list p.calls, chains_plain_lem p.list p.chains)
 
 pub yes_is_premises : YesIsPremises
 unfolding premise told
 yes_is_premises book w = (
   (λ h. yes_premises book w (told_yes (fault_at book w) (tested book w) h.1)),
-  (λ h. rw (premises_yes book w h.0 h.1.0 h.1.1) (refl, refl)),
-)
-
--- the book that has the premises and no yes
-unfoldable nobody : List Definition
-nobody = fmt "m" (param "n" (Call "q" []) ∷ []) (plain Nothing) ∷ []
-
-nobody_expands : expanded type_of_nobody ≡ done nobody
-unfolding nobody utf8 w_book read_book_of expand_book expanded
-nobody_expands = refl
-
-nobody_calls : EachType (λ i. EachCallI i (λ n. Named n nobody)) nobody → ⊥
-unfolding nobody utf8
-nobody_calls p = ⊎_elim (λ e. omega (arith, ap (λ (l : List ℕ). get_or l 0 0) e)) (λ x. absurd x) p.0.0
-
-nobody_known : CallsKnown nobody
-unfolding nobody
-nobody_known = (tt, tt)
-
-nobody_plain : ChainsPlain nobody
-unfolding nobody
-nobody_plain = (tt, tt)
-
-pub yes_says_more : YesSaysMore
-yes_says_more = (
-  (λ book w h. ((yes_is_premises book w).0 h).1.0),
-  (
-    record { list = nobody; expands = nobody_expands; calls = nobody_known; chains = nobody_plain },
-    λ w h. let t = ((yes_is_premises type_of_nobody w).0 h).1.1 in nobody_calls (rw (same_list nobody_expands t.expands) at t.calls),
-  ),
+  (λ h. rw (premises_yes book w h.0 h.1) (refl, refl)),
 )

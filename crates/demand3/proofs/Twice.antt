@@ -34,7 +34,7 @@ pub ends : (s : List ℕ) → Bytes s → (r : Result) → elaborated s ≡ done
 ends s h r e = record { book = yielded (elaborated_book s h) e; flat = (yielded (comes s h) e).meets.flat }
 
 -- nothing is expanded in it
-pub no_macros : (ds : List Definition) (ms : List Macro) → FlatAll ds → macros ds ms ≡ ms
+no_macros : (ds : List Definition) (ms : List Macro) → FlatAll ds → macros ds ms ≡ ms
 unfolding macros
 no_macros [] ms h = refl
 no_macros (format n ps c ∷ ds) ms h = no_macros ds ms h.1
@@ -50,7 +50,7 @@ same_all (constant n x ∷ ds) h = rw (same_all ds h)
 same_all (byte_order x ∷ ds) h = rw (same_all ds h)
 same_all (macro n ps c ∷ ds) h = absurd h
 
-pub expand_again : (ds : List Definition) → Ends ds → expand_book ds ≡ done ds
+expand_again : (ds : List Definition) → Ends ds → expand_book ds ≡ done ds
 unfolding expand_list
 expand_again ds e =
     let a : leb (size_book ds) 16384 ≡ true = le-leb (size_book ds) 16384 e.book.short in
@@ -140,7 +140,7 @@ pub nothing_lifted : (ds : List Definition) → EachBody Flat ds → outcome (li
 unfolding outcome start
 nothing_lifted ds f = rw (lift_says ds, still_all ds f (start ds))
 
-pub flat_bodies : (ds : List Definition) → FlatAll ds → EachBody Flat ds
+flat_bodies : (ds : List Definition) → FlatAll ds → EachBody Flat ds
 flat_bodies [] h = tt
 flat_bodies (format n ps c ∷ ds) h = (h.0, flat_bodies ds h.1)
 flat_bodies (constant n x ∷ ds) h = flat_bodies ds h
@@ -148,7 +148,7 @@ flat_bodies (byte_order x ∷ ds) h = flat_bodies ds h
 flat_bodies (macro n ps c ∷ ds) h = absurd h
 
 -- elaborated again it is the same, and nothing is lifted
-pub source_again : (ds : List Definition) → Ends ds → source (w_book ds) ≡ done ds
+source_again : (ds : List Definition) → Ends ds → source (w_book ds) ≡ done ds
 unfolding source out size_book
 source_again ds e =
     let a : leb (length (w_book ds)) 16384 ≡ true = le-leb (length (w_book ds)) 16384 e.book.short in

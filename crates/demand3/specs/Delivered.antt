@@ -1,15 +1,12 @@
 -- Demand 3 about the bytes: "In every accepted result ..", for every book that is handed in.
-use Rattle.std.specs.Prelude.{◌≡◌, ◌↔◌, List, [], ◌∷◌, ℕ, ◌-◌, ◌≤◌, length, take, drop}
+use Rattle.std.specs.Prelude.{◌≡◌, ◌↔◌, List, [], ℕ, ◌-◌, ◌≤◌, length, take, drop}
 use Rattle.definition.specs.Res.{ok}
 use Rattle.definition.specs.Out.{Out, done}
-use Rattle.definition.specs.Tree.{plain, Definition}
+use Rattle.definition.specs.Tree.{Definition}
 use Rattle.definition.specs.Contents.{read_book_of}
 use Rattle.definition.specs.Answer.{expanded, Answer, answer, output}
-use Rattle.definition.specs.Write.{w_book}
 use Rattle.definition.specs.Premise.{premise}
-use Rattle.definition.specs.Notation.{Nothing, Call, param, fmt}
 use Rattle.laws.specs.Book.{Bytes}
-use Rattle.demand3.specs.Words.{Named, EachType, EachCallI, PlainChainsI}
 use Rattle.demand3.specs.Demand3.{CallsKnown, ChainsPlain, Demand3}
 
 -- what the answer counts of the output reads as a book. Its last definitions, as many as the answer says, are the lifted ones; with these it meets demand 3 for the book's expanded list.
@@ -39,26 +36,6 @@ pub record Premises (book : List ℕ) : Type 0 where
   pub calls : CallsKnown list
   pub chains : ChainsPlain list
 
--- what the premise test asks besides, of parameter types (document 02 c): "every Invocation in a parameter type, macro arguments aside, must also name
--- a kind 1 or 2 definition for a yes, and the chain rule holds for whatever combinators such a type contains"
-pub record Types (book : List ℕ) : Type 0 where
-  pub list : List Definition
-  pub expands : expanded book ≡ done list
-  pub calls : EachType (λ i. EachCallI i (λ n. Named n list)) list
-  pub chains : EachType PlainChainsI list
-
--- a format with a parameter whose type calls a name that nobody has
-abbrev pub type_of_nobody : List ℕ
-type_of_nobody = w_book (fmt "m" (param "n" (Call "q" []) ∷ []) (plain Nothing) ∷ [])
-
--- the premise test answers 0 and yes
-abbrev pub Yes : List ℕ → ℕ → Type 0
-Yes book workLength = ((premise book workLength).code ≡ 0) × ((premise book workLength).holds ≡ 1)
-
--- exactly where the premises hold and the types do, and the work area is long enough to be asked
+-- the premise test answers 0 and yes exactly where they hold, and the work area is long enough to be asked
 abbrev pub YesIsPremises : Type 0
-YesIsPremises = (book : List ℕ) (workLength : ℕ) → Yes book workLength ↔ ((65536 ≤ workLength) × (Premises book × Types book))
-
--- "the test's yes now says more than they need": all that demand 3 needs follows from it, and not the other way round: this book has the premises and no yes
-abbrev pub YesSaysMore : Type 0
-YesSaysMore = ((book : List ℕ) (workLength : ℕ) → Yes book workLength → Premises book) × (Premises type_of_nobody × ((workLength : ℕ) → Yes type_of_nobody workLength → ⊥))
+YesIsPremises = (book : List ℕ) (workLength : ℕ) → (((premise book workLength).code ≡ 0) × ((premise book workLength).holds ≡ 1)) ↔ ((65536 ≤ workLength) × Premises book)

@@ -19,18 +19,6 @@ EachBody P (constant n x ∷ ds) = EachBody P ds
 EachBody P (byte_order x ∷ ds) = EachBody P ds
 EachBody P (macro n ps c ∷ ds) = EachBody P ds
 
--- "parameter types" (document 02 c), as they stand: demand 3 itself asks nothing of them
-abbrev pub EachParam : (Inner → Type 0) → List Param → Type 0
-EachParam P [] = Unit {0}
-EachParam P (p ∷ ps) = P p.type × EachParam P ps
-
-abbrev pub EachType : (Inner → Type 0) → List Definition → Type 0
-EachType P [] = Unit {0}
-EachType P (format n ps c ∷ ds) = EachParam P ps × EachType P ds
-EachType P (constant n x ∷ ds) = EachType P ds
-EachType P (byte_order x ∷ ds) = EachType P ds
-EachType P (macro n ps c ∷ ds) = EachType P ds
-
 -- each of these is a format, and this holds of its name, its parameters and its body
 abbrev pub EachFormat : (Name → List Param → Combinator → Type 0) → List Definition → Type 0
 EachFormat P [] = Unit {0}

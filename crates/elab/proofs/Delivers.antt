@@ -19,7 +19,7 @@ pub nested_delivers : NestedDelivers
 nested_delivers book out work bytes r after e f z = nested-accepted book out (length work) bytes (reported r) after (nested_numbers book (length out) (length work) e) f z
 
 -- what an export hands over is the answer
-pub answer_is : (r : Report) (a : Answer) → Says r a → as_answer r ≡ a
+answer_is : (r : Report) (a : Answer) → Says r a → as_answer r ≡ a
 answer_is r a e = rw (e.0, e.1, e.2, e.3, e.4)
 
 pub export_delivers : ExportDelivers

@@ -1,4 +1,3 @@
 pub mod Delivers
 pub mod Numbers
 pub mod Only
-pub mod InModes

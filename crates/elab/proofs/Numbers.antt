@@ -6,8 +6,6 @@ use Prim.Native.Nat.{ℕ}
 use Rattle.definition.specs.Answer.{attempt, fault_at, answer}
 use Rattle.definition.specs.Premise.{tested, premise}
 use Rattle.nested.specs.Nested.{attempt_nested_of, answer_nested}
-use Rattle.modes.specs.declared.Mode.{Mode}
-use Rattle.modes.specs.Modes.{attempt_in_of, answer_in}
 use Rattle.what_comes_back.specs.declared.Elaborated.{Elaborated}
 use Rattle.what_comes_back.specs.declared.Tested.{Tested}
 use Rattle.what_comes_back.specs.Elaborates.{elaborated_as, reported}
@@ -25,7 +23,3 @@ nested_numbers book out work e = elaborated_numbers (fault_at book work) (attemp
 pub premise_numbers : (book : List ℕ) (work : ℕ) {r : Tested} → r ≡ tested_as (fault_at book work) (tested book work) → told r ≡ premise book work
 unfolding premise
 premise_numbers book work e = tested_numbers (fault_at book work) (tested book work) e
-
-pub mode_numbers : (m : Mode) (book : List ℕ) (out work : ℕ) {r : Elaborated} → r ≡ elaborated_as (fault_at book work) (attempt_in_of m book out work) → reported r ≡ answer_in m book out work
-unfolding answer_in
-mode_numbers m book out work e = elaborated_numbers (fault_at book work) (attempt_in_of m book out work) e

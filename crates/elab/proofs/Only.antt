@@ -3,8 +3,7 @@
 use mathlib.Core.Path.{◌≡◌, sym, ◌∙◌}
 use Rattle.what_comes_back.specs.declared.Report.{Report}
 use Rattle.what_comes_back.specs.declared.Numbers.{Numbers}
-use Rattle.check_book.specs.declared.check.Checked.{Checked}
-use Rattle.elab.specs.Only.{OneElaborated, OneNested, OneTested, OneReport, OneNumbers, OneChecked}
+use Rattle.elab.specs.Only.{OneElaborated, OneNested, OneTested, OneReport, OneNumbers}
 
 pub one_elaborated : OneElaborated
 one_elaborated book out work r q e f = e ∙ sym f
@@ -23,6 +22,3 @@ one_report a r q e f =
 
 pub one_numbers : OneNumbers
 one_numbers a r q e f = let x : ◌≡◌ {A = Numbers} (record { code = r.code; holds = r.holds; at = r.at }) (record { code = q.code; holds = q.holds; at = q.at }) = rw (e.0 ∙ sym f.0, e.1 ∙ sym f.1, e.2 ∙ sym f.2) in x
-
-pub one_checked : OneChecked
-one_checked a r q e f = let x : ◌≡◌ {A = Checked} (record { code = r.code; at = r.at }) (record { code = q.code; at = q.at }) = rw (e.0 ∙ sym f.0, e.1 ∙ sym f.1) in x

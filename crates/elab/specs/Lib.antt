@@ -1,3 +1,2 @@
 pub mod Delivers
 pub mod Only
-pub mod InModes

@@ -9,8 +9,6 @@ use Rattle.what_comes_back.specs.declared.Report.{Report}
 use Rattle.what_comes_back.specs.declared.Numbers.{Numbers}
 use Rattle.what_comes_back.specs.Elaborates.{elaborated_as}
 use Rattle.what_comes_back.specs.Tells.{tested_as}
-use Rattle.check_book.specs.declared.check.Checked.{Checked}
-use Rattle.check_book.specs.check.Checked.{CheckAnswer}
 
 -- of `elaborate`
 abbrev pub OneElaborated : Type 0
@@ -37,10 +35,3 @@ Tells r a = (r.code ≡ a.code) × (r.holds ≡ a.holds) × (r.at ≡ a.at)
 
 abbrev pub OneNumbers : Type 0
 OneNumbers = (a : PremiseAnswer) (r q : Numbers) → Tells r a → Tells q a → r ≡ q
-
--- of the export of the check
-abbrev pub Checks : Checked → CheckAnswer → Type 0
-Checks r a = (r.code ≡ a.code) × (r.at ≡ a.at)
-
-abbrev pub OneChecked : Type 0
-OneChecked = (a : CheckAnswer) (r q : Checked) → Checks r a → Checks q a → r ≡ q

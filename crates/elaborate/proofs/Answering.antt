@@ -1,37 +1,68 @@
--- What a call answers and leaves in the output, in every mode and in the two that were there.
+-- The whole answer: codes 1 to 6 and then 7 to 11.
 -- Assumes nothing.
-use mathlib.Core.Path.{◌≡◌, sym, ap, ◌∙◌}
+use mathlib.Core.Path.{◌≡◌, refl}
 use mathlib.Core.List.{List}
-use mathlib.Core.Bool.{true, false}
+use mathlib.Core.Bool.{Bool, true, false}
 use Prim.Native.Nat.{ℕ}
-use lib.ListN.{length}
-use Rattle.definition.specs.Out.{Out}
-use Rattle.definition.specs.Answer.{Result, fault_at, filled, attempt, output}
-use Rattle.nested.specs.Nested.{attempt_nested_of, output_nested}
-use Rattle.modes.specs.declared.Mode.{Mode}
-use Rattle.modes.specs.Modes.{attempt_in_of, output_in}
-use Rattle.modes.specs.Laws.{in_mode}
-use Rattle.modes.proofs.Shape.{output_says, plain_is_document_01, nested_is_document_02b}
+use native.Mathlib.Omega.{arith}
+use lib.Dec.{leb}
+use lib.ListN.{length, take}
+use lib.Seq.{take_all}
+use Rattle.definition.specs.Code.{work_short, output_short}
+use Rattle.definition.specs.Out.{Out, ◌>>=◌, given}
+use Rattle.definition.specs.Write.{w_book}
+use Rattle.definition.specs.Lift.{lift_book_of}
+use Rattle.definition.specs.Answer.{expanded, elaborated, Result, all, outcome, attempt, fault_at, output}
+use Rattle.laws.proofs.Steps.{grouped_out}
 use Rattle.what_comes_back.specs.declared.Elaborated.{Elaborated}
-use Rattle.what_comes_back.specs.Elaborates.{elaborated_as, Reports}
+use Rattle.what_comes_back.specs.declared.Elaborated.TheVariants.{Refused}
+use Rattle.open_book.specs.begin.Begins.{opened, Refuses, Expands}
+use Rattle.what_comes_back.specs.Elaborates.{elaborated_as, Reports, lifted, Expanded, Lifts}
+use Rattle.what_comes_back.proofs.Reporting.{reports_refused, reports_lifted}
 
-module _ (m : Mode) (b : List ℕ) {out out' : List ℕ} (n : ℕ) {r : Elaborated} (p : Reports (fault_at b n) (attempt_in_of m b (length out) n) out out' r) where
-  pub answers_it : r ≡ elaborated_as (fault_at b n) (attempt_in_of m b (length out) n)
+elaborated_says : (b : List ℕ) → elaborated b ≡ (expanded b >>= λ ds. outcome (lift_book_of ds))
+unfolding elaborated
+elaborated_says b = refl
+
+attempt_is : (b : List ℕ) (o n : ℕ) → attempt b o n ≡ (opened b n >>= λ ds. lifted ds o)
+unfolding attempt opened lifted
+attempt_is b o n = both (leb 65536 n)
+  where
+    fits : Result → Out Result
+    fits r = given (leb (length (w_book (all r))) o) output_short r
+
+    both : (t : Bool) → (given t work_short b >>= λ c. elaborated c >>= λ r. fits r) ≡ ((given t work_short b >>= λ c. expanded c) >>= λ ds. outcome (lift_book_of ds) >>= λ r. fits r)
+    both true = rw (elaborated_says b) (grouped_out (expanded b) (λ ds. outcome (lift_book_of ds)) (λ r. fits r))
+    both false = refl
+
+module _ (b : List ℕ) (n : ℕ) where
+  -- codes 1 to 6
+  pub reports_code : {out : List ℕ} {code at : ℕ} → Refuses (opened b n) code → at ≡ fault_at b n → Reports (fault_at b n) (attempt b (length out) n) out out (Refused code at)
+  reports_code {out} r a = rw (attempt_is b (length out) n) (reports_refused r.is r.numbered a)
+
+  -- the expanded book in the first bytes of another
+  module _ {book : List ℕ} {len : ℕ} (o : Expands (opened b n) book len) where
+    pub opened_book : Expanded (take len book)
+    opened_book = record { of = o.left; book = o.holds; is_book = o.is_book }
+
+    pub reports_lifts : fault_at b n ≡ 0 → {out out' : List ℕ} {r : Elaborated} → Lifts (take len book) out out' r → Reports (fault_at b n) (attempt b (length out) n) out out' r
+    reports_lifts z {out} l = rw (attempt_is b (length out) n) (reports_lifted z o.is o.holds o.is_book l)
+
+  -- the book itself, where it is its own expansion
+  module _ (o : Expands (opened b n) b (length b)) where
+    whole : take (length b) b ≡ b
+    whole = take_all (length b) b (omega arith)
+
+    pub plain_book : Expanded b
+    plain_book = rw whole at (opened_book o)
+
+    pub reports_plain : fault_at b n ≡ 0 → {out out' : List ℕ} {r : Elaborated} → Lifts b out out' r → Reports (fault_at b n) (attempt b (length out) n) out out' r
+    reports_plain z {out} {out'} {r} l = reports_lifts o z (rw whole l)
+
+module _ (b : List ℕ) {out out' : List ℕ} (n : ℕ) {r : Elaborated} (p : Reports (fault_at b n) (attempt b (length out) n) out out' r) where
+  pub answers_it : r ≡ elaborated_as (fault_at b n) (attempt b (length out) n)
   answers_it = p.answers
 
-  pub fills_it : out' ≡ output_in m b out n
-  fills_it = p.fills ∙ sym (output_says m b out n)
-
-pub plain_output_of : (b out : List ℕ) (n : ℕ) → output_in (in_mode false false) b out n ≡ output b out n
-unfolding output
-plain_output_of b out n = output_says (in_mode false false) b out n ∙ ap (λ (v : Out Result). filled v out) (plain_is_document_01 b (length out) n)
-
-pub nested_output_of : (b out : List ℕ) (n : ℕ) → output_in (in_mode true false) b out n ≡ output_nested b out n
-unfolding output_nested
-nested_output_of b out n = output_says (in_mode true false) b out n ∙ ap (λ (v : Out Result). filled v out) (nested_is_document_02b b (length out) n)
-
-pub plain_answer : (b : List ℕ) (o n : ℕ) → elaborated_as (fault_at b n) (attempt_in_of (in_mode false false) b o n) ≡ elaborated_as (fault_at b n) (attempt b o n)
-plain_answer b o n = ap (elaborated_as (fault_at b n)) (plain_is_document_01 b o n)
-
-pub nested_answer : (b : List ℕ) (o n : ℕ) → elaborated_as (fault_at b n) (attempt_in_of (in_mode true false) b o n) ≡ elaborated_as (fault_at b n) (attempt_nested_of b o n)
-nested_answer b o n = ap (elaborated_as (fault_at b n)) (nested_is_document_02b b o n)
+  pub fills_it : out' ≡ output b out n
+  unfolding output
+  fills_it = p.fills

@@ -30,11 +30,11 @@ mutual
   s_good_i (choice s k f) g p a h = (g.0, s_good_c f k g.1 p a h)
   s_good_i (shell x c) g p a h = (g.0, s_good c g.1 p a h)
   s_good_i (bytes l) g p a h = g
-  s_good_i (invocation n xs) g p a h = one_of_lem (eq_name n p) g h
+  s_good_i (invocation n xs) g p a h = one_of (eq_name n p) g h
     where
-      one_of_lem : (b : Bool) → GoodI (invocation n xs) → GoodI a → GoodI (same a (invocation n xs) b)
-      one_of_lem true g h = h
-      one_of_lem false g h = g
+      one_of : (b : Bool) → GoodI (invocation n xs) → GoodI a → GoodI (same a (invocation n xs) b)
+      one_of true g h = h
+      one_of false g h = g
   s_good_i (macro_invocation n xs) g p a h = g
 
   s_good_f : (f : Fields) → GoodF f → (p : Name) (a : Inner) → GoodI a → GoodF (subst_f f p a)

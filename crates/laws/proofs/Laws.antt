@@ -8,7 +8,6 @@ use Rattle.laws.proofs.Order.{byte_order, sorted_ascends, sorted_has_members}
 use Rattle.laws.proofs.Growth.{lifts_grow}
 use Rattle.laws.proofs.Stopped.{measure_is_size, sum_at_each_lift, code10_is_first_over}
 use Rattle.laws.proofs.Results.{written_is_read, read_is_written, expanded_is_book, result_is_book}
-use Rattle.laws.proofs.Refusals.{reading_gives}
 use Rattle.laws.proofs.Parameters.{parameters_ascend}
 use Rattle.laws.proofs.Collected.{free_is_found, leftover_is_found}
 
@@ -18,7 +17,6 @@ laws = record {
   one_encoding = one_encoding;
   written_is_read = written_is_read;
   read_is_written = read_is_written;
-  reading_gives = reading_gives;
   expanded_is_book = expanded_is_book;
   result_is_book = result_is_book;
   segment_by_characters = segment_by_characters;

@@ -1,6 +1,5 @@
 pub mod Tests
 pub mod Steps
-pub mod Refusals
 pub mod Members
 pub mod Levels
 pub mod Splits
@@ -28,5 +27,4 @@ pub mod NoneKnown
 pub mod Results
 pub mod Parameters
 pub mod Collected
-mod Large
 pub mod Laws

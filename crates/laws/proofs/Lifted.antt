@@ -11,7 +11,7 @@ use Rattle.definition.specs.Tree.{Name, Combinator, plain, Inner, invocation, Pa
 use Rattle.definition.specs.Write.{size_of}
 use Rattle.definition.specs.Size.{size}
 use Rattle.definition.specs.Names.{elem, sorted, fresh}
-use Rattle.definition.specs.Collect.{free}
+use Rattle.definition.specs.Collect.{free, leftover}
 use Rattle.definition.specs.Lift.{Course, State, binder, bound, typed, take, grow, measured, append, Walk, lift}
 use Rattle.laws.specs.Lists.{param_names}
 use Rattle.laws.proofs.Tests.{not-true}
@@ -56,7 +56,7 @@ pub record Lifted (course : Course) (c : Combinator) (inside : Walk) (base : Nam
   pub unused : elem name s.taken ≡ false
   -- codes 9 and 7 were not given
   pub short : length name ≤ 255
-  pub clear : course.meets c ≡ false
+  pub clear : leftover c ≡ false
   pub needed : param_names params ≡ sorted (free c)
   pub types : Bound binders params
   pub there : d ≡ plain (invocation name (sorted (free c)))
@@ -78,7 +78,7 @@ lift_says course c inside base binders s =
     let n = fresh base s.taken in
     let ns = sorted (free c) in
     let there = plain (invocation n ns) in
-    ask (leb (length n) 255) _ s _ λ p. ask (not (course.meets c)) _ s _ λ q.
+    ask (leb (length n) 255) _ s _ λ p. ask (not (leftover c)) _ s _ λ q.
     then (typed_says binders ns s) _ λ ps s₁ w. then (measured_says course (grow (format n ps c) there c s₁)) _ λ u s₂ m.
     then (of_value (inside n binders (take n s₂)) λ d t e. e) _ λ d s₃ e.
     value (record {
@@ -90,7 +90,7 @@ lift_says course c inside base binders s =
       named = refl;
       unused = fresh_free base s.taken;
       short = leb-true (length n) 255 p;
-      clear = not-true (course.meets c) q;
+      clear = not-true (leftover c) q;
       needed = w.named;
       types = w.bound;
       there = refl;

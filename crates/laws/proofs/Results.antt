@@ -7,7 +7,7 @@ use native.Mathlib.Omega.{arith}
 use lib.Dec.{leb}
 use lib.ListN.{length}
 use borrow.Author.Tests.{leb-true}
-use Rattle.definition.specs.Code.{Code, number, work_short, book_long, not_a_book, bad_name, too_deep_of, macro_growth, leftover_macro, no_binder, name_long, result_long, output_short, macro_left, call_left, chain_elsewhere}
+use Rattle.definition.specs.Code.{Code, number, work_short, book_long, not_a_book, bad_name, too_deep_of, macro_growth, leftover_macro, no_binder, name_long, result_long, output_short, macro_left}
 use Rattle.definition.specs.Res.{Res, bad, ok}
 use Rattle.definition.specs.Out.{Out, refused, done}
 use Rattle.definition.specs.Tree.{Definition}
@@ -15,7 +15,7 @@ use Rattle.definition.specs.Contents.{book, read_book_of}
 use Rattle.definition.specs.Write.{w_book}
 use Rattle.definition.specs.Size.{size_book}
 use Rattle.definition.specs.Macros.{expand_list, expand_book}
-use Rattle.definition.specs.Lift.{full, State, walk_all, start, lift_book_by, lift_book_of}
+use Rattle.definition.specs.Lift.{full, State, walk_all, start, lift_book_of}
 use Rattle.definition.specs.Answer.{out, source, expanded, Result, outcome, elaborated, all, attempt, answered, place, where_read, fault_of, fault_at, answer, filled, output}
 use Rattle.laws.specs.Book.{Bytes, IsBook}
 use Rattle.laws.specs.Lists.{NoMacro}
@@ -38,7 +38,7 @@ unfolding expand_book
 expand_says ds = refl
 
 pub lift_says : (ds : List Definition) → lift_book_of ds ≡ walk_all full ds (start ds)
-unfolding lift_book_of lift_book_by
+unfolding lift_book_of
 lift_says ds = refl
 
 pub written_is_read : WrittenIsRead
@@ -109,8 +109,6 @@ positive name_long e = absurd (omega arith)
 positive result_long e = absurd (omega arith)
 positive output_short e = absurd (omega arith)
 positive macro_left e = absurd (omega arith)
-positive call_left e = absurd (omega arith)
-positive chain_elsewhere e = absurd (omega arith)
 
 -- code 0: there is a result
 pub code-done : {X : Type 0} (p : ℕ) (m : Out Result) → (answered p m).code ≡ 0 → ((r : Result) → m ≡ done r → X) → X

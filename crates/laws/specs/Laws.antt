@@ -1,7 +1,7 @@
 -- The laws of the definition: what is proved of it in this crate, statement by statement. The proofs are in proofs/Laws.antt.
 use Rattle.std.specs.Prelude.{◌≡◌, ◌↔◌, ◌⊎◌, Bool, true, ◌&&◌, cond, ◌||◌, ℕ, zero, suc, ◌+◌, ◌-◌, ◌*◌, ◌≤◌, ◌<◌, leb, ltb, length, drop}
 use mathlib.Core.List.{List, [], ◌∷◌, ◌++◌, Memᴰ}
-use Rattle.definition.specs.Code.{Code, not_a_book, bad_name, too_deep_of, result_long}
+use Rattle.definition.specs.Code.{result_long}
 use Rattle.definition.specs.Res.{bad, ok}
 use Rattle.definition.specs.Out.{Out, done}
 use Rattle.definition.specs.Utf8.{scalar, encode, Utf8, well_formed}
@@ -36,10 +36,6 @@ WrittenIsRead = (ds : List Definition) → IsBook ds → Bytes (w_book ds) × (r
 -- what was read is what is written: no two books read alike, and each list that is read is one that a book can hold
 abbrev pub ReadIsWritten : Type 0
 ReadIsWritten = (s : List ℕ) → Bytes s → length s ≤ 16384 → (ds : List Definition) (r : List ℕ) → read_book_of s ≡ ok ds r → (s ≡ w_book ds) × IsBook ds
-
--- reading is refused with 3, 4 or 5, and nothing else
-abbrev pub ReadingGives : Type 0
-ReadingGives = (s : List ℕ) (k : Code) (r : List ℕ) → read_book_of s ≡ bad k r → (k ≡ not_a_book) ⊎ ((k ≡ bad_name) ⊎ (k ≡ too_deep_of))
 
 -- macro rules 1 and 5: the expanded list is one that a book can hold, and no kind 4 definition is left in it
 abbrev pub ExpandedIsBook : Type 0
@@ -158,7 +154,7 @@ LeftoverIsFound = (c : Combinator) → (leftover c ≡ true) ↔ Found MacroCall
 
 -- the walk that stops lifting when there are k definitions, and tests no limit. It leaves the rest of the book as it stands
 abbrev pub stopped : ℕ → Course
-stopped k = record { lifts = λ c n. anonymous c && ltb n k; meets = λ c. leftover c; within = λ b n. true }
+stopped k = record { lifts = λ c n. anonymous c && ltb n k; within = λ b n. true }
 
 -- "Code 10 measures the book as if the walk stopped with that lift made": for every k, the running numbers are the size and the count of the book that the walk stopped at k definitions leaves
 abbrev pub MeasureIsSize : Type 0
@@ -175,7 +171,7 @@ pub record Left (k : ℕ) (ds : List Definition) : Type 0 where
 
 -- a walk with the limits of code 10 left open. Document 01's, `full`, is the one with 16,384 and 512
 abbrev pub limited : (ℕ → ℕ → Bool) → Course
-limited within = record { lifts = λ c n. anonymous c; meets = λ c. leftover c; within = within }
+limited within = record { lifts = λ c n. anonymous c; within = within }
 
 -- ".. with that lift made: the expanded book plus, for each lift so far, 6 bytes of contents, the new body and the call, less the combinator moved": whatever limits refuse at a lift, the sum that they refuse is the size of the book that is left when the walk stops with that lift made
 abbrev pub SumAtEachLift : Type 0
@@ -213,7 +209,6 @@ pub record Laws : Type 0 where
   pub one_encoding : OneEncoding
   pub written_is_read : WrittenIsRead
   pub read_is_written : ReadIsWritten
-  pub reading_gives : ReadingGives
   pub expanded_is_book : ExpandedIsBook
   pub result_is_book : ResultIsBook
   pub segment_by_characters : SegmentByCharacters

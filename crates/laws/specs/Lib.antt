@@ -2,4 +2,3 @@ pub mod Book
 pub mod Lists
 pub mod Collected
 pub mod Laws
-pub mod Large

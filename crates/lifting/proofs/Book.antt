@@ -9,7 +9,7 @@ use Rattle.definition.specs.Res.{absent, just, Res, ok}
 use Rattle.definition.specs.Answer.{outcome}
 use Rattle.definition.specs.Tree.{Param, Definition, format, constant, byte_order, macro}
 use Rattle.definition.specs.Write.{w_all, w_definition, size_of}
-use Rattle.definition.specs.Lift.{full, State, walk_all, start, lift_book_by, lift_book_of}
+use Rattle.definition.specs.Lift.{full, State, walk_all, start, lift_book_of}
 use Rattle.laws.proofs.Splits.{s_definition}
 use Rattle.laws.proofs.Sizes.{adds, head, size-format, size_some}
 use Rattle.laws.proofs.Measure.{measures}
@@ -69,7 +69,7 @@ book_both ds = walk_all_both ds (first_at ds) (start ds) (begin ds) (record { ta
 
 -- the result of codes 7 to 10, by the records
 pub elaborated_by : (ds : List Definition) → outcome (lift_book_of ds) ≡ traced ds (trace_book tree_head ds)
-unfolding lift_book_of lift_book_by outcome traced
+unfolding lift_book_of outcome traced
 elaborated_by ds = of (book_both ds)
   where
     of : {m : Res State (List Definition)} {n : Res Trace (Unit {0})} → Both (Makes (out_all ds (first_at ds)) (lifts_all ds (first_at ds)) (start ds) (begin ds)) m n → outcome m ≡ traced ds n

@@ -1,5 +1,5 @@
 // Document 01, "listing", line by line into a buffer.
-// `shown`: names and numbers. `refusal`, `printed`: the line of a refusal; those of a result. `answers`: of either. `lines`: a book listed, in any
+// `shown`: names and numbers. `refusal`, `printed`: the line of a refusal; those of a result. `answers`: of either. `lines`: a book listed, in each
 // mode.
 mod answers;
 pub mod lines;

@@ -31,7 +31,7 @@ unfolding until
 until_fine true ds v w y = yields w
 until_fine false ds v w y = y
 
-pub again_fine : (n : ℕ) (ms : List Macro) → GoodM ms → (ds : List Definition) → Fine ds → Yields Fine (again n ms ds)
+again_fine : (n : ℕ) (ms : List Macro) → GoodM ms → (ds : List Definition) → Fine ds → Yields Fine (again n ms ds)
 unfolding again pass
 again_fine zero ms h ds w = until_fine (settled ms ds) ds _ w stops
 again_fine (suc n) ms h ds w = until_fine (settled ms ds) ds _ w (next (pass_good ds ms h w.0.good w.0.few) _ λ es v. again_fine n ms h es v)

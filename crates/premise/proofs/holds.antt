@@ -1,2 +1,1 @@
 mod Bodies
-mod Types

@@ -2,13 +2,11 @@
 ghost use Rattle.std.specs.Prelude.{◌≡◌};
 ghost use Rattle.walker.specs.pieces.Marked.{every_place};
 ghost use Rattle.name_table.specs.kinds.Rows.{Rows};
-ghost use Rattle.premise.specs.called.Known.{known_at, passed_at};
+ghost use Rattle.premise.specs.called.Known.{known_at};
 
 use layout::items::{byte, past};
 use layout::lookup::name_at;
 use name_table::find::find_name;
-use walker::marks::first_marks;
-use walker::walk::Walk;
 
 // Whether the call at a place is one of a name in the table, or a macro's.
 fn is_known(s: &[u8], call: usize, places: &[u16], ways: &[u32], n: usize) -> bool
@@ -25,7 +23,7 @@ fn is_known(s: &[u8], call: usize, places: &[u16], ways: &[u32], n: usize) -> bo
 }
 
 // The same of every call that is marked.
-fn all_known(s: &[u8], marks: &[u16], places: &[u16], ways: &[u32], n: usize) -> bool
+pub(crate) fn all_known(s: &[u8], marks: &[u16], places: &[u16], ways: &[u32], n: usize) -> bool
     requires { Rows s.now places.now ways.now n }
     ensures { result ≡ every_place (known_at s.now places.now n) marks.now }
 {
@@ -38,24 +36,4 @@ fn all_known(s: &[u8], marks: &[u16], places: &[u16], ways: &[u32], n: usize) ->
         }
     }
     true
-}
-
-// What a walk went over: its chains stand on Bytes and Tail alone, and its calls, which it marked, pass.
-pub(crate) fn passed(
-    s: &[u8],
-    w: Walk,
-    marks: &[u16],
-    places: &[u16],
-    ways: &[u32],
-    n: usize,
-) -> bool
-    requires { Rows s.now places.now ways.now n }
-    ensures { result ≡ passed_at s.now places.now n w marks.now }
-{
-    let plain = w.plain;
-    let count = w.n;
-    if plain {
-        return all_known(s, first_marks(marks, count), places, ways, n);
-    }
-    false
 }

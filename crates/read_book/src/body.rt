@@ -64,7 +64,7 @@ fn format(s: &[u8], c: Cursor) -> Walked
     }
 }
 
-pub fn constant(s: &[u8], c: Cursor) -> Walked
+fn constant(s: &[u8], c: Cursor) -> Walked
     ensures { Walks s.now c.at result (definition_of is_constant) }
 {
     match c.name(s, false) {

@@ -9,7 +9,7 @@ use crate::cursor::{ByteStep, Cursor, Fault, NumberStep, Walked};
 use crate::name_list::names;
 
 // The selector of a choice: none, or a name.
-pub fn selector(s: &[u8], c: Cursor) -> Walked
+fn selector(s: &[u8], c: Cursor) -> Walked
     ensures { Walks s.now c.at result selectorOf }
 {
     match c.among(s, 0, 1) {
@@ -34,7 +34,7 @@ fn label(s: &[u8], c: Cursor, kind: u8) -> Walked
 }
 
 // A length: root names and a text.
-pub fn length_past(s: &[u8], c: Cursor) -> Walked
+fn length_past(s: &[u8], c: Cursor) -> Walked
     ensures { Walks s.now c.at result len }
 {
     match names(s, c, false) {
@@ -44,7 +44,7 @@ pub fn length_past(s: &[u8], c: Cursor) -> Walked
 }
 
 // A call: a name and arguments.
-pub fn invocation(s: &[u8], c: Cursor) -> Walked
+fn invocation(s: &[u8], c: Cursor) -> Walked
     ensures { (c' : Reader Combinator) (a : Reader Inner) → Walks s.now c.at result (items_of c' a is_invocation) }
 {
     match c.name(s, false) {

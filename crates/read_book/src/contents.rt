@@ -52,7 +52,7 @@ fn row(s: &[u8], n: usize, more: u8) -> Walked
 }
 
 // The contents whole: how many entries, and where the first body starts.
-pub fn contents(s: &[u8], more: u8) -> NumberStep
+pub(crate) fn contents(s: &[u8], more: u8) -> NumberStep
     ensures { Tabled s.now (6 + more) result }
 {
     match count(s) {

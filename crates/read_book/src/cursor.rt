@@ -9,7 +9,7 @@ use crate::utf8::is_name;
 
 // A place in the book.
 #[derive(Drop)]
-pub struct Cursor {
+pub(crate) struct Cursor {
     pub at: usize,
 }
 
@@ -21,20 +21,20 @@ pub struct Fault {
 }
 
 #[derive(Drop)]
-pub enum ByteStep {
+pub(crate) enum ByteStep {
     Byte(u8, Cursor),
     NoByte(Fault),
 }
 
 #[derive(Drop)]
-pub enum NumberStep {
+pub(crate) enum NumberStep {
     Number(usize, Cursor),
     NoNumber(Fault),
 }
 
 // What was walked past holds no number: the next place is all there is to say.
 #[derive(Drop)]
-pub enum Walked {
+pub(crate) enum Walked {
     Past(Cursor),
     Refused(Fault),
 }

@@ -5,9 +5,9 @@
 pub mod body;
 pub mod book;
 mod characters;
-pub mod combinator;
-pub mod contents;
+mod combinator;
+mod contents;
 pub mod cursor;
 mod entry;
-pub mod name_list;
+mod name_list;
 mod utf8;

@@ -7,7 +7,7 @@ ghost use Rattle.read_book.specs.name_list.Rows.{counted};
 use crate::cursor::{Cursor, NumberStep, Walked};
 
 // A count, and as many names.
-pub fn names(s: &[u8], c: Cursor, dots: bool) -> Walked
+pub(crate) fn names(s: &[u8], c: Cursor, dots: bool) -> Walked
     ensures { Walks s.now c.at result (counted (names_by (tested dots))) }
 {
     match c.u16(s) {

@@ -1,7 +1,7 @@
 // Going over an inner with nothing recorded, and walks that start anew at a place.
 ghost use Rattle.std.specs.Prelude.{◌≡◌, true};
 ghost use Rattle.walker.specs.walk.Steps.{walk};
-ghost use Rattle.walker.specs.calls.Walk.{combinator_at, inner_at, skip_at};
+ghost use Rattle.walker.specs.calls.Walk.{combinator_at, skip_at};
 
 use crate::calls::{combinator, inner};
 use crate::walk::{Walk, back, silent};
@@ -29,23 +29,6 @@ pub fn walk_over(s: &[u8], at: usize, levels: usize, marks: &mut [u16]) -> Walk
             plain: true,
         },
         levels,
-        marks,
-    )
-}
-
-// Over the inner at a place, recorded like a combinator: a parameter's type.
-pub fn walk_inner(s: &[u8], at: usize, marks: &mut [u16]) -> Walk
-    ensures { (result ≡ (inner_at 64 s.now (walk at 0 64 true) marks.old).0) × (marks.new ≡ (inner_at 64 s.now (walk at 0 64 true) marks.old).1) }
-{
-    inner(
-        s,
-        Walk {
-            at,
-            n: 0,
-            left: 64,
-            plain: true,
-        },
-        64,
         marks,
     )
 }

@@ -3,7 +3,7 @@
 use crate::{files, judges};
 use driver::answer::{answer, premise, Answer, Internal};
 use driver::cases::{self, short, sweep};
-use driver::mode::Mode;
+use driver::expand::Mode;
 use driver::passes::{passes, End};
 use driver::{bench, notation, read, stream, write};
 use std::collections::BTreeMap;
@@ -13,94 +13,64 @@ use std::io::{self, BufReader, BufWriter, Read, Write};
 type Outcome = Result<(), String>;
 
 const USAGE: &str = "\
-oracle answer MODE          case stream in, answers out
+oracle answer [--nested]    case stream in, answers out
 oracle premise [--nested]   case stream in, premise answers and expanded books out
-oracle cases [--nested|--delivery] SEED COUNT
-                            case stream out; --nested: macros that call macros;
-                            --delivery: for the delivery profile
+oracle cases [--nested] SEED COUNT
+                            case stream out; --nested: macros that call macros
 oracle short                case stream out: everything short
 oracle sweep                book in, case stream out: all its small damages
-oracle tally MODE SEED COUNT
+oracle tally [--nested] SEED COUNT
                             codes by kind of generated case
 oracle book write           text in, book out
 oracle book read            book in, text out
-oracle elaborate MODE       book in, result out
-oracle listing MODE         book in, listing out
+oracle elaborate [--nested] book in, result out
+oracle listing [--nested]   book in, listing out
 oracle bench N              case stream in, times out: best and mean of N repetitions
 oracle record SEED COUNT BOOKS DIRECTORY
                             the recorded list: the books of one directory, the worked
                             ones and generated ones, COUNT in all, into another
-oracle examples MODE DIRECTORY
-                            NAME.book and NAME.listing beside each NAME.layout;
-                            NAME.nested, the listing in nested mode; NAME.delivery,
-                            that of the profile; with both also NAME.delivery-nested
+oracle examples [--nested] DIRECTORY
+                            NAME.book and NAME.listing beside each NAME.layout, and
+                            NAME.nested, the listing in nested mode
 oracle judges               whose word each code is
-MODE is [--nested] [--delivery], in either order.
 ";
 
 pub fn run(arguments: &[String]) -> Outcome {
     let words: Vec<&str> = arguments.iter().map(String::as_str).collect();
-    let (command, mode, rest) = moded(&words);
-    match (command, mode, rest) {
-        ("answer", mode, []) => answers(mode),
-        ("premise", Mode::PLAIN | Mode::NESTED, []) => premises(mode.nested),
-        ("cases", Mode::PLAIN, [seed, count]) => generated(number(seed)?, number(count)?),
-        ("cases", Mode::NESTED, [seed, count]) => nested(number(seed)?, number(count)?),
-        ("cases", Mode::DELIVERY, [seed, count]) => delivery(number(seed)?, number(count)?),
-        ("short", Mode::PLAIN, []) => everything_short(),
-        ("sweep", Mode::PLAIN, []) => sweep(),
-        ("tally", Mode::PLAIN, [seed, count]) => tally(number(seed)?, number(count)?),
-        ("tally", Mode::NESTED, [seed, count]) => tally_nested(number(seed)?, number(count)?),
-        ("tally", _, [seed, count]) => tally_delivery(mode, number(seed)?, number(count)?),
-        ("book", Mode::PLAIN, ["write"]) => book_write(),
-        ("book", Mode::PLAIN, ["read"]) => book_read(),
-        ("elaborate", mode, []) => elaborate(mode),
-        ("listing", mode, []) => listing(mode),
-        ("bench", Mode::PLAIN, [repetitions]) => bench(number(repetitions)?),
-        ("record", Mode::PLAIN, [seed, count, books, directory]) => {
+    match words.as_slice() {
+        ["answer"] => answers(Mode::Plain),
+        ["answer", "--nested"] => answers(Mode::Nested),
+        ["premise"] => premises(Mode::Plain),
+        ["premise", "--nested"] => premises(Mode::Nested),
+        ["cases", seed, count] => generated(number(seed)?, number(count)?),
+        ["cases", "--nested", seed, count] => nested(number(seed)?, number(count)?),
+        ["short"] => everything_short(),
+        ["sweep"] => sweep(),
+        ["tally", seed, count] => tally(number(seed)?, number(count)?),
+        ["tally", "--nested", seed, count] => tally_nested(number(seed)?, number(count)?),
+        ["book", "write"] => book_write(),
+        ["book", "read"] => book_read(),
+        ["elaborate"] => elaborate(Mode::Plain),
+        ["elaborate", "--nested"] => elaborate(Mode::Nested),
+        ["listing"] => listing(Mode::Plain),
+        ["listing", "--nested"] => listing(Mode::Nested),
+        ["bench", repetitions] => bench(number(repetitions)?),
+        ["record", seed, count, books, directory] => {
             files::record(number(seed)?, number(count)?, books, directory)
         }
-        ("examples", mode, [directory]) => {
-            let within = |one: &(Mode, &str)| {
-                (mode.nested || !one.0.nested) && (mode.delivery || !one.0.delivery)
-            };
-            let listings: Vec<_> = LISTINGS.into_iter().filter(within).collect();
-            files::examples(directory, &listings)
-        }
-        ("judges", Mode::PLAIN, []) => print(judges::JUDGES),
-        ("help" | "--help" | "-h", Mode::PLAIN, []) => print(USAGE),
-        ("", ..) => Err("no subcommand; `oracle help` names them".to_string()),
-        (other, ..) => Err(format!(
+        ["examples", directory] => files::examples(directory, &[(Mode::Plain, "listing")]),
+        ["examples", "--nested", directory] => files::examples(
+            directory,
+            &[(Mode::Plain, "listing"), (Mode::Nested, "nested")],
+        ),
+        ["judges"] => print(judges::JUDGES),
+        ["help" | "--help" | "-h"] => print(USAGE),
+        [] => Err("no subcommand; `oracle help` names them".to_string()),
+        [other, ..] => Err(format!(
             "`{other}` with {} more words is no subcommand; `oracle help` names them",
             words.len() - 1
         )),
     }
-}
-
-/// The listings of an example, and the endings of their files.
-const LISTINGS: [(Mode, &str); 4] = [
-    (Mode::PLAIN, "listing"),
-    (Mode::NESTED, "nested"),
-    (Mode::DELIVERY, "delivery"),
-    (Mode::DELIVERY_NESTED, "delivery-nested"),
-];
-
-/// The first word, the mode that the words right behind it ask for, and the others. A word that comes twice is one of
-/// the others.
-fn moded<'w, 'a>(words: &'w [&'a str]) -> (&'a str, Mode, &'w [&'a str]) {
-    let Some((command, mut rest)) = words.split_first() else {
-        return ("", Mode::PLAIN, words);
-    };
-    let mut mode = Mode::PLAIN;
-    while let Some((word, others)) = rest.split_first() {
-        match *word {
-            "--nested" if !mode.nested => mode.nested = true,
-            "--delivery" if !mode.delivery => mode.delivery = true,
-            _ => break,
-        }
-        rest = others;
-    }
-    (command, mode, rest)
 }
 
 fn number(word: &str) -> Result<u64, String> {
@@ -165,8 +135,8 @@ fn answers(mode: Mode) -> Outcome {
     over_cases(|out, book| Ok(stream::write_answer(out, &answer(book, mode)?)))
 }
 
-fn premises(nested: bool) -> Outcome {
-    over_cases(|out, book| Ok(stream::write_premise(out, &premise(book, nested)?)))
+fn premises(mode: Mode) -> Outcome {
+    over_cases(|out, book| Ok(stream::write_premise(out, &premise(book, mode)?)))
 }
 
 fn generated(seed: u64, count: u64) -> Outcome {
@@ -175,10 +145,6 @@ fn generated(seed: u64, count: u64) -> Outcome {
 
 fn nested(seed: u64, count: u64) -> Outcome {
     stream_out((0..count).map(|number| cases::nested_case(seed, number).bytes))
-}
-
-fn delivery(seed: u64, count: u64) -> Outcome {
-    stream_out((0..count).map(|number| cases::delivery_case(seed, number).bytes))
 }
 
 fn everything_short() -> Outcome {
@@ -200,7 +166,7 @@ fn stream_out(books: impl Iterator<Item = Vec<u8>>) -> Outcome {
 fn tally(seed: u64, count: u64) -> Outcome {
     let case = |number| cases::case(seed, number);
     let cases = (0..count).map(case).map(|case| (case.kind, case.bytes));
-    print(&tallied(cases, Mode::PLAIN)?)
+    print(&tallied(cases, Mode::Plain)?)
 }
 
 /// Of the cases for the nested mode: how many end with each pass, too.
@@ -213,18 +179,11 @@ fn tally_nested(seed: u64, count: u64) -> Outcome {
             *ends.entry(end).or_default() += 1;
         }
     }
-    let mut text = tallied(cases, Mode::NESTED)?;
+    let mut text = tallied(cases, Mode::Nested)?;
     for ((pass, end), count) in ends {
         text.push_str(&format!("pass {pass} {end:?}:{count}\n"));
     }
     print(&text)
-}
-
-/// Of the cases for the delivery profile, in one expansion or the other.
-fn tally_delivery(mode: Mode, seed: u64, count: u64) -> Outcome {
-    let case = |number| cases::delivery_case(seed, number);
-    let cases = (0..count).map(case).map(|case| (case.kind, case.bytes));
-    print(&tallied(cases, mode)?)
 }
 
 /// Codes of all cases, then by kind.
@@ -299,7 +258,7 @@ fn bench(repetitions: u64) -> Outcome {
     while let Some(book) =
         stream::read_case(&mut input).map_err(|error| format!("case {cases}: {error}"))?
     {
-        let answer = answer(&book, Mode::PLAIN).map_err(|e| disagreement(cases, &book, &e))?;
+        let answer = answer(&book, Mode::Plain).map_err(|e| disagreement(cases, &book, &e))?;
         cases += 1;
         if answer.code() == 0 {
             books.push(book);

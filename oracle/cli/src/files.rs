@@ -2,8 +2,8 @@
 //! books and listings of the examples.
 
 use driver::answer::answer;
+use driver::expand::Mode;
 use driver::listing::listing;
-use driver::mode::Mode;
 use driver::notation;
 use driver::record::{record as make, List};
 use driver::write::write;

@@ -23,15 +23,11 @@ code  the Rust's word                              a second reading of document 
       `elaborate` ends, its result is too large
 11    none                                         not judged here: it speaks of the output
 12    every pass is `expand_macros` (--nested)     document 02 b: how often, and when to stop
-13    the expanded list (--delivery)               document 02 e: which calls, and the order
-14    the expanded list (--delivery)               document 02 e: which chains, and the order
 at    none                                         document 02 a: where a fault of 3, 4, 5 is
 premise  the expanded list                         the test itself
 
 Codes 7 to 10 come from a walk of our own that calls the Rust's functions for
 what is anonymous, for names, for parameters and for types. On 0 its result and
 its lifted names are held against those of `elaborate`, byte for byte; on 7 and 8
-its panic. Any difference ends the run with a line that says DISAGREEMENT; so does
-a 7 within the delivery profile, which document 02 f rules out. Books that the
-profile lets pass are judged as without it.
+its panic. Any difference ends the run with a line that says DISAGREEMENT.
 ";

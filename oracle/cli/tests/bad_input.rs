@@ -52,15 +52,6 @@ fn words() {
     refuses(&["listing", "--netsed"], b"", "no subcommand");
     refuses(&["sweep", "--nested"], b"", "no subcommand");
     refuses(&["cases", "--nested", "x", "1"], b"", "`x` is no number");
-    refuses(&["cases", "--delivery", "x", "1"], b"", "`x` is no number");
-    refuses(&["sweep", "--delivery"], b"", "no subcommand");
-    refuses(&["premise", "--delivery"], b"", "no subcommand");
-    refuses(
-        &["listing", "--delivery", "--delivery"],
-        b"",
-        "no subcommand",
-    );
-    refuses(&["--delivery", "listing"], b"", "no subcommand");
     refuses(&["answer", "two\nlines"], b"", "no subcommand");
     refuses(&["cases"], b"", "no subcommand");
     refuses(&["cases", "x", "1"], b"", "`x` is no number");
@@ -78,7 +69,6 @@ fn streams() {
         &["answer"][..],
         &["premise"],
         &["answer", "--nested"],
-        &["answer", "--delivery", "--nested"],
         &["bench", "1"],
     ] {
         refuses(words, &[1, 2, 3], "case 0: the stream ends inside a length");
@@ -186,37 +176,6 @@ fn any_bytes_get_an_answer() {
 }
 
 #[test]
-fn delivery_profile() {
-    let read = |name: &str| {
-        let path = concat!(env!("CARGO_MANIFEST_DIR"), "/../../examples/");
-        std::fs::read(format!("{path}{name}")).expect("an example")
-    };
-    for name in [
-        "nested/packing-list",
-        "delivery/shipping-note",
-        "delivery/seal",
-    ] {
-        let book = read(&format!("{name}.book"));
-        for (words, ending) in [
-            (&["listing"][..], "listing"),
-            (&["listing", "--nested"], "nested"),
-            (&["listing", "--delivery"], "delivery"),
-            (&["listing", "--nested", "--delivery"], "delivery-nested"),
-            (&["listing", "--delivery", "--nested"], "delivery-nested"),
-        ] {
-            assert_eq!(succeeds(words, &book), read(&format!("{name}.{ending}")));
-        }
-    }
-    let note = read("delivery/shipping-note.book");
-    refuses(&["elaborate", "--delivery"], &note, "refused 13");
-    refuses(
-        &["elaborate", "--delivery"],
-        &read("delivery/seal.book"),
-        "refused 14",
-    );
-}
-
-#[test]
 fn nested_mode() {
     let text = "macro f!() = vec<g!()> macro g!() = enum format m = struct { a: f!() }";
     let book = succeeds(&["book", "write"], text.as_bytes());
@@ -269,8 +228,6 @@ fn one_seed_one_stream() {
     let nested = succeeds(&["cases", "--nested", "5", "400"], b"");
     assert_eq!(succeeds(&["cases", "--nested", "5", "400"], b""), nested);
     assert_ne!(nested, once);
-    let delivered = succeeds(&["cases", "--delivery", "5", "400"], b"");
-    assert!(delivered != once && delivered != nested);
 }
 
 #[test]

@@ -2,7 +2,7 @@
 //! say what the oracle answers.
 
 use driver::answer::{answer, premise, Answer, Premise};
-use driver::mode::Mode;
+use driver::expand::Mode;
 use std::collections::BTreeMap;
 use std::fs;
 use std::path::PathBuf;
@@ -102,7 +102,7 @@ fn records_say_what_the_oracle_answers() {
             let (premise_code, yes) = (records.number(1), records.number(1));
             let expanded = records.book(book, result);
             *codes.entry(code).or_default() += 1;
-            match answer(book, Mode::PLAIN).expect("both readings agree") {
+            match answer(book, Mode::Plain).expect("both readings agree") {
                 Answer::Done(done) => {
                     assert_eq!((code, at), (0, 0));
                     assert_eq!((definitions, lifted), (done.definitions, done.lifted));
@@ -113,7 +113,7 @@ fn records_say_what_the_oracle_answers() {
                     assert_eq!((definitions, lifted, result.len()), (0, 0, 0));
                 }
             }
-            match premise(book, false).expect("both readings agree") {
+            match premise(book, Mode::Plain).expect("both readings agree") {
                 Premise::Holds {
                     yes: found,
                     expanded: list,

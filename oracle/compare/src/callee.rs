@@ -1,50 +1,25 @@
 //! Who is judged: a program that calls the archive, one case at a time.
 
-use driver::mode::Mode;
 use std::io::{self, Read, Write};
 use std::process::{Child, ChildStdin, ChildStdout, Command, Stdio};
 
 #[derive(Debug, Clone, Copy, PartialEq, Eq, PartialOrd, Ord)]
 pub enum Call {
     Premise,
-    /// `samulsto_elaborate`, or the one of another mode.
-    Elaborate(Mode),
-    /// `samulsto_check`, which is lent the book alone.
-    Check,
+    Elaborate,
+    /// `samulsto_elaborate_nested`.
+    Nested,
 }
 
 impl Call {
-    pub const PLAIN: Call = Call::Elaborate(Mode::PLAIN);
-    pub const NESTED: Call = Call::Elaborate(Mode::NESTED);
-
     /// All of them, in the order of tables.
-    pub const ALL: [Call; 6] = [
-        Call::PLAIN,
-        Call::NESTED,
-        Call::Elaborate(Mode::DELIVERY),
-        Call::Elaborate(Mode::DELIVERY_NESTED),
-        Call::Premise,
-        Call::Check,
-    ];
+    pub const ALL: [Call; 3] = [Call::Elaborate, Call::Nested, Call::Premise];
 
     pub fn word(self) -> &'static str {
         match self {
             Call::Premise => "premise",
-            Call::Elaborate(mode) => match (mode.delivery, mode.nested) {
-                (false, false) => "elaborate",
-                (false, true) => "nested",
-                (true, false) => "delivery",
-                (true, true) => "delivery-nested",
-            },
-            Call::Check => "check",
-        }
-    }
-
-    /// The mode that it elaborates in; the premise test has document 01's expansion, and the check has none.
-    pub fn mode(self) -> Mode {
-        match self {
-            Call::Premise | Call::Check => Mode::PLAIN,
-            Call::Elaborate(mode) => mode,
+            Call::Elaborate => "elaborate",
+            Call::Nested => "nested",
         }
     }
 
@@ -74,8 +49,7 @@ pub enum Times {
     ForTime(u32),
 }
 
-/// The numbers of an answer: code, length, definitions, lifted, at; of the premise test code, holds, 0, 0, at; of the
-/// check code, 0, 0, 0, at.
+/// The numbers of an answer: code, length, definitions, lifted, at; of the premise test code, holds, 0, 0, at.
 pub type Numbers = [u32; 5];
 
 /// What came of it. `out` is the result and whatever else of the output has changed.
@@ -83,7 +57,6 @@ pub type Numbers = [u32; 5];
 pub struct Reply {
     pub numbers: Numbers,
     pub out: Vec<u8>,
-    /// Of the check, which is lent no work area: bytes of it that are not as before.
     pub work_not_zero: u32,
     pub strayed: u32,
     /// Bytes of stack, or nanoseconds of the quickest call; 0 where neither was asked for.
@@ -194,8 +167,8 @@ fn exchange(running: &mut Running, request: &Request) -> io::Result<Reply> {
 fn encoded(request: &Request) -> Vec<u8> {
     let call = match request.call {
         Call::Premise => 0,
-        Call::Elaborate(mode) => 1 + u32::from(mode.nested) + 2 * u32::from(mode.delivery),
-        Call::Check => 5,
+        Call::Elaborate => 1,
+        Call::Nested => 2,
     };
     let times = match request.times {
         Times::ForStack => 0,

@@ -1,8 +1,9 @@
 //! A case, what documents 01 and 02 say of it, and whether the callee says the same.
 
 use crate::callee::{Call, Callee, Numbers, Reply, Request, Times};
-use driver::answer::{answer, check, premise, Answer, Internal, Premise};
+use driver::answer::{answer, premise, Answer, Internal, Premise};
 use driver::cases::Rng;
+use driver::expand::Mode;
 use driver::limits::BOOK_BYTES;
 use driver::stop::Refusal;
 
@@ -89,16 +90,10 @@ pub struct Expected {
 
 pub fn expected(case: &Case) -> Result<Expected, Internal> {
     match case.call {
-        Call::Premise => Ok(of_premise(case, premise(&case.book, false)?)),
-        Call::Elaborate(mode) => Ok(of_answer(case, answer(&case.book, mode)?)),
-        Call::Check => Ok(of_check(case, check(&case.book))),
+        Call::Premise => Ok(of_premise(case, premise(&case.book, Mode::Plain)?)),
+        Call::Elaborate => Ok(of_answer(case, answer(&case.book, Mode::Plain)?)),
+        Call::Nested => Ok(of_answer(case, answer(&case.book, Mode::Nested)?)),
     }
-}
-
-/// The work area's length makes no difference: none is lent.
-fn of_check(case: &Case, judged: Option<Refusal>) -> Expected {
-    let none = Refusal { code: 0, at: 0 };
-    refused(judged.unwrap_or(none), out_bytes(case.sizes.out, 0))
 }
 
 /// A refusal of whatever call: every number but code and place is 0.
@@ -183,8 +178,7 @@ fn in_words(call: Call, numbers: Numbers) -> String {
     let [code, length, definitions, lifted, at] = numbers;
     match call {
         Call::Premise => format!("code {code}, holds {length}, at {at}"),
-        Call::Check => format!("code {code}, at {at}"),
-        Call::Elaborate(_) => format!(
+        Call::Elaborate | Call::Nested => format!(
             "code {code}, length {length}, definitions {definitions}, lifted {lifted}, at {at}"
         ),
     }

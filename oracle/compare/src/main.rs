@@ -11,9 +11,8 @@ use std::process::ExitCode;
 const STACK_BYTES: usize = 256 << 20;
 
 const USAGE: &str = "\
-CALL is elaborate, nested, delivery, delivery-nested, premise or check.
-compare answers [--only CALL] COUNT SEED PROGRAM WORDS..
-compare stack [--only CALL] COUNT SEED PROGRAM WORDS..
+compare answers [--only elaborate|nested|premise] COUNT SEED PROGRAM WORDS..
+compare stack [--only elaborate|nested|premise] COUNT SEED PROGRAM WORDS..
 compare times PROGRAM WORDS..";
 
 fn main() -> ExitCode {

@@ -3,8 +3,6 @@
 use crate::callee::Call;
 use crate::case::{drawn, Sizes, OUTS, WORKS};
 use driver::cases::{self, short, sweep, Rng};
-use driver::deliveries::deliveries;
-use driver::mode::Mode;
 use driver::places::places;
 use driver::stories;
 
@@ -17,17 +15,12 @@ pub struct Part {
     pub count: u64,
 }
 
-/// All parts: those that are always the same, then so many generated books of a seed. Where the nested mode or the
-/// delivery profile is called, the first parts have its books too, and as many are generated for it. Where the premise
-/// test is called, half as many are generated with parameter types that call and chain: a third of all that are
-/// generated for it.
+/// All parts: those that are always the same, then so many generated books of a seed. Where the nested mode is called,
+/// the first parts have its books too, and as many are generated for it.
 pub fn parts(calls: &[Call], seed: u64, count: u64) -> Vec<Part> {
-    let mode = Mode {
-        nested: calls.iter().any(|call| call.mode().nested),
-        delivery: calls.iter().any(|call| call.mode().delivery),
-    };
+    let nested = calls.contains(&Call::Nested);
     let generated = (0..count).map(move |number| cases::case(seed, number).bytes);
-    let swept: Vec<Vec<u8>> = told(mode)
+    let swept: Vec<Vec<u8>> = told(nested)
         .into_iter()
         .filter(|book| book.len() <= SWEPT_BYTES)
         .collect();
@@ -35,7 +28,7 @@ pub fn parts(calls: &[Call], seed: u64, count: u64) -> Vec<Part> {
         .into_iter()
         .flat_map(|book| sweep::sweep(&book).collect::<Vec<_>>());
     let mut parts = vec![
-        part("limits", Box::new(around_the_limits(mode))),
+        part("limits", Box::new(around_the_limits(nested))),
         part("tables", Box::new(with_all_sizes(cases::around_tables()))),
         part("places", Box::new(with_all_sizes(misplaced()))),
         with_sizes("strings", seed, short::strings()),
@@ -47,28 +40,12 @@ pub fn parts(calls: &[Call], seed: u64, count: u64) -> Vec<Part> {
             name: "generated",
         },
     ];
-    if mode.nested {
+    if nested {
         let macros = (0..count).map(move |number| cases::nested_case(seed, number).bytes);
         parts.push(Part {
             count,
             cases: sized(seed, macros),
             name: "macros in macros",
-        });
-    }
-    if calls.contains(&Call::Premise) {
-        let types = (0..count / 2).map(move |number| cases::typed_case(seed, number).bytes);
-        parts.push(Part {
-            count: count / 2,
-            cases: sized(seed, types),
-            name: "types that call",
-        });
-    }
-    if mode.delivery {
-        let delivered = (0..count).map(move |number| cases::delivery_case(seed, number).bytes);
-        parts.push(Part {
-            count,
-            cases: sized(seed, delivered),
-            name: "deliveries",
         });
     }
     parts
@@ -100,8 +77,8 @@ fn sized(
 }
 
 /// Every limit from both sides and the books with a story.
-fn around_the_limits(mode: Mode) -> impl Iterator<Item = (Vec<u8>, Sizes)> {
-    with_all_sizes(limits(mode).into_iter().chain(told(mode)).collect())
+fn around_the_limits(nested: bool) -> impl Iterator<Item = (Vec<u8>, Sizes)> {
+    with_all_sizes(limits(nested).into_iter().chain(told(nested)).collect())
 }
 
 /// A fault of each kind of item, wherever it can stand.
@@ -122,24 +99,20 @@ fn with_all_sizes(books: Vec<Vec<u8>>) -> impl Iterator<Item = (Vec<u8>, Sizes)>
     })
 }
 
-/// Every limit from both sides, with those of the nested mode or without. The profile has none of its own.
-pub fn limits(mode: Mode) -> Vec<Vec<u8>> {
+/// Every limit from both sides, with those of the nested mode or without.
+pub fn limits(nested: bool) -> Vec<Vec<u8>> {
     let mut sides = cases::both_sides();
-    if mode.nested {
+    if nested {
         sides.extend(cases::nested_sides());
     }
     sides.into_iter().map(|side| side.bytes).collect()
 }
 
-/// The books with a story, likewise, and those of the profile.
-pub fn told(mode: Mode) -> Vec<Vec<u8>> {
+/// The books with a story, likewise.
+pub fn told(nested: bool) -> Vec<Vec<u8>> {
     let mut told = stories::stories();
-    if mode.nested {
+    if nested {
         told.extend(stories::nested_stories());
     }
-    let mut books: Vec<Vec<u8>> = told.into_iter().map(|story| story.bytes).collect();
-    if mode.delivery {
-        books.extend(deliveries().into_iter().map(|one| one.bytes));
-    }
-    books
+    told.into_iter().map(|story| story.bytes).collect()
 }

@@ -25,7 +25,7 @@ pub fn run(
         let mut last = Instant::now();
         for (number, (book, sizes)) in part.cases.enumerate() {
             let mut case = Case {
-                call: Call::PLAIN,
+                call: Call::Premise,
                 book,
                 sizes,
             };

@@ -3,12 +3,12 @@
 use crate::callee::{Call, Callee, Request, Times};
 use crate::case::WORK_BYTES;
 use crate::parts::{limits, told};
-use driver::cases::{case, delivery_case, nested_case};
+use driver::cases::{case, nested_case};
 use driver::limits::BOOK_BYTES;
 use std::fmt::Write;
 
-/// 0 to 14.
-const CODES: usize = 15;
+/// 0 to 12.
+const CODES: usize = 13;
 
 /// A table in Markdown: bytes of stack by code, the deepest book of each.
 pub fn stack(
@@ -41,15 +41,13 @@ fn used(
     seed: u64,
     count: u64,
 ) -> Result<[[u32; 3]; CODES], String> {
-    let mode = call.mode();
-    let told = limits(mode).into_iter().chain(told(mode));
+    let nested = call == Call::Nested;
+    let told = limits(nested).into_iter().chain(told(nested));
     let generated = (0..count).map(|number| case(seed, number).bytes);
-    let for_nested = if mode.nested { count } else { 0 };
+    let for_nested = if nested { count } else { 0 };
     let macros = (0..for_nested).map(|number| nested_case(seed, number).bytes);
-    let for_delivery = if mode.delivery { count } else { 0 };
-    let delivered = (0..for_delivery).map(|number| delivery_case(seed, number).bytes);
     let mut codes = [[0, u32::MAX, 0]; CODES];
-    for book in told.chain(generated).chain(macros).chain(delivered) {
+    for book in told.chain(generated).chain(macros) {
         let reply = callee.call(&Request {
             call,
             book: &book,

@@ -14,7 +14,7 @@ pub struct Tally {
     parts: Vec<&'static str>,
     /// By call, code and, for the premise, its answer; a count per part.
     rows: BTreeMap<(Call, u32, u32), Vec<u64>>,
-    /// By the last pass of a call that expands macros in macros, and how it ended.
+    /// By the nested mode's last pass and how it ended.
     ends: BTreeMap<(usize, End), u64>,
     works: [u64; 3],
     outs: [u64; 3],
@@ -36,7 +36,7 @@ impl Tally {
     pub fn count(&mut self, case: &Case, agreed: &Expected) -> Result<(), Internal> {
         let holds = match case.call {
             Call::Premise => agreed.numbers[1],
-            Call::Elaborate(_) | Call::Check => 0,
+            Call::Elaborate | Call::Nested => 0,
         };
         let row = self
             .rows
@@ -45,15 +45,14 @@ impl Tally {
         row.resize(self.parts.len(), 0);
         row[self.parts.len() - 1] += 1;
         self.works[place(case.sizes.work.cmp(&WORK_BYTES))] += 1;
-        let results = matches!(case.call, Call::Elaborate(_));
-        if results && [0, 11].contains(&agreed.numbers[0]) {
+        if case.call != Call::Premise && [0, 11].contains(&agreed.numbers[0]) {
             let result = match agreed.numbers[0] {
                 0 => agreed.out_bytes.cmp(&agreed.out.len()),
                 _ => Ordering::Less,
             };
             self.outs[place(result)] += 1;
         }
-        if case.call.mode().nested && case.sizes.work >= WORK_BYTES {
+        if case.call == Call::Nested && case.sizes.work >= WORK_BYTES {
             if let Some(end) = passes(&case.book)? {
                 *self.ends.entry(end).or_default() += 1;
             }
@@ -113,7 +112,7 @@ impl Tally {
         text.push('\n');
     }
 
-    /// How many calls that expand macros in macros ended with each pass, and how.
+    /// How many calls of the nested mode ended with each pass, and how.
     fn passes(&self, text: &mut String) {
         let heads = ENDS.map(|(_, head)| head);
         let _ = writeln!(text, "| passes | {} |", heads.join(" | "));

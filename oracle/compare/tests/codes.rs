@@ -2,21 +2,22 @@
 
 use compare::callee::Call;
 use compare::case::{expected, Case, Out, Sizes, PLAIN};
-use driver::mode::Mode;
 use std::collections::BTreeMap;
 
 const PAGE: &str = include_str!("../../../docs/CODES.md");
 
-/// The sections of the page by code, and under none the sheet of the delivery profile.
-fn all_sections() -> BTreeMap<Option<u32>, &'static str> {
+/// The sections of the page by code.
+fn sections() -> BTreeMap<u32, &'static str> {
     let code = |section: &str| section.split(':').next()?.parse().ok();
     let sections = PAGE.split("\n## ").skip(1);
-    sections.map(|section| (code(section), section)).collect()
-}
-
-fn sections() -> BTreeMap<u32, &'static str> {
-    let with_code = |(code, section): (Option<u32>, _)| Some((code?, section));
-    all_sections().into_iter().filter_map(with_code).collect()
+    sections
+        .map(|section| {
+            (
+                code(section).expect("a section begins with its code"),
+                section,
+            )
+        })
+        .collect()
 }
 
 /// The place that a section tells of its book: 0 where it tells none.
@@ -60,13 +61,12 @@ fn buffers(code: u32) -> Sizes {
 fn each_book_has_its_code() {
     let books = books();
     let codes: Vec<u32> = books.keys().copied().collect();
-    assert_eq!(codes, (1..=14).collect::<Vec<u32>>());
+    assert_eq!(codes, (1..=12).collect::<Vec<u32>>());
     for (code, book) in books {
         let case = Case {
             call: match code {
-                12 => Call::NESTED,
-                13 | 14 => Call::Elaborate(Mode::DELIVERY),
-                _ => Call::PLAIN,
+                12 => Call::Nested,
+                _ => Call::Elaborate,
             },
             book,
             sizes: buffers(code),
@@ -86,17 +86,4 @@ fn the_codes_with_a_place_tell_it() {
         let told = section.contains(&format!("`refused {code} at "));
         assert_eq!(told, (3..=5).contains(&code), "code {code}");
     }
-}
-
-/// Document 02 f: the operators' sheet explains every code of the profile, and 7 is none.
-#[test]
-fn the_sheet_of_the_profile_is_without_7() {
-    let sheet = all_sections()[&None];
-    assert!(sheet.starts_with("The delivery profile: the operators' sheet\n"));
-    let rows = sheet.lines().filter_map(|line| line.strip_prefix("| "));
-    let code = |row: &str| row.split(" |").next()?.parse().ok();
-    let codes: Vec<u32> = rows.filter_map(code).collect();
-    let wanted: Vec<u32> = (1..=14).filter(|code| *code != 7).collect();
-    assert_eq!(codes, wanted);
-    assert!(!sheet.contains('7'));
 }

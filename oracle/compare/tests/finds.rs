@@ -4,8 +4,7 @@ use compare::callee::{Call, Callee, Reply, Request};
 use compare::case::{expected, judge, Case, Out, Sizes, PLAIN};
 use compare::shrink::{shown, shrink};
 use compare::tally::Tally;
-use driver::cases::{case, delivery_case, nested_case, Rng};
-use driver::mode::Mode;
+use driver::cases::{case, nested_case, Rng};
 use driver::passes::{passes, End};
 use driver::places::places;
 
@@ -40,9 +39,8 @@ fn cases(call: Call) -> impl Iterator<Item = Case> {
     (0..1500).map(move |number| Case {
         call,
         book: match call {
-            Call::Premise | Call::PLAIN | Call::Check => case(3, number).bytes,
-            Call::NESTED => nested_case(3, number).bytes,
-            Call::Elaborate(_) => delivery_case(3, number).bytes,
+            Call::Nested => nested_case(3, number).bytes,
+            Call::Elaborate | Call::Premise => case(3, number).bytes,
         },
         sizes: compare::case::drawn(&mut Rng::of_case(4, number)),
     })
@@ -74,7 +72,7 @@ fn an_honest_callee_passes() {
 
 #[test]
 fn a_wrong_code_shrinks_to_a_smallest_book() {
-    let case = found(Call::PLAIN, |_, reply| {
+    let case = found(Call::Elaborate, |_, reply| {
         if reply.numbers[0] == 8 {
             reply.numbers[0] = 7;
         }
@@ -86,7 +84,7 @@ fn a_wrong_code_shrinks_to_a_smallest_book() {
 
 #[test]
 fn a_result_that_is_too_short_is_noticed() {
-    let case = found(Call::PLAIN, |_, reply| {
+    let case = found(Call::Elaborate, |_, reply| {
         reply.out.pop();
     });
     assert_eq!(case.book, [0, 0]);
@@ -94,7 +92,7 @@ fn a_result_that_is_too_short_is_noticed() {
 
 #[test]
 fn a_byte_behind_the_result_is_noticed() {
-    let case = found(Call::PLAIN, |request, reply| {
+    let case = found(Call::Elaborate, |request, reply| {
         if reply.numbers[0] == 0 && reply.out.len() < request.out {
             reply.out.push(0);
         }
@@ -104,7 +102,7 @@ fn a_byte_behind_the_result_is_noticed() {
 
 #[test]
 fn an_output_written_on_refusals_is_noticed() {
-    let case = found(Call::PLAIN, |_, reply| {
+    let case = found(Call::Elaborate, |_, reply| {
         if reply.numbers[0] == 11 {
             reply.out.push(0);
         }
@@ -115,7 +113,7 @@ fn an_output_written_on_refusals_is_noticed() {
 
 #[test]
 fn a_count_that_is_invented_is_noticed() {
-    let case = found(Call::PLAIN, |_, reply| {
+    let case = found(Call::Elaborate, |_, reply| {
         if reply.numbers[3] > 1 {
             reply.numbers[3] = 1;
         }
@@ -189,9 +187,9 @@ fn a_report_tells_both_places() {
 
 #[test]
 fn a_nested_mode_that_is_the_plain_one_is_noticed() {
-    let case = found(Call::NESTED, |request, reply| {
+    let case = found(Call::Nested, |request, reply| {
         let plain = Case {
-            call: Call::PLAIN,
+            call: Call::Elaborate,
             book: request.book.to_vec(),
             sizes: PLAIN,
         };
@@ -206,7 +204,7 @@ fn a_nested_mode_that_is_the_plain_one_is_noticed() {
 
 #[test]
 fn a_12_that_is_a_6_shrinks_to_a_bare_chain() {
-    let case = found(Call::NESTED, |_, reply| {
+    let case = found(Call::Nested, |_, reply| {
         if reply.numbers[0] == 12 {
             reply.numbers[0] = 6;
         }
@@ -217,7 +215,7 @@ fn a_12_that_is_a_6_shrinks_to_a_bare_chain() {
 
 #[test]
 fn a_pass_too_few_is_noticed() {
-    let case = found(Call::NESTED, |request, reply| {
+    let case = found(Call::Nested, |request, reply| {
         let last = passes(request.book) == Ok(Some((16, End::Settled)));
         if last && request.work >= 65_536 {
             (reply.numbers, reply.out) = ([12, 0, 0, 0, 0], Vec::new());
@@ -226,42 +224,11 @@ fn a_pass_too_few_is_noticed() {
     assert_eq!(passes(&case.book), Ok(Some((16, End::Settled))));
 }
 
-const DELIVERY: Call = Call::Elaborate(Mode::DELIVERY);
-
-#[test]
-fn a_13_that_is_a_14_shrinks_to_a_bare_call() {
-    let case = found(DELIVERY, |_, reply| {
-        if reply.numbers[0] == 13 {
-            reply.numbers[0] = 14;
-        }
-    });
-    assert_eq!(case.sizes, PLAIN);
-    assert_eq!(case.book.len(), 16, "format `` = ``!()");
-}
-
-#[test]
-fn a_profile_that_is_the_plain_mode_is_noticed() {
-    for call in [DELIVERY, Call::Elaborate(Mode::DELIVERY_NESTED)] {
-        let case = found(call, |request, reply| {
-            let house = Case {
-                call: Call::Elaborate(request.call.mode().in_the_house()),
-                book: request.book.to_vec(),
-                sizes: PLAIN,
-            };
-            let house = expected(&house).unwrap();
-            if request.work >= 65_536 && reply.numbers[0] != 11 {
-                (reply.numbers, reply.out) = (house.numbers, house.out);
-            }
-        });
-        assert!(case.book.len() <= 20, "{} bytes", case.book.len());
-    }
-}
-
 #[test]
 fn passes_are_counted_in_a_table() {
     let mut tally = Tally::default();
     tally.begin("macros in macros");
-    for case in cases(Call::NESTED) {
+    for case in cases(Call::Nested) {
         let agreed = expected(&case).unwrap();
         tally.count(&case, &agreed).unwrap();
     }

@@ -3,18 +3,16 @@
 
 use crate::bridge::{from_ast, to_ast, Texts};
 use crate::caught;
-use crate::expand::expand;
+use crate::expand::{expand, Mode};
 use crate::lift::{lift, Lifted};
 use crate::limits::{code, BOOK_BYTES, DEFINITIONS, NAME_BYTES};
 use crate::measure;
-use crate::mode::Mode;
-use crate::profile;
 use crate::reach;
 use crate::read::read;
 use crate::stop::{Refusal, Stop};
 use crate::write::write;
 use std::collections::HashSet;
-use vest::ast::{Combinator, CombinatorInner, Definition};
+use vest::ast::{CombinatorInner, Definition};
 
 /// What document 01's call answers, the two codes about buffers aside.
 #[derive(Debug, Clone, PartialEq, Eq)]
@@ -58,22 +56,13 @@ fn settle<T>(outcome: Result<T, Stop>, refused: impl Fn(Refusal) -> T) -> Result
 fn elaborate(bytes: &[u8], mode: Mode) -> Result<Answer, Stop> {
     let book = read(bytes)?;
     let (source, texts) = to_ast(&book);
-    let expanded = expand(source, &texts, mode.nested)?;
-    if mode.delivery {
-        profile::holds(&expanded)?;
-    }
-    let word = match mode.nested {
-        false => to_ast(&book).0,
+    let expanded = expand(source, &texts, mode)?;
+    let word = match mode {
+        Mode::Plain => to_ast(&book).0,
         // After the last pass no macro is left: the Rust then only lifts.
-        true => expanded.clone(),
+        Mode::Nested => expanded.clone(),
     };
     match lift(expanded, &texts) {
-        Err(Stop::Refused(refusal)) if mode.delivery && refusal.code == code::LEFTOVER_MACRO => {
-            // document 02 f
-            Err("collection met a macro call within the profile"
-                .to_string()
-                .into())
-        }
         Ok(reading) => done(reading, word, &texts),
         Err(Stop::Refused(refusal)) => {
             confirm_refusal(refusal.code, word, &texts)?;
@@ -131,11 +120,6 @@ fn confirm_refusal(code: u8, mut word: Vec<Definition>, texts: &Texts) -> Result
     }
 }
 
-/// The check of document 02 d: what the reader refuses, with 2 to 5.
-pub fn check(bytes: &[u8]) -> Option<Refusal> {
-    read(bytes).err()
-}
-
 /// The premise test's answer, with the expanded book it looked at.
 #[derive(Debug, Clone, PartialEq, Eq)]
 pub enum Premise {
@@ -143,17 +127,16 @@ pub enum Premise {
     Refused(Refusal),
 }
 
-/// Document 01's premise test, with what document 02 c adds: parameter types
-/// are looked at too. The expansion is the Rust's; the test itself is the
-/// documents' alone.
-pub fn premise(bytes: &[u8], nested: bool) -> Result<Premise, Internal> {
-    settle(test_premise(bytes, nested), Premise::Refused)
+/// Document 01's premise test. The expansion is the Rust's; the test itself is
+/// document 01's alone.
+pub fn premise(bytes: &[u8], mode: Mode) -> Result<Premise, Internal> {
+    settle(test_premise(bytes, mode), Premise::Refused)
 }
 
-fn test_premise(bytes: &[u8], nested: bool) -> Result<Premise, Stop> {
+fn test_premise(bytes: &[u8], mode: Mode) -> Result<Premise, Stop> {
     let book = read(bytes)?;
     let (source, texts) = to_ast(&book);
-    let list = expand(source, &texts, nested)?;
+    let list = expand(source, &texts, mode)?;
     Ok(Premise::Holds {
         yes: called_names_exist(&list) && chains_stand_on_bytes_or_tail(&list),
         expanded: write(&from_ast(&list, &texts)?)?,
@@ -170,31 +153,23 @@ fn called_names_exist(list: &[Definition]) -> bool {
             _ => None,
         })
         .collect();
-    let exists = |inner: &CombinatorInner| match inner {
-        CombinatorInner::Invocation(call) => known.contains(call.func.name.as_str()),
-        _ => true,
-    };
-    let mut all = reach::types(list).all(exists);
-    in_bodies_and_types(list, &mut |combinator| all &= exists(&combinator.inner));
+    let mut all = true;
+    reach::bodies(list, &mut |combinator| {
+        if let CombinatorInner::Invocation(call) = &combinator.inner {
+            all &= known.contains(call.func.name.as_str());
+        }
+    });
     all
 }
 
 fn chains_stand_on_bytes_or_tail(list: &[Definition]) -> bool {
     let mut all = true;
-    in_bodies_and_types(list, &mut |combinator| {
-        all &= !profile::chained_elsewhere(combinator);
+    reach::bodies(list, &mut |combinator| {
+        all &= combinator.and_then.is_none()
+            || matches!(
+                combinator.inner,
+                CombinatorInner::Bytes(_) | CombinatorInner::Tail(_)
+            );
     });
     all
-}
-
-/// Every combinator that the test looks at. A type itself is none: it has no
-/// chain.
-fn in_bodies_and_types<'d, 'a>(
-    list: &'d [Definition<'a>],
-    visit: &mut dyn FnMut(&'d Combinator<'a>),
-) {
-    reach::bodies(list, visit);
-    for inner in reach::types(list) {
-        reach::below(inner, visit);
-    }
 }

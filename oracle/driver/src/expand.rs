@@ -14,6 +14,15 @@ use std::collections::HashMap;
 use vest::ast::{Combinator, CombinatorInner, Definition};
 use vest::elab::reach as rust;
 
+/// How often the pass is run.
+#[derive(Debug, Clone, Copy, PartialEq, Eq)]
+pub enum Mode {
+    /// Document 01: one pass.
+    Plain,
+    /// Document 02 b: until no known call is left, 16 passes at the most.
+    Nested,
+}
+
 /// Past this size a substitution is not carried out: foretelling it is enough.
 const CARRIED_OUT: usize = 1 << 20;
 
@@ -25,18 +34,17 @@ pub struct Course<'a> {
     pub outcome: Result<Vec<Definition<'a>>, Stop>,
 }
 
-/// Expands the list, macros removed, or answers 6: in one pass, or with `nested` in as many as document 02 b asks for,
-/// where it may be 12.
+/// Expands the list, macros removed, or answers 6 (or 12, in nested mode).
 pub fn expand<'a>(
     definitions: Vec<Definition<'a>>,
     texts: &Texts,
-    nested: bool,
+    mode: Mode,
 ) -> Result<Vec<Definition<'a>>, Stop> {
-    course(definitions, texts, nested).outcome
+    course(definitions, texts, mode).outcome
 }
 
 /// The same, with the count of passes.
-pub fn course<'a>(definitions: Vec<Definition<'a>>, texts: &Texts, nested: bool) -> Course<'a> {
+pub fn course<'a>(definitions: Vec<Definition<'a>>, texts: &Texts, mode: Mode) -> Course<'a> {
     let library: Vec<Definition> = definitions
         .iter()
         .filter(|definition| matches!(definition, Definition::MacroDefn { .. }))
@@ -47,7 +55,7 @@ pub fn course<'a>(definitions: Vec<Definition<'a>>, texts: &Texts, nested: bool)
     let mut outcome = pass(definitions, &macros, texts);
     for passes in 1..PASSES {
         match outcome {
-            Ok(mut list) if nested && has_known_call(&list, &macros) => {
+            Ok(mut list) if mode == Mode::Nested && has_known_call(&list, &macros) => {
                 list.splice(0..0, library.iter().cloned());
                 outcome = pass(list, &macros, texts);
             }

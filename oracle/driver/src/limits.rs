@@ -12,8 +12,7 @@ pub const NAME_BYTES: usize = 255;
 pub const PASSES: usize = 16;
 
 /// Document 01's codes as far as a judge without buffers can give them: 1 and
-/// 11 speak of the work area and the output. 12 to 14 are document 02's, requests b
-/// and e.
+/// 11 speak of the work area and the output. 12 is document 02's, request b.
 pub mod code {
     pub const DONE: u8 = 0;
     pub const BOOK_TOO_LONG: u8 = 2;
@@ -26,6 +25,4 @@ pub mod code {
     pub const LIFTED_NAME_TOO_LONG: u8 = 9;
     pub const RESULT_TOO_LARGE: u8 = 10;
     pub const MACRO_CALL_LEFT: u8 = 12;
-    pub const CALL_LEFT: u8 = 13;
-    pub const CHAIN_ELSEWHERE: u8 = 14;
 }

@@ -2,7 +2,7 @@
 
 use crate::answer::Internal;
 use crate::bridge::to_ast;
-use crate::expand::course;
+use crate::expand::{course, Mode};
 use crate::limits::code;
 use crate::read::read;
 use crate::stop::Stop;
@@ -27,7 +27,7 @@ pub fn passes(bytes: &[u8]) -> Result<Option<(usize, End)>, Internal> {
         return Ok(None);
     };
     let (source, texts) = to_ast(&book);
-    let course = course(source, &texts, true);
+    let course = course(source, &texts, Mode::Nested);
     let end = match course.outcome {
         Ok(_) => End::Settled,
         Err(Stop::Refused(refusal)) if refusal.code == code::MACRO_GROWTH => End::Grown,

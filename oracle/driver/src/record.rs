@@ -3,7 +3,7 @@
 
 use crate::answer::{answer, premise, Answer, Internal, Premise};
 use crate::cases::{self, Kind};
-use crate::mode::Mode;
+use crate::expand::Mode;
 use crate::stories::stories;
 use std::collections::{BTreeMap, HashMap, HashSet};
 
@@ -58,8 +58,8 @@ impl Recorder {
         if !self.seen.insert(book.to_vec()) {
             return Ok(());
         }
-        let answer = answer(book, Mode::PLAIN)?;
-        let record = encoded(book, &answer, &premise(book, false)?);
+        let answer = answer(book, Mode::Plain)?;
+        let record = encoded(book, &answer, &premise(book, Mode::Plain)?);
         let wanted = kind.is_none_or(|kind| self.wanted(kind, answer.code(), record.len()));
         if wanted {
             self.take(&record);

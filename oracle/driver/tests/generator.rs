@@ -1,16 +1,14 @@
 //! The generator: the same again, every code, and nothing that splits the two
 //! readings.
 
-use driver::answer::{answer, premise, Answer, Premise};
-use driver::cases::{
-    case, nested_case, short, typed_case, TypedKind, KINDS, NESTED_KINDS, TYPED_KINDS,
-};
-use driver::mode::Mode;
+use driver::answer::{answer, Answer};
+use driver::cases::{case, nested_case, short, KINDS, NESTED_KINDS};
+use driver::expand::Mode;
 use driver::passes::{passes, End};
 use std::collections::BTreeMap;
 
 fn code(bytes: &[u8]) -> u8 {
-    answer(bytes, Mode::PLAIN)
+    answer(bytes, Mode::Plain)
         .expect("both readings agree")
         .code()
 }
@@ -54,7 +52,7 @@ fn nested_cases_need_every_count_of_passes() {
     let mut later: BTreeMap<u8, usize> = BTreeMap::new();
     for number in 0..10_000 {
         let bytes = nested_case(1, number).bytes;
-        let code = answer(&bytes, Mode::NESTED)
+        let code = answer(&bytes, Mode::Nested)
             .expect("both readings agree")
             .code();
         if let Some((pass, end)) = passes(&bytes).expect("both readings agree") {
@@ -82,31 +80,6 @@ fn nested_cases_need_every_count_of_passes() {
     }
 }
 
-/// A typed book is told by the one type that is of its kind: the others pass,
-/// and so do all bodies, the books of `plain` aside.
-#[test]
-fn one_type_decides_a_typed_case() {
-    let shares: usize = TYPED_KINDS.iter().map(|(_, share)| share).sum();
-    assert_eq!(shares, 1000);
-    let mut mixed = [0, 0];
-    for number in 0..5000 {
-        let made = typed_case(7, number);
-        assert_eq!(made.bytes, typed_case(7, number).bytes);
-        let yes = match premise(&made.bytes, false) {
-            Ok(Premise::Holds { yes, .. }) => yes,
-            other => panic!("case {number}: {other:?}"),
-        };
-        match made.kind {
-            TypedKind::Passes | TypedKind::Aside => assert!(yes, "case {number}"),
-            TypedKind::Nobody | TypedKind::MacroName | TypedKind::Chain => {
-                assert!(!yes, "case {number}")
-            }
-            TypedKind::Mixed => mixed[usize::from(yes)] += 1,
-        }
-    }
-    assert!(mixed.iter().all(|count| *count >= 20), "{mixed:?}");
-}
-
 #[test]
 fn short_strings_are_no_books_but_one() {
     let mut count = 0;
@@ -130,8 +103,8 @@ fn short_books_split_no_readings() {
 fn nested_mode_splits_no_readings() {
     for number in 0..3000 {
         let bytes = case(9, number).bytes;
-        let plain = answer(&bytes, Mode::PLAIN).expect("both readings agree");
-        let nested = answer(&bytes, Mode::NESTED).expect("both readings agree");
+        let plain = answer(&bytes, Mode::Plain).expect("both readings agree");
+        let nested = answer(&bytes, Mode::Nested).expect("both readings agree");
         let early = matches!(plain.code(), 2..=6);
         assert!(!early || plain == nested);
     }
@@ -140,8 +113,8 @@ fn nested_mode_splits_no_readings() {
 #[test]
 fn a_result_comes_back_unchanged() {
     for number in 0..2000 {
-        if let Ok(Answer::Done(done)) = answer(&case(13, number).bytes, Mode::PLAIN) {
-            match answer(&done.book, Mode::PLAIN) {
+        if let Ok(Answer::Done(done)) = answer(&case(13, number).bytes, Mode::Plain) {
+            match answer(&done.book, Mode::Plain) {
                 Ok(Answer::Done(again)) => {
                     assert_eq!(again.book, done.book);
                     assert_eq!(again.lifted, 0);
@@ -169,7 +142,7 @@ fn around_tables() {
     }
     let results: Vec<usize> = books[40..45]
         .iter()
-        .map(|book| match answer(book, Mode::PLAIN) {
+        .map(|book| match answer(book, Mode::Plain) {
             Ok(Answer::Done(done)) => done.book.len(),
             other => panic!("{other:?}"),
         })

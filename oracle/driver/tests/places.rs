@@ -2,8 +2,8 @@
 
 use driver::answer::{answer, premise, Answer, Premise};
 use driver::cases::{case, nested_case};
+use driver::expand::Mode;
 use driver::listing::listing;
-use driver::mode::Mode;
 use driver::places::places;
 use driver::read::read;
 use driver::stop::Refusal;
@@ -16,11 +16,11 @@ fn answered(bytes: &[u8], mode: Mode) -> Answer {
 /// What a book that does not read is answered with, by every call alike.
 fn refused(bytes: &[u8]) -> Refusal {
     let refusal = read(bytes).expect_err("a fault");
-    for mode in Mode::ALL {
+    for mode in [Mode::Plain, Mode::Nested] {
         let refused = answered(bytes, mode);
         assert_eq!(refused, Answer::Refused(refusal));
         assert_eq!(listing(&refused), Ok(format!("{refusal}\n")));
-        assert_eq!(premise(bytes, mode.nested), Ok(Premise::Refused(refusal)));
+        assert_eq!(premise(bytes, mode), Ok(Premise::Refused(refusal)));
     }
     refusal
 }
@@ -74,8 +74,8 @@ fn a_place_shows_its_fault() {
 fn other_codes_have_no_place() {
     for number in 0..2000 {
         for (bytes, mode) in [
-            (case(18, number).bytes, Mode::PLAIN),
-            (nested_case(18, number).bytes, Mode::NESTED),
+            (case(18, number).bytes, Mode::Plain),
+            (nested_case(18, number).bytes, Mode::Nested),
         ] {
             if let Answer::Refused(refusal) = answered(&bytes, mode) {
                 let placed = (3..=5).contains(&refusal.code);

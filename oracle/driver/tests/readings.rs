@@ -2,14 +2,14 @@
 //! the notation, or the code. Each runs through the unchanged Rust.
 
 use driver::answer::{answer, Answer};
-use driver::mode::Mode;
+use driver::expand::Mode;
 use driver::notation::{parse, print};
 use driver::read::read;
 use driver::write::write;
 
 fn answered(source: &str) -> Answer {
     let book = write(&parse(source).expect(source)).expect(source);
-    answer(&book, Mode::PLAIN).expect("both readings agree")
+    answer(&book, Mode::Plain).expect("both readings agree")
 }
 
 fn gives(source: &str, result: &str) {

@@ -2,8 +2,8 @@
 
 use driver::answer::{answer, premise, Answer, Premise};
 use driver::cases::{both_sides, nested_sides};
+use driver::expand::Mode;
 use driver::listing::listing;
-use driver::mode::Mode;
 use driver::notation;
 use driver::passes::{passes, End};
 use driver::read::read;
@@ -14,11 +14,11 @@ use std::fs;
 use std::path::PathBuf;
 
 fn plain(bytes: &[u8]) -> Answer {
-    answer(bytes, Mode::PLAIN).expect("both readings agree")
+    answer(bytes, Mode::Plain).expect("both readings agree")
 }
 
 fn nested(bytes: &[u8]) -> Answer {
-    answer(bytes, Mode::NESTED).expect("both readings agree")
+    answer(bytes, Mode::Nested).expect("both readings agree")
 }
 
 fn parsed(text: &str) -> Vec<u8> {
@@ -228,43 +228,24 @@ fn how_the_passes_end() {
     assert_eq!(passes(&[0]), Ok(None));
 }
 
-fn yes(text: &str) -> bool {
-    match premise(&parsed(text), false) {
-        Ok(Premise::Holds { yes, .. }) => yes,
-        other => panic!("{other:?}"),
-    }
-}
-
 #[test]
 fn the_premise_looks_at_calls_and_chains_of_bodies() {
+    let yes = |text: &str| match premise(&parsed(text), Mode::Plain) {
+        Ok(Premise::Holds { yes, .. }) => yes,
+        other => panic!("{other:?}"),
+    };
     assert!(yes("format m = struct { a: m, b: k } const k = \"\""));
     assert!(!yes("format m = nope"));
     assert!(!yes("macro k!() = nothing format m = k"));
     assert!(yes("macro f!() = m format m = f!()"));
     assert!(yes("format m = zz!(nope)"));
-    assert!(yes("format m(@n: m) = bytes[@n] >>= tail >>= m"));
+    assert!(yes("format m(@n: nope) = bytes[@n] >>= tail >>= m"));
     assert!(!yes("format m = nothing >>= m"));
     assert!(yes("format m = zz!(vec<nothing >>= nope>)"));
     assert!(!yes("macro f!() = nothing format m = f!() >>= tail"));
 }
 
-/// Document 02 c, and reading 19.
-#[test]
-fn the_premise_looks_at_calls_and_chains_of_types() {
-    assert!(!yes("format m(@n: nope) = nothing"));
-    assert!(yes("format m(@n: m, @k: c) = nothing const c = \"\""));
-    assert!(!yes("format m(@n: m, @k: nope) = nothing"));
-    assert!(!yes("format e = nothing format m(@n: vec<nope>) = nothing"));
-    assert!(!yes("macro k!() = nothing format m(@n: k) = nothing"));
-    assert!(!yes("format m(@n: vec<nothing >>= m>) = nothing"));
-    assert!(yes("format m(@n: vec<tail >>= m>) = nothing"));
-    assert!(yes(
-        "format m(@n: zz!(nope, vec<nothing >>= nope>)) = nothing"
-    ));
-    assert!(yes("macro f!(a) = nope format m(@n: f!(nope)) = nothing"));
-}
-
-// The gate's program `listings` lists copies of examples; those of a folder have its name before theirs.
+// The gate's program `listings` lists copies of examples; those of the nested mode's folder have its name before theirs.
 #[test]
 fn listed_books_are_the_examples() {
     let data = examples().join("../crates/listings/data");
@@ -274,12 +255,10 @@ fn listed_books_are_the_examples() {
             .file_name()
             .and_then(|name| name.to_str())
             .expect("name");
-        let folders = ["nested", "delivery"].into_iter();
-        let mut in_folders = folders.filter_map(|folder| {
-            let rest = name.strip_prefix(folder)?.strip_prefix('-')?;
-            Some(examples().join(folder).join(rest))
-        });
-        let original = in_folders.next().unwrap_or(examples().join(name));
+        let original = match name.strip_prefix("nested-") {
+            Some(rest) => examples().join("nested").join(rest),
+            None => examples().join(name),
+        };
         assert_eq!(
             fs::read(&path).expect("copy"),
             fs::read(original).expect("original"),

@@ -158,7 +158,7 @@ fn every_tag_in_every_pair_of_places() {
                 let one = along(&[first, second], tag, first, true, true);
                 let bytes = write::write(&one).expect("a book");
                 assert_eq!(read(&bytes).as_ref(), Ok(&one));
-                driver::answer::answer(&bytes, driver::mode::Mode::PLAIN)
+                driver::answer::answer(&bytes, driver::expand::Mode::Plain)
                     .expect("both readings agree");
             }
         }

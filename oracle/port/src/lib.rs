@@ -17,9 +17,3 @@ pub fn elaborate(bytes: &[u8], out: &mut [u8], work: &mut [u8]) -> (u32, usize) 
     let answer = elab::samulsto_elaborate(bytes, out, work);
     (answer.code, answer.length as usize)
 }
-
-/// The same in the delivery profile.
-pub fn elaborate_delivery(bytes: &[u8], out: &mut [u8], work: &mut [u8]) -> (u32, usize) {
-    let answer = elab::samulsto_elaborate_delivery(bytes, out, work);
-    (answer.code, answer.length as usize)
-}

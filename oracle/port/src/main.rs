@@ -16,11 +16,7 @@ fn main() {
         },
         ["times"] => times(),
         ["speed"] => {
-            speed::on_a_large_stack(|| {
-                speed::tables::measure(port::elaborate);
-                let profile = speed::profile::table(port::elaborate, port::elaborate_delivery);
-                println!("{profile}");
-            });
+            speed::on_a_large_stack(|| speed::tables::measure(port::elaborate));
         }
         _ => fail("the words are: read SEED COUNT, times, speed"),
     }

@@ -7,7 +7,7 @@ use driver::build::{
     structure, vec,
 };
 use driver::cases::case;
-use driver::mode::Mode;
+use driver::expand::Mode;
 use driver::tree::{Definition, Inner};
 use driver::write::write;
 use std::fs;
@@ -22,7 +22,7 @@ pub const HURTING: &str = "made to hurt";
 
 /// The length of the result, if there is one.
 pub fn result(book: &[u8]) -> Option<usize> {
-    match answer(book, Mode::PLAIN) {
+    match answer(book, Mode::Plain) {
         Ok(Answer::Done(done)) => Some(done.book.len()),
         Ok(Answer::Refused(_)) => None,
         Err(message) => panic!("a fault of the oracle: {message}"),

@@ -5,7 +5,6 @@ pub mod clock;
 pub mod kinds;
 pub mod passes;
 pub mod plot;
-pub mod profile;
 pub mod shapes;
 pub mod tables;
 

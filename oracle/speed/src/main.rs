@@ -13,10 +13,6 @@ fn main() {
             "{}",
             speed::passes::table(archive::elaborate, archive::elaborate_nested)
         );
-        println!(
-            "{}",
-            speed::profile::table(archive::elaborate, archive::elaborate_delivery)
-        );
         plot
     });
     if let Err(error) = std::fs::write(path, plot) {
@@ -62,14 +58,6 @@ mod archive {
             work: *mut u8,
             work_length: usize,
         ) -> Answer;
-        fn samulsto_elaborate_delivery(
-            book: *const u8,
-            book_length: usize,
-            out: *mut u8,
-            out_length: usize,
-            work: *mut u8,
-            work_length: usize,
-        ) -> Answer;
     }
 
     fn called(call: Call, book: &[u8], out: &mut [u8], work: &mut [u8]) -> (u32, usize) {
@@ -93,9 +81,5 @@ mod archive {
 
     pub fn elaborate_nested(book: &[u8], out: &mut [u8], work: &mut [u8]) -> (u32, usize) {
         called(samulsto_elaborate_nested, book, out, work)
-    }
-
-    pub fn elaborate_delivery(book: &[u8], out: &mut [u8], work: &mut [u8]) -> (u32, usize) {
-        called(samulsto_elaborate_delivery, book, out, work)
     }
 }

@@ -27,8 +27,7 @@ mod refusal;
 mod sys;
 
 pub use definitions::{Definition, Definitions, Kind};
-use refusal::Coded;
-pub use refusal::{DeliveryError, DeliveryRefusal, Error, Refusal};
+pub use refusal::{Error, Refusal};
 use sys::Mode;
 
 /// A book is at most so long.
@@ -83,29 +82,6 @@ pub fn elaborate_nested(book: &[u8]) -> Result<Elaborated, Error> {
     with_own_buffers(Mode::Nested, book)
 }
 
-/// [`elaborate`] in the delivery profile, for layouts that leave the house: once macros are expanded, a book is turned
-/// away where a macro call is left in a format's body ([`DeliveryRefusal::CallLeft`]) or a chained format stands on
-/// something else than Bytes or Tail ([`DeliveryRefusal::ChainElsewhere`]). Any other book is answered as by
-/// [`elaborate`].
-///
-/// ```
-/// use samulsto::DeliveryRefusal;
-///
-/// // format "" = ""!(), a call of a macro that the book does not have
-/// let book = [1, 0, 1, 0, 8, 0, 8, 0, 0, 0, 0, 16, 0, 0, 0, 0];
-/// assert!(samulsto::elaborate(&book).is_ok());
-/// let error = samulsto::elaborate_delivery(&book).unwrap_err();
-/// assert_eq!(error.refusal, DeliveryRefusal::CallLeft);
-/// ```
-pub fn elaborate_delivery(book: &[u8]) -> Result<Elaborated, DeliveryError> {
-    with_own_buffers(Mode::Delivery, book)
-}
-
-/// [`elaborate_nested`] in the delivery profile: the two rules of [`elaborate_delivery`], tested after the last pass.
-pub fn elaborate_delivery_nested(book: &[u8]) -> Result<Elaborated, DeliveryError> {
-    with_own_buffers(Mode::DeliveryNested, book)
-}
-
 /// [`elaborate`] in buffers of the caller: the result stands in the first bytes of `out`, and what is behind it is as
 /// before, as is all of `out` after a refusal. `work` is all zero afterwards, however long it is.
 pub fn elaborate_into<'out>(
@@ -125,25 +101,7 @@ pub fn elaborate_nested_into<'out>(
     with_buffers(Mode::Nested, book, out, work)
 }
 
-/// [`elaborate_delivery`] in buffers of the caller, which hold afterwards what [`elaborate_into`] says.
-pub fn elaborate_delivery_into<'out>(
-    book: &[u8],
-    out: &'out mut [u8],
-    work: &mut [u8],
-) -> Result<Elaborated<&'out [u8]>, DeliveryError> {
-    with_buffers(Mode::Delivery, book, out, work)
-}
-
-/// [`elaborate_delivery_nested`] in buffers of the caller, likewise.
-pub fn elaborate_delivery_nested_into<'out>(
-    book: &[u8],
-    out: &'out mut [u8],
-    work: &mut [u8],
-) -> Result<Elaborated<&'out [u8]>, DeliveryError> {
-    with_buffers(Mode::DeliveryNested, book, out, work)
-}
-
-fn with_own_buffers<R: Coded>(mode: Mode, book: &[u8]) -> Result<Elaborated, Error<R>> {
+fn with_own_buffers(mode: Mode, book: &[u8]) -> Result<Elaborated, Error> {
     let mut bytes = vec![0; OUT_BYTES];
     let Elaborated {
         bytes: result,
@@ -159,12 +117,12 @@ fn with_own_buffers<R: Coded>(mode: Mode, book: &[u8]) -> Result<Elaborated, Err
     })
 }
 
-fn with_buffers<'out, R: Coded>(
+fn with_buffers<'out>(
     mode: Mode,
     book: &[u8],
     out: &'out mut [u8],
     work: &mut [u8],
-) -> Result<Elaborated<&'out [u8]>, Error<R>> {
+) -> Result<Elaborated<&'out [u8]>, Error> {
     let answer = sys::elaborate(mode, book, out, work);
     match Error::of(answer.code, answer.at) {
         Some(error) => Err(error),
@@ -176,27 +134,8 @@ fn with_buffers<'out, R: Coded>(
     }
 }
 
-/// Whether a book can be read: it is refused here exactly where the other calls refuse it as [`Refusal::BookTooLong`],
-/// [`Refusal::NotABook`], [`Refusal::BadName`] or [`Refusal::TooDeep`], at the same byte. It takes no buffers.
-///
-/// ```
-/// use samulsto::Refusal;
-///
-/// assert_eq!(samulsto::check(&[0, 0]), Ok(())); // no definitions
-/// let error = samulsto::check(&[1, 0]).unwrap_err(); // one definition, and no entry for it
-/// assert_eq!((error.refusal, error.at), (Refusal::NotABook, Some(2)));
-/// ```
-pub fn check(book: &[u8]) -> Result<(), Error> {
-    let answer = sys::check(book);
-    match Error::of(answer.code, answer.at) {
-        Some(error) => Err(error),
-        None => Ok(()),
-    }
-}
-
-/// Whether, once macros are expanded as [`elaborate`] does, every format called in a body or in a parameter type is defined in the book and
-/// chains stand there on Bytes and Tail alone. Types are looked at as they stand, and macro calls pass with their arguments. Then putting
-/// lifted definitions back gives the expanded book again, and none has a parameter too many.
+/// Whether, once macros are expanded as [`elaborate`] does, every format called is defined in the book and chains stand on Bytes and Tail
+/// alone. Then putting lifted definitions back gives the expanded book again, and none has a parameter too many.
 pub fn premise(book: &[u8]) -> Result<bool, Error> {
     premise_with(book, &mut vec![0; WORK_BYTES])
 }

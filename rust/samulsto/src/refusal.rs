@@ -109,157 +109,39 @@ impl Refusal {
     }
 }
 
-/// Why a book was not elaborated in the delivery profile: a [`Refusal`] but for a leftover macro call inside a format
-/// that has to be lifted, which the profile never meets; or one of the profile's two rules is broken.
-#[derive(Debug, Clone, Copy, PartialEq, Eq, Hash, PartialOrd, Ord)]
-#[repr(u8)]
-pub enum DeliveryRefusal {
-    WorkTooShort = 1,
-    BookTooLong = 2,
-    NotABook = 3,
-    BadName = 4,
-    TooDeep = 5,
-    MacroGrowth = 6,
-    NoBinder = 8,
-    LiftedNameTooLong = 9,
-    ResultTooLarge = 10,
-    OutTooShort = 11,
-    /// Of the nested mode alone.
-    MacroCallLeft = 12,
-    CallLeft = 13,
-    ChainElsewhere = 14,
-}
-
-impl DeliveryRefusal {
-    /// All of them, by code.
-    pub const ALL: [DeliveryRefusal; 13] = [
-        DeliveryRefusal::WorkTooShort,
-        DeliveryRefusal::BookTooLong,
-        DeliveryRefusal::NotABook,
-        DeliveryRefusal::BadName,
-        DeliveryRefusal::TooDeep,
-        DeliveryRefusal::MacroGrowth,
-        DeliveryRefusal::NoBinder,
-        DeliveryRefusal::LiftedNameTooLong,
-        DeliveryRefusal::ResultTooLarge,
-        DeliveryRefusal::OutTooShort,
-        DeliveryRefusal::MacroCallLeft,
-        DeliveryRefusal::CallLeft,
-        DeliveryRefusal::ChainElsewhere,
-    ];
-
-    /// Its number, 1 to 6 or 8 to 14.
-    pub fn code(self) -> u8 {
-        self as u8
-    }
-
-    /// The same refusal of the calls without the profile; the profile's own two have none.
-    pub fn without_the_profile(self) -> Option<Refusal> {
-        Refusal::ALL
-            .into_iter()
-            .find(|refusal| refusal.code() == self.code())
-    }
-
-    /// A few words.
-    pub fn name(self) -> &'static str {
-        match (self, self.without_the_profile()) {
-            (_, Some(refusal)) => refusal.name(),
-            (DeliveryRefusal::CallLeft, None) => "macro call left",
-            (_, None) => "chain elsewhere",
-        }
-    }
-
-    /// What it means and what to do about it, for whoever writes layouts.
-    pub fn explanation(self) -> &'static str {
-        match (self, self.without_the_profile()) {
-            (_, Some(refusal)) => refusal.explanation(),
-            (DeliveryRefusal::CallLeft, None) => {
-                "After expansion a macro call is left in a format's body, which the delivery profile does not let pass: \
-                 define the macro, correct its name, or elaborate in nested mode where a macro calls a macro."
-            }
-            (_, None) => {
-                "A chained format stands on something else than Bytes or Tail, which the delivery profile does not let \
-                 pass: put Bytes with a length before the chain, or make the chained format a field of its own."
-            }
-        }
-    }
-}
-
-/// What an error is made from.
-pub(crate) trait Coded: Copy + 'static {
-    const EVERY: &'static [Self];
-
-    fn number(self) -> u8;
-}
-
-impl Coded for Refusal {
-    const EVERY: &'static [Refusal] = &Refusal::ALL;
-
-    fn number(self) -> u8 {
-        self.code()
-    }
-}
-
-impl Coded for DeliveryRefusal {
-    const EVERY: &'static [DeliveryRefusal] = &DeliveryRefusal::ALL;
-
-    fn number(self) -> u8 {
-        self.code()
-    }
-}
-
 /// A refusal and, where one byte of the book is at fault, which.
 #[derive(Debug, Clone, Copy, PartialEq, Eq, Hash)]
-pub struct Error<R = Refusal> {
-    pub refusal: R,
+pub struct Error {
+    pub refusal: Refusal,
     /// With [`Refusal::NotABook`], [`Refusal::BadName`] and [`Refusal::TooDeep`] the offset in the book of the first
     /// byte of the item at fault, which is the book's length where an item is missing at its end. With the others none.
     pub at: Option<usize>,
 }
 
-/// The error of the delivery profile.
-pub type DeliveryError = Error<DeliveryRefusal>;
-
-impl<R> Error<R> {
+impl Error {
     /// None where nothing is refused. There is no other code: that is proved.
-    pub(crate) fn of(code: u32, at: u32) -> Option<Error<R>>
-    where
-        R: Coded,
-    {
-        if code == 0 {
-            return None;
-        }
-        let mut every = R::EVERY.iter().copied();
-        let refusal = every.find(|refusal| u32::from(refusal.number()) == code);
+    pub(crate) fn of(code: u32, at: u32) -> Option<Error> {
+        let refusal = Refusal::ALL[(code as usize).checked_sub(1)?];
+        let placed = matches!(
+            refusal,
+            Refusal::NotABook | Refusal::BadName | Refusal::TooDeep
+        );
         Some(Error {
-            refusal: refusal.expect("no call answers another code: that is proved"),
-            at: (3..=5).contains(&code).then_some(at as usize),
+            refusal,
+            at: placed.then_some(at as usize),
         })
-    }
-
-    fn line(&self, f: &mut fmt::Formatter, code: u8, name: &str, explanation: &str) -> fmt::Result {
-        write!(f, "refused {code}")?;
-        if let Some(at) = self.at {
-            write!(f, " at byte {at}")?;
-        }
-        write!(f, " ({name}): {explanation}")
     }
 }
 
 impl fmt::Display for Error {
     fn fmt(&self, f: &mut fmt::Formatter) -> fmt::Result {
-        let refusal = self.refusal;
-        self.line(f, refusal.code(), refusal.name(), refusal.explanation())
-    }
-}
-
-impl fmt::Display for DeliveryError {
-    fn fmt(&self, f: &mut fmt::Formatter) -> fmt::Result {
-        let refusal = self.refusal;
-        self.line(f, refusal.code(), refusal.name(), refusal.explanation())
+        let Error { refusal, at } = self;
+        write!(f, "refused {}", refusal.code())?;
+        if let Some(at) = at {
+            write!(f, " at byte {at}")?;
+        }
+        write!(f, " ({}): {}", refusal.name(), refusal.explanation())
     }
 }
 
 impl std::error::Error for Error {}
-
-impl std::error::Error for DeliveryError {}

@@ -17,15 +17,7 @@ pub struct PremiseAnswer {
     pub at: u32,
 }
 
-#[repr(C)]
-pub struct Checked {
-    pub code: u32,
-    pub at: u32,
-}
-
 extern "C" {
-    fn samulsto_check(book: *const u8, book_length: usize) -> Checked;
-
     fn samulsto_elaborate(
         book: *const u8,
         book_length: usize,
@@ -44,24 +36,6 @@ extern "C" {
         work_length: usize,
     ) -> Answer;
 
-    fn samulsto_elaborate_delivery(
-        book: *const u8,
-        book_length: usize,
-        out: *mut u8,
-        out_length: usize,
-        work: *mut u8,
-        work_length: usize,
-    ) -> Answer;
-
-    fn samulsto_elaborate_delivery_nested(
-        book: *const u8,
-        book_length: usize,
-        out: *mut u8,
-        out_length: usize,
-        work: *mut u8,
-        work_length: usize,
-    ) -> Answer;
-
     fn samulsto_premise(
         book: *const u8,
         book_length: usize,
@@ -70,21 +44,17 @@ extern "C" {
     ) -> PremiseAnswer;
 }
 
-/// How often macros are expanded, and whether the delivery profile's rules are tested.
+/// How often macros are expanded.
 #[derive(Clone, Copy)]
 pub enum Mode {
     Plain,
     Nested,
-    Delivery,
-    DeliveryNested,
 }
 
 pub fn elaborate(mode: Mode, book: &[u8], out: &mut [u8], work: &mut [u8]) -> Answer {
     let call = match mode {
         Mode::Plain => samulsto_elaborate,
         Mode::Nested => samulsto_elaborate_nested,
-        Mode::Delivery => samulsto_elaborate_delivery,
-        Mode::DeliveryNested => samulsto_elaborate_delivery_nested,
     };
     // SAFETY: each pointer is a slice's, with that slice's length; slices that are lent `&mut` overlap no other.
     unsafe {
@@ -97,11 +67,6 @@ pub fn elaborate(mode: Mode, book: &[u8], out: &mut [u8], work: &mut [u8]) -> An
             work.len(),
         )
     }
-}
-
-pub fn check(book: &[u8]) -> Checked {
-    // SAFETY: as above.
-    unsafe { samulsto_check(book.as_ptr(), book.len()) }
 }
 
 pub fn premise(book: &[u8], work: &mut [u8]) -> PremiseAnswer {

@@ -24,19 +24,13 @@ fn error_at(refusal: Refusal, at: usize) -> Error {
 
 /// Document 01's listing of an answer, for names that need no escape.
 fn listing(answer: Result<Elaborated, Error>) -> String {
-    listed(answer.map_err(|error| (error.refusal.code(), error.at)))
-}
-
-/// The same in the delivery profile.
-fn delivered(answer: Result<Elaborated, DeliveryError>) -> String {
-    listed(answer.map_err(|error| (error.refusal.code(), error.at)))
-}
-
-fn listed(answer: Result<Elaborated, (u8, Option<usize>)>) -> String {
     let result = match answer {
         Ok(result) => result,
-        Err((code, None)) => return format!("refused {code}\n"),
-        Err((code, Some(at))) => return format!("refused {code} at {at}\n"),
+        Err(Error { refusal, at: None }) => return format!("refused {}\n", refusal.code()),
+        Err(Error {
+            refusal,
+            at: Some(at),
+        }) => return format!("refused {} at {at}\n", refusal.code()),
     };
     let definitions = result.definitions();
     let mut text = format!("ok {} {}\n", definitions.len(), result.lifted());
@@ -118,73 +112,6 @@ fn where_one_pass_is_enough_both_modes_answer_the_same() {
     }
 }
 
-fn delivery_error(refusal: DeliveryRefusal) -> DeliveryError {
-    Error { refusal, at: None }
-}
-
-/// format `` = ``!()
-const CALL: [u8; 16] = [1, 0, 1, 0, 8, 0, 8, 0, 0, 0, 0, 16, 0, 0, 0, 0];
-/// format `` = nothing >>= nothing
-const CHAIN: [u8; 19] = [1, 0, 1, 0, 8, 0, 11, 0, 0, 0, 0, 13, 0, 0, 1, 13, 0, 0, 0];
-
-#[test]
-fn the_profile_turns_away_what_breaks_its_rules() {
-    for (book, refusal) in [
-        (&CALL[..], DeliveryRefusal::CallLeft),
-        (&CHAIN[..], DeliveryRefusal::ChainElsewhere),
-    ] {
-        assert_eq!(elaborate(book).unwrap().book(), book);
-        assert_eq!(elaborate_delivery(book), Err(delivery_error(refusal)));
-        assert_eq!(
-            elaborate_delivery_nested(book),
-            Err(delivery_error(refusal))
-        );
-        let (mut out, mut work) = ([9; 64], vec![7; WORK_BYTES]);
-        for call in [elaborate_delivery_into, elaborate_delivery_nested_into] {
-            work.fill(7);
-            assert_eq!(
-                call(book, &mut out, &mut work),
-                Err(delivery_error(refusal))
-            );
-            assert_eq!(out, [9; 64]);
-            assert!(work.iter().all(|byte| *byte == 0));
-        }
-    }
-}
-
-#[test]
-fn the_profile_refuses_other_books_as_without_it() {
-    assert_eq!(
-        elaborate_delivery(&[1, 0]),
-        Err(Error {
-            refusal: DeliveryRefusal::NotABook,
-            at: Some(2)
-        })
-    );
-    assert_eq!(
-        elaborate_delivery(&example("p04.book")),
-        Err(delivery_error(DeliveryRefusal::NoBinder))
-    );
-    assert_eq!(
-        elaborate_delivery_into(&[0, 0], &mut [0], &mut [0; WORK_BYTES]),
-        Err(delivery_error(DeliveryRefusal::OutTooShort))
-    );
-    assert_eq!(
-        elaborate_delivery_into(&[0, 0], &mut [0], &mut []),
-        Err(delivery_error(DeliveryRefusal::WorkTooShort))
-    );
-}
-
-#[test]
-fn the_nested_example_passes_the_profile_in_nested_mode_alone() {
-    let book = example("nested/packing-list.book");
-    assert_eq!(delivered(elaborate_delivery(&book)), "refused 13\n");
-    assert_eq!(
-        delivered(elaborate_delivery_nested(&book)),
-        listing(elaborate_nested(&book))
-    );
-}
-
 #[test]
 fn a_result_elaborates_to_itself() {
     let once = elaborate(&example("packing-list.book")).unwrap();
@@ -192,9 +119,6 @@ fn a_result_elaborates_to_itself() {
     assert_eq!((once.book(), twice.lifted()), (twice.book(), 0));
     let once = elaborate_nested(&example("nested/packing-list.book")).unwrap();
     let twice = elaborate_nested(once.book()).unwrap();
-    assert_eq!((once.book(), twice.lifted()), (twice.book(), 0));
-    let once = elaborate_delivery_nested(&example("nested/packing-list.book")).unwrap();
-    let twice = elaborate_delivery(once.book()).unwrap();
     assert_eq!((once.book(), twice.lifted()), (twice.book(), 0));
 }
 
@@ -233,24 +157,6 @@ fn the_premise_test_answers() {
     // format "" = "a", which is not defined
     let undefined = [1, 0, 1, 0, 8, 0, 9, 0, 0, 0, 0, 15, 1, b'a', 0, 0, 0];
     assert_eq!(premise(&undefined), Ok(false));
-    // format "" (n: "a") = Nothing: document 02 c
-    let typed = [
-        1, 0, 1, 0, 8, 0, 14, 0, 0, 1, 0, 1, b'n', 15, 1, b'a', 0, 0, 13, 0, 0, 0,
-    ];
-    assert_eq!(premise(&typed), Ok(false));
-}
-
-#[test]
-fn the_check_refuses_what_does_not_read() {
-    assert_eq!(check(&example("packing-list.book")), Ok(()));
-    assert_eq!(check(&[]), Err(error_at(Refusal::NotABook, 0)));
-    assert_eq!(check(&[0; 16_385]), Err(error(Refusal::BookTooLong)));
-    // a constant named "."
-    let dot = [1, 0, 2, 0, 8, 0, 4, 0, 1, b'.', 0, 0];
-    assert_eq!(check(&dot), Err(error_at(Refusal::BadName, 8)));
-    // what is refused only when macros are expanded or formats lifted passes
-    let undefined = [1, 0, 1, 0, 8, 0, 9, 0, 0, 0, 0, 15, 1, b'a', 0, 0, 0];
-    assert_eq!(check(&undefined), Ok(()));
 }
 
 #[test]
@@ -320,10 +226,5 @@ fn every_call_names_the_byte() {
         assert_eq!(elaborate(&book), Err(expected));
         assert_eq!(elaborate_nested(&book), Err(expected));
         assert_eq!(premise(&book), Err(expected));
-        for call in [elaborate_delivery, elaborate_delivery_nested] {
-            let got = call(&book).unwrap_err();
-            let refusal = got.refusal.without_the_profile();
-            assert_eq!((refusal, got.at), (Some(expected.refusal), expected.at));
-        }
     }
 }

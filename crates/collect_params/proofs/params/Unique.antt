@@ -26,9 +26,9 @@ less_of (x ∷ a) (y ∷ b) e f = ⊎_elim
     (yes_no (eqb y x))
 
 -- a member is the first, or behind it
-one_of_lem : (x y : Name) (b : List Name) → elem x (y ∷ b) ≡ true → (x ≡ y) ⊎ (elem x b ≡ true)
+one_of : (x y : Name) (b : List Name) → elem x (y ∷ b) ≡ true → (x ≡ y) ⊎ (elem x b ≡ true)
 unfolding elem
-one_of_lem x y b e = ⊎_elim
+one_of x y b e = ⊎_elim
     (λ (p : eq_name x y ≡ true). inl (eq_name-true x y p))
     (λ (p : eq_name x y ≡ false). inr (rw p at e))
     (yes_no (eq_name x y))
@@ -41,7 +41,7 @@ first_in x a = rw (eq_name_refl x)
 larger : (y x : Name) (b : List Name) → Ascending (y ∷ b) → elem x b ≡ true → Less y x
 unfolding elem
 larger y x [] h e = not_both false e refl
-larger y x (m ∷ b) h e = larger_of y x m b h.0 (one_of_lem x m b e) (λ f. larger m x b h.1 f)
+larger y x (m ∷ b) h e = larger_of y x m b h.0 (one_of x m b e) (λ f. larger m x b h.1 f)
   where
     larger_of : (y x m : Name) (b : List Name) → Less y m → (x ≡ m) ⊎ (elem x b ≡ true) → (elem x b ≡ true → Less m x) → Less y x
     larger_of y x m b p (inl e) f = rw e p
@@ -60,7 +60,7 @@ unique [] [] h k e = refl
 unique [] (y ∷ b) h k e = not_both false (e y ∙ first_in y b) refl
 unique (x ∷ a) [] h k e = not_both false (sym (e x) ∙ first_in x a) refl
 unique (x ∷ a) (y ∷ b) h k e =
-    let same : x ≡ y = heads x y a b h k (one_of_lem x y b (sym (e x) ∙ first_in x a)) (one_of_lem y x a (e y ∙ first_in y b)) in
+    let same : x ≡ y = heads x y a b h k (one_of x y b (sym (e x) ∙ first_in x a)) (one_of y x a (e y ∙ first_in y b)) in
     let rest : a ≡ b = unique a b (tail_of x a h) (tail_of y b k) (λ n. tails n x y a b same h k (e n)) in
     cc
   where

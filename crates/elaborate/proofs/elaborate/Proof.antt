@@ -1,13 +1,17 @@
--- `elaborate` meets its contract.
+-- `elaborate::elaborate` meets its contract.
 -- Assumes nothing.
-use mathlib.Core.Path.{◌∙◌}
-use Rattle.elaborate.proofs.Answering.{plain_answer, plain_output_of}
 use borrow.Author.Rules.{rules}
+use mathlib.Core.Path.{refl}
+use Rattle.elaborate.proofs.Answering.{answers_it, fills_it}
+use Rattle.buffer.proofs.zeroing.Zero.{all_zero}
 use Rattle.elaborate.proofs.elaborate.Statement.{statement}
 use Rattle.elaborate.proofs.elaborate.Tie as tie
 
-elaborate-in-requires : tie.Need-elaborate-in-requires
-elaborate-in-requires c κs = search rules
+attempt-requires : tie.Need-attempt-requires
+attempt-requires c κs = search rules
+
+zero-range-requires : tie.Need-zero-range-requires
+zero-range-requires c κs = search rules
 
 same_length : tie.Need-same-length
 same_length c = search rules
@@ -16,7 +20,8 @@ same-length-2 : tie.Need-same-length-2
 same-length-2 c = search rules
 
 returns : tie.Need-returns
-returns c = (c.before.before.before.before.elaborate-in.ensures.0 ∙ plain_answer _ _ _, (c.before.before.before.before.elaborate-in.ensures.1.0 ∙ plain_output_of _ _ _, c.before.before.before.before.elaborate-in.ensures.1.1))
+returns c = (answers_it _ _ c.before.before.before.before.before.before.before.before.attempt.ensures, (fills_it _ _ c.before.before.before.before.before.before.before.before.attempt.ensures, all_zero _ _ _ _ c.before.before.before.before.before.work.given refl c.before.before.zero-range.ensures))
 
 pub elaborate-spec : {M : Type 1} → statement M
-elaborate-spec = tie.close (tie.spec elaborate-in-requires same_length same-length-2 returns)
+elaborate-spec =
+    tie.close (tie.spec attempt-requires zero-range-requires same_length same-length-2 returns)

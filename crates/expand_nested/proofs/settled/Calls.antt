@@ -24,7 +24,7 @@ module _ (test : Name → Bool) where
   mutual
     unfolding every_macro_call pieces every
 
-    pub every_is : (c : Combinator) (ps : List Piece) → every (λ n. true) test (pieces c ps) ≡ every_macro_call c test && every (λ n. true) test ps
+    every_is : (c : Combinator) (ps : List Piece) → every (λ n. true) test (pieces c ps) ≡ every_macro_call c test && every (λ n. true) test ps
     every_is (plain i) ps = every_is_i i (raw (0 ∷ []) ∷ ps)
     every_is (chained i c) ps = every_is_i i (raw (1 ∷ []) ∷ pieces c ps) ∙ rw (every_is c ps) (sym (and_assoc (every_macro_call_i i test) (every_macro_call c test) (every (λ n. true) test ps)))
 

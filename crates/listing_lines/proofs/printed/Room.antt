@@ -7,7 +7,7 @@ use Prim.Native.Nat.{ℕ, zero, suc, ◌+◌, ◌*◌, ◌/◌, ◌%◌, ◌≤�
 use native.Mathlib.Omega.{arith}
 use lib.Dec.{leb, ltb, eqb}
 use lib.ListN.{length, length-append}
-use Rattle.definition.specs.Code.{Code, number, work_short, book_long, not_a_book, bad_name, too_deep_of, macro_growth, leftover_macro, no_binder, name_long, result_long, output_short, macro_left, call_left, chain_elsewhere}
+use Rattle.definition.specs.Code.{Code, number, work_short, book_long, not_a_book, bad_name, too_deep_of, macro_growth, leftover_macro, no_binder, name_long, result_long, output_short, macro_left}
 use Rattle.definition.specs.Out.{Out, done}
 use Rattle.definition.specs.Tree.{Name, Param, Definition, format, constant, byte_order, macro}
 use Rattle.definition.specs.Names.{digits, decimal}
@@ -91,7 +91,7 @@ result_room p r i =
     let e = length-append ((111 ∷ 107 ∷ []) ++ d) l in
     omega (arith, a, b, c, e, count_room (length (all r)), count_room (length r.lifted), lines-room w_format refl r.kept, lines-room w_lifted refl r.lifted, room-append r.kept r.lifted, size_book_lem (all r), i.short, i.few, length-append r.kept r.lifted)
 
-code_range : (k : Code) → (1 ≤ number k) × (number k ≤ 14)
+code_range : (k : Code) → (1 ≤ number k) × (number k ≤ 12)
 unfolding number
 code_range work_short = (omega arith, omega arith)
 code_range book_long = (omega arith, omega arith)
@@ -105,8 +105,6 @@ code_range name_long = (omega arith, omega arith)
 code_range result_long = (omega arith, omega arith)
 code_range output_short = (omega arith, omega arith)
 code_range macro_left = (omega arith, omega arith)
-code_range call_left = (omega arith, omega arith)
-code_range chain_elsewhere = (omega arith, omega arith)
 
 pub code_some : (k : Code) → 1 ≤ number k
 code_some k = (code_range k).0

@@ -1,13 +1,12 @@
 -- The test of a call, and of every call that is marked.
 -- Assumes nothing.
-use mathlib.Core.Path.{◌≡◌, refl, sym, ap, ◌∙◌}
+use mathlib.Core.Path.{◌≡◌, sym, ◌∙◌}
 use mathlib.Core.Logic.{⊎_elim}
 use mathlib.Core.List.{List, []}
-use mathlib.Core.Bool.{Bool, true, false, ◌&&◌}
+use mathlib.Core.Bool.{true}
 use Prim.Native.Nat.{ℕ, ◌≤◌, ◌<◌}
 use native.Mathlib.Omega.{arith}
 use lib.Dec.{ltb}
-use lib.ListN.{take}
 use borrow.Author.Tests.{eq-eqb, ne_eqb, lt-ltb, le-ltb}
 use Rattle.definition.specs.Tree.{Name, Inners, invocation, macro_invocation}
 use Rattle.definition.specs.Names.{elem}
@@ -22,13 +21,7 @@ use Rattle.name_table.specs.taken.Taken.{both}
 use Rattle.name_table.specs.find.Found.{Found}
 use Rattle.name_table.proofs.find.Rows.{found_not, found_is}
 use Rattle.name_table.specs.kinds.Rows.{row_names}
-use Rattle.walker.specs.declared.walk.Walk.{Walk}
-use Rattle.walker.specs.pieces.Marked.{every_place}
-use Rattle.premise.specs.called.Known.{known_at, passed_at}
-
--- two tests
-pub and_of : {a b x y : Bool} → a ≡ x → b ≡ y → a && b ≡ x && y
-and_of e f = rw (e, f)
+use Rattle.premise.specs.called.Known.{known_at}
 
 -- a call
 module _ (s places : List ℕ) (n at tag : ℕ) (et : tag ≡ byte_at s at) where
@@ -46,16 +39,6 @@ module _ (s places : List ℕ) (n at tag : ℕ) (et : tag ≡ byte_at s at) wher
         (λ (k : n ≤ r). rw (le-ltb r n k, is_elem) (sym (found_not name (both s []) places f (omega (arith, f.bound)))))
         (λ (k : r < n). rw (lt-ltb r n k, is_elem) (sym (found_is name (both s []) places f k)))
         (within n r)
-
--- what a walk went over
-module _ (s places : List ℕ) (n : ℕ) (w : Walk) (marks : List ℕ) where
-  pub passed_calls : w.plain ≡ true → {ms : List ℕ} → ms ≡ take w.n marks → {r : Bool} → r ≡ every_place (known_at s places n) ms → r ≡ passed_at s places n w marks
-  unfolding passed_at
-  passed_calls t em er = er ∙ ap (every_place (known_at s places n)) em ∙ sym (and_of t refl)
-
-  pub failed_chains : w.plain ≡ false → false ≡ passed_at s places n w marks
-  unfolding passed_at
-  failed_chains t = sym (and_of t refl)
 
 -- what the test says of the trees
 module _ (s places : List ℕ) (n : ℕ) where

@@ -7,10 +7,9 @@ use Prim.Native.Nat.{ℕ}
 use lib.Dec.{leb}
 use lib.ListN.{take}
 use Rattle.definition.specs.Code.{work_short}
-use Rattle.definition.specs.Tree.{Definition}
 use Rattle.definition.specs.Out.{done, ◌>>=◌, given}
 use Rattle.definition.specs.Answer.{expanded, fault_at}
-use Rattle.definition.specs.Premise.{calls_known, chains_plain, types_known, types_plain, tested}
+use Rattle.definition.specs.Premise.{calls_known, chains_plain, tested}
 use Rattle.premise.specs.holds.Holds.{Holds as Passes}
 use Rattle.open_book.specs.declared.opened.Opened.TheVariants.{Book, Refused as Stopped}
 use Rattle.what_comes_back.specs.declared.Tested.TheVariants.{Holds, Fails, Refused}
@@ -18,15 +17,12 @@ use Rattle.open_book.specs.begin.Begins.{opened}
 use Rattle.open_book.specs.opened.Opens.{Opens}
 use Rattle.what_comes_back.specs.Tells.{tested_as}
 
-abbrev yes : List Definition → Bool
-yes ds = (calls_known ds && chains_plain ds) && (types_known ds && types_plain ds)
-
 -- the test, of the expanded list
-tested_is : (b : List ℕ) (n : ℕ) → tested b n ≡ (opened b n >>= λ ds. done (yes ds))
+tested_is : (b : List ℕ) (n : ℕ) → tested b n ≡ (opened b n >>= λ ds. done (calls_known ds && chains_plain ds))
 unfolding tested opened
 tested_is b n = both (leb 65536 n)
   where
-    both : (t : Bool) → (given t work_short b >>= λ c. expanded c >>= λ ds. done (yes ds)) ≡ ((given t work_short b >>= λ c. expanded c) >>= λ ds. done (yes ds))
+    both : (t : Bool) → (given t work_short b >>= λ c. expanded c >>= λ ds. done (calls_known ds && chains_plain ds)) ≡ ((given t work_short b >>= λ c. expanded c) >>= λ ds. done (calls_known ds && chains_plain ds))
     both true = refl
     both false = refl
 

@@ -30,12 +30,12 @@ deep_again : {A B C : Type 0} (m : Res (List ℕ) A) (l : List ℕ) (g : B × Li
 deep_again (bad k z) l g = refl
 deep_again (ok a z) l g = refl
 
-pub arg_level : (k : ℕ) (l : List ℕ) → (k ≡ 0 → ⊥) → arg k l ≡ (one_of tags l >>= λ y. items_at (k - 1) y.0 y.1)
+arg_level : (k : ℕ) (l : List ℕ) → (k ≡ 0 → ⊥) → arg k l ≡ (one_of tags l >>= λ y. items_at (k - 1) y.0 y.1)
 unfolding arg level
 arg_level zero l f = absurd (f refl)
 arg_level (suc k) l f = rw sub-one
 
-pub comb_level : (k : ℕ) (l : List ℕ) → combinator k l ≡ (arg k l >>= λ y. chain (λ s. combinator (k - 1) s) y.0 y.1)
+comb_level : (k : ℕ) (l : List ℕ) → combinator k l ≡ (arg k l >>= λ y. chain (λ s. combinator (k - 1) s) y.0 y.1)
 unfolding combinator arg too_deep
 comb_level zero l = deep_again (one_of tags l) l _
 comb_level (suc k) l = rw sub-one

@@ -1,4 +1,4 @@
--- The definitions, one after the other.
+-- The bodies of formats, one after the other.
 -- Assumes nothing.
 use mathlib.Core.Path.{◌≡◌, refl, sym, ap, ◌∙◌}
 use mathlib.Core.List.{List, [], ◌∷◌}
@@ -6,10 +6,10 @@ use mathlib.Core.Bool.{Bool, true, false, ◌&&◌, and-true}
 use Prim.Native.Nat.{ℕ, ◌+◌, ◌≤◌, ◌<◌}
 use native.Mathlib.Omega.{arith}
 use lib.ListN.{length, take}
-use Rattle.definition.specs.Tree.{Name, Combinator, Inner, Param, Definition, format, constant, byte_order, macro}
+use Rattle.definition.specs.Tree.{Name, Combinator, Param, Definition, format, constant, byte_order, macro}
 use Rattle.definition.specs.Write.{w_combinator, w_definition, kind_of, kind_byte}
 use Rattle.definition.specs.Size.{size_book, levels, levels_p, levels_book}
-use Rattle.definition.specs.Bodies.{chains_ok, every_body, every_param, every_type}
+use Rattle.definition.specs.Bodies.{chains_ok, every_body}
 use Rattle.layout.specs.items.At.{byte_at, name_past_of}
 use Rattle.layout.specs.items.Here.{Here}
 use Rattle.layout.proofs.items.Here.{name_here}
@@ -25,7 +25,7 @@ use Rattle.walker.specs.declared.definitions.Definitions.{Definitions}
 use Rattle.walker.specs.definitions.Listed.{all_of, next_of, Left}
 use Rattle.walker.specs.definitions.Params.{ParamsPast}
 use Rattle.walker.proofs.definitions.Listed.{listed_kind, listed_body, listed_deep, all_left, next_left, no_more, some_more}
-use Rattle.walker.specs.bodies.Tested.{OneByOne, FormatTested, OneTested, RestTested, AllTested, DefinitionTested, BodiesLeft, BodiesTested}
+use Rattle.walker.specs.bodies.Tested.{FormatTested, DefinitionTested, BodiesLeft, BodiesTested}
 
 -- a format: the walk over its body leaves the marks of its calls
 module _ {s : List ℕ} (at : ℕ) {params body : ℕ} (e : params ≡ name_past_of s at) (p : ParamsPast s params body) (m₁ m₂ : List ℕ) (w : Walk)
@@ -70,69 +70,41 @@ module _ {s : List ℕ} {kind at : ℕ} {test : Combinator → Bool} {row : ℕ}
       one (byte_order x) e = refl
       one (macro m ps c) e = refl
 
--- tests that ask each definition by itself
-pub each_body : (test : Combinator → Bool) → OneByOne (every_body test)
-unfolding every_body
-each_body test = record { none = refl; more = λ d ds. more d ds }
-  where
-    more : (d : Definition) (ds : List Definition) → every_body test (d ∷ ds) ≡ every_body test (d ∷ []) && every_body test ds
-    more (format n ps c) ds = rw (and-true (test c))
-    more (constant n x) ds = refl
-    more (byte_order x) ds = refl
-    more (macro n ps c) ds = refl
-
-pub each_type : (test : Inner → Bool) → OneByOne (every_type test)
-unfolding every_type
-each_type test = record { none = refl; more = λ d ds. more d ds }
-  where
-    more : (d : Definition) (ds : List Definition) → every_type test (d ∷ ds) ≡ every_type test (d ∷ []) && every_type test ds
-    more (format n ps c) ds = rw (and-true (every_param test ps))
-    more (constant n x) ds = refl
-    more (byte_order x) ds = refl
-    more (macro n ps c) ds = refl
-
 -- the definitions that are left
-module _ {s : List ℕ} {f : List Definition → Bool} (each : OneByOne f) {row : ℕ} {d : Definitions} where
-  pub rest_none : d.left ≤ 0 → RestTested s f row d true
-  rest_none h = record { says = λ l k ds w. none ds w }
-    where
-      none : (ds : List Definition) → Left s d ds → true ≡ f ds
-      none [] w = sym each.none
-      none (x ∷ ds) w = absurd (no_more h w)
+every_step : (f : Combinator → Bool) (d : Definition) (ds : List Definition) → every_body f (d ∷ ds) ≡ every_body f (d ∷ []) && every_body f ds
+unfolding every_body
+every_step f (format n ps c) ds = rw (and-true (f c))
+every_step f (constant n x) ds = refl
+every_step f (byte_order x) ds = refl
+every_step f (macro n ps c) ds = refl
 
-  module _ (k : 0 < d.left) {kind : ℕ} (hk : kind ≡ byte_at s d.entry) {long : ℕ} (hl : long ≡ row) {b : Bool} (v : OneTested s kind d.at f long b) where
-    first : length s ≤ 16384 → row ≡ 8192 → (x : Definition) (ds : List Definition) → Left s d (x ∷ ds) → b ≡ f (x ∷ [])
-    first l q x ds w = let y = w.listed in v.says l (hl ∙ q) x _ (listed_body y) (hk ∙ listed_kind y) (listed_deep y)
-
-    pub rest_out : b ≡ false → RestTested s f row d false
-    rest_out t = record { says = λ l q ds w. out l q ds w }
-      where
-        out : length s ≤ 16384 → row ≡ 8192 → (ds : List Definition) → Left s d ds → false ≡ f ds
-        out l q [] w = absurd (some_more k w)
-        out l q (x ∷ ds) w = rw (each.more x ds, sym (first l q x ds w), t)
-
-    pub rest_step : b ≡ true → {e : Definitions} → e ≡ next_of s d → {r : Bool} → RestTested s f row e r → RestTested s f row d r
-    rest_step t he {r} next = record { says = λ l q ds w. step l q ds w }
-      where
-        step : length s ≤ 16384 → row ≡ 8192 → (ds : List Definition) → Left s d ds → r ≡ f ds
-        step l q [] w = absurd (some_more k w)
-        step l q (x ∷ ds) w = next.says l q ds (next_left he w) ∙ rw (each.more x ds, sym (first l q x ds w), t)
-
-pub all_tested : {s : List ℕ} {f : List Definition → Bool} {row : ℕ} {d : Definitions} {r : Bool} → d ≡ all_of s → RestTested s f row d r → AllTested s f row r
-unfolding size_book
-all_tested h v = record { says = λ ds e b k. v.says (omega (arith, ap length e, b.short)) k ds (all_left h ds e b) }
-
--- the same of bodies alone
 module _ {s : List ℕ} {test : Combinator → Bool} {row : ℕ} {d : Definitions} where
   pub left_none : d.left ≤ 0 → BodiesLeft s test row d true
-  left_none h = record { says = (rest_none (each_body test) h).says }
+  unfolding every_body
+  left_none h = record { says = λ l k ds w. none ds w }
+    where
+      none : (ds : List Definition) → Left s d ds → true ≡ every_body test ds
+      none [] w = refl
+      none (x ∷ ds) w = absurd (no_more h w)
 
   module _ (k : 0 < d.left) {kind : ℕ} (hk : kind ≡ byte_at s d.entry) {long : ℕ} (hl : long ≡ row) {b : Bool} (v : DefinitionTested s kind d.at test long b) where
+    first : length s ≤ 16384 → row ≡ 8192 → (x : Definition) (ds : List Definition) → Left s d (x ∷ ds) → b ≡ every_body test (x ∷ [])
+    first l q x ds w = let y = w.listed in v.says l (hl ∙ q) x _ (listed_body y) (hk ∙ listed_kind y) (listed_deep y)
+
     pub left_out : b ≡ false → BodiesLeft s test row d false
-    left_out t = record { says = (rest_out (each_body test) k hk hl (record { says = v.says }) t).says }
+    left_out t = record { says = λ l q ds w. out l q ds w }
+      where
+        out : length s ≤ 16384 → row ≡ 8192 → (ds : List Definition) → Left s d ds → false ≡ every_body test ds
+        out l q [] w = absurd (some_more k w)
+        out l q (x ∷ ds) w = rw (every_step test x ds, sym (first l q x ds w), t)
 
     pub left_step : b ≡ true → {e : Definitions} → e ≡ next_of s d → {r : Bool} → BodiesLeft s test row e r → BodiesLeft s test row d r
-    left_step t he next = record { says = (rest_step (each_body test) k hk hl (record { says = v.says }) t he (record { says = next.says })).says }
+    left_step t he {r} next = record { says = λ l q ds w. step l q ds w }
+      where
+        step : length s ≤ 16384 → row ≡ 8192 → (ds : List Definition) → Left s d ds → r ≡ every_body test ds
+        step l q [] w = absurd (some_more k w)
+        step l q (x ∷ ds) w = next.says l q ds (next_left he w) ∙ rw (every_step test x ds, sym (first l q x ds w), t)
 
 pub bodies_tested : {s : List ℕ} {test : Combinator → Bool} {row : ℕ} {d : Definitions} {r : Bool} → d ≡ all_of s → BodiesLeft s test row d r → BodiesTested s test row r
-bodies_tested {test = test} h v = record { says = (all_tested {f = every_body test} h (record { says = v.says })).says }
+unfolding size_book
+bodies_tested h v = record { says = λ ds e b k. v.says (omega (arith, ap length e, b.short)) k ds (all_left h ds e b) }

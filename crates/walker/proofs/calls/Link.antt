@@ -16,7 +16,6 @@ use Rattle.layout.specs.items.At.{byte_at, past_at, name_past_of, text_past_of, 
 use Rattle.layout.specs.items.Here.{Here}
 use Rattle.layout.proofs.items.Here.{place, next_here, number_past, name_here, text_here, list_here, len_here, selector_here, label_here}
 use Rattle.layout.proofs.items.Stands.{stands}
-use Rattle.buffer.specs.writes.Buf.{Wrote}
 use Rattle.buffer.proofs.writes.Put.{put_past}
 use Rattle.buffer.proofs.writes.Wrote.{place_is, place_fits}
 use Rattle.walker.specs.declared.walk.Walk.{Walk}
@@ -24,7 +23,7 @@ use Rattle.walker.specs.marks.Steps.{State, call_at}
 use Rattle.walker.specs.walk.Steps.{walk, moved, entered, silent, back}
 use Rattle.walker.specs.calls.Walk.{times, field_at, case_by, case_at, wrap_by, array_by, macro_by, combinator_at, argument_at, inner_at, skip_at}
 use Rattle.walker.specs.pieces.Pieces.{Piece, call, macro_call, pieces, pieces_i, pieces_f, pieces_c, places}
-use Rattle.walker.specs.calls.Walked.{Walked, WalkedI, Gone, Skipped}
+use Rattle.walker.specs.calls.Walked.{Walked, Gone, Skipped}
 use Rattle.laws.proofs.Splits.{s_name, s_text, s_len, s_selector, s_label, s_comb, s_inner}
 use Rattle.walker.proofs.calls.Steps.{many_is, field_is, const_is, choice_is, inner_4, inner_5, inner_7, inner_8, inner_9, inner_10, inner_12, inner_15, inner_16, inner_leaf, chained_is, tail_plain, tail_chain, combinator_suc, argument_suc, times_zero, times-suc}
 use Rattle.walker.proofs.calls.Over.{deepest, Over, stay, skip, enter, shut, up, chain, then, mark}
@@ -259,17 +258,7 @@ module _ (s : List ℕ) (short : length s ≤ 65535) where
       let g = gone c k h w m z e (omega arith) in
       record { place = g.place; rest = g.rest; deep = g.deep; chains = g.chains; count = place_fits g.wrote room; marks = g.wrote.holds }
 
-  -- an inner
-  pub walked_i : (i : Inner) (k : ℕ) → levels_i i ≤ k → (w : Walk) (m z : List ℕ) → Here s w.at (w_inner i z) → w.n + length (places w.at (pieces_i i [])) ≤ length m
-      → WalkedI s i z w m (inner_at k s w m).0 (inner_at k s w m).1
-  unfolding places
-  walked_i i k h w m z e room =
-      let o = over_i i k h w m z e in
-      let f : places w.at (pieces_i i []) ≡ o.found = o.splits [] ∙ append-nil o.found in
-      let t : Wrote m w.n (places w.at (pieces_i i [])) (inner_at k s w m).1 (inner_at k s w m).0.n = rw f (o.marks (omega arith)) in
-      record { rest = o.rest; chains = o.plain; count = place_fits t room; marks = t.holds }
-
-  -- and with nothing recorded
+  -- an inner with nothing recorded
   pub skipped : (i : Inner) (k : ℕ) → levels_i i ≤ k → (w : Walk) (m z : List ℕ) → Here s w.at (w_inner i z) → Skipped s i k z w m (skip_at k s w m).0 (skip_at k s w m).1
   unfolding skip_at
   skipped i k h w m z e =

@@ -7,16 +7,16 @@ use Prim.Native.Nat.{ℕ, ◌+◌, ◌-◌}
 use native.Mathlib.Omega.{arith}
 use lib.ListN.{length, take}
 use lib.Seq.{take_at}
-use Rattle.definition.specs.Tree.{Name, Combinator, Inner, invocation, macro_invocation, Inners}
+use Rattle.definition.specs.Tree.{Name, Combinator, invocation, macro_invocation, Inners}
 use Rattle.definition.specs.Write.{w_combinator, w_inner}
-use Rattle.definition.specs.Bodies.{every_invocation, every_invocation_i}
+use Rattle.definition.specs.Bodies.{every_invocation}
 use Rattle.layout.specs.items.Here.{Here}
 use Rattle.layout.proofs.items.Here.{behind}
 use Rattle.buffer.specs.writes.Buf.{part}
-use Rattle.walker.specs.pieces.Pieces.{Piece, raw, call, macro_call, pieces, pieces_i, places, written, every}
+use Rattle.walker.specs.pieces.Pieces.{Piece, raw, call, macro_call, pieces, places, written, every}
 use Rattle.walker.specs.pieces.Marked.{every_place}
 use Rattle.laws.proofs.Splits.{s_inner}
-use Rattle.walker.proofs.pieces.Written.{written_is, written_is_i, every_is, every_is_i}
+use Rattle.walker.proofs.pieces.Written.{written_is, every_is}
 
 -- bytes that stand somewhere are that part
 pub part_here : {s : List ℕ} {p : ℕ} (b z : List ℕ) → Here s p (b ++ z) → part p (p + length b) s ≡ b
@@ -43,10 +43,6 @@ pieces_here : {s : List ℕ} {p : ℕ} (c : Combinator) (z : List ℕ) → Here 
 unfolding written
 pieces_here c z e = rw (written_is c [] z) e
 
-pieces_here_i : {s : List ℕ} {p : ℕ} (i : Inner) (z : List ℕ) → Here s p (w_inner i z) → Here s p (written invocation (pieces_i i []) z)
-unfolding written
-pieces_here_i i z e = rw (written_is_i i [] z) e
-
 module _ (s : List ℕ) (at : ℕ → Bool) (test : Name → Bool)
     (calls : (a : ℕ) (n : Name) (xs : List Name) (z : List ℕ) → Here s a (w_inner (invocation n xs) z) → at a ≡ test n)
     (macros : (a : ℕ) (n : Name) (xs : Inners) (z : List ℕ) → Here s a (w_inner (macro_invocation n xs) z) → at a ≡ true) where
@@ -54,8 +50,3 @@ module _ (s : List ℕ) (at : ℕ → Bool) (test : Name → Bool)
   pub every_by : (c : Combinator) (p : ℕ) (z : List ℕ) → Here s p (w_combinator c z) → every_place at (places p (pieces c [])) ≡ every_invocation c test
   unfolding every
   every_by c p z e = every_place_lem s at test (λ n. true) calls macros (pieces c []) p z (pieces_here c z e) ∙ every_is test c [] ∙ and-true (every_invocation c test)
-
-  -- and "every Invocation in a parameter type"
-  pub every_by_i : (i : Inner) (p : ℕ) (z : List ℕ) → Here s p (w_inner i z) → every_place at (places p (pieces_i i [])) ≡ every_invocation_i i test
-  unfolding every
-  every_by_i i p z e = every_place_lem s at test (λ n. true) calls macros (pieces_i i []) p z (pieces_here_i i z e) ∙ every_is_i test i [] ∙ and-true (every_invocation_i i test)

@@ -10,16 +10,13 @@ use Rattle.definition.specs.Write.{w_u16, w_name, w_list, w_inner, w_combinator}
 use Rattle.definition.specs.Size.{size}
 use Rattle.layout.specs.items.Here.{Here}
 use Rattle.layout.proofs.items.Here.{here_length}
-use Rattle.walker.specs.pieces.Pieces.{Piece, raw, call, macro_call, pieces, pieces_i, places, written}
+use Rattle.walker.specs.pieces.Pieces.{Piece, raw, call, macro_call, pieces, places, written}
 use Rattle.laws.proofs.Splits.{s_comb, s_inner}
-use Rattle.walker.proofs.pieces.Written.{written_is, written_is_i}
+use Rattle.walker.proofs.pieces.Written.{written_is}
 
 pub size_here : {s : List ℕ} {p : ℕ} (c : Combinator) (z : List ℕ) → Here s p (w_combinator c z) → p + size c ≤ length s
 unfolding size
 size_here {s} {p} c z h = omega (arith, simp length-append at (here_length (rw (s_comb c [] z) at h)))
-
-pub inner_here : {s : List ℕ} {p : ℕ} (i : Inner) (z : List ℕ) → Here s p (w_inner i z) → p + length (w_inner i []) ≤ length s
-inner_here {s} {p} i z h = omega (arith, simp length-append at (here_length (rw (s_inner i [] z) at h)))
 
 -- a tag, a name's length and a count
 call_long : (n : Name) (a : List Name) → 4 ≤ length (w_inner (invocation n a) [])
@@ -43,7 +40,3 @@ room (macro_call n a ∷ ps) p = omega (arith, room ps (p + length (w_inner (mac
 pub room_enough : (c : Combinator) (p : ℕ) → 2 * length (places p (pieces c [])) ≤ size c
 unfolding size written
 room_enough c p = omega (arith, room (pieces c []) p, ap length (written_is c [] []))
-
-pub room_enough_i : (i : Inner) (p : ℕ) → 2 * length (places p (pieces_i i [])) ≤ length (w_inner i [])
-unfolding written
-room_enough_i i p = omega (arith, room (pieces_i i []) p, ap length (written_is_i i [] []))

@@ -85,14 +85,9 @@ fn odd_name(place: usize) -> Book {
 pub fn copy(rng: &mut Rng) -> Vec<u8> {
     let size = *rng.pick(&[Size::Small, Size::Small, Size::Medium]);
     let source = plain::book(rng, size);
-    copy_of(rng, &source)
-}
-
-/// The same of a given book, which has a definition.
-pub fn copy_of(rng: &mut Rng, source: &Book) -> Vec<u8> {
-    let mut bytes = written(source);
+    let mut bytes = written(&source);
     match rng.below(10) {
-        0..=5 => resealed(rng, source),
+        0..=5 => resealed(rng, &source),
         6 => {
             let at = rng.below(2 + 6 * source.definitions.len());
             bytes[at] = bytes[at].wrapping_add(*rng.pick(&[1, 255, 128, 3]));

@@ -5,9 +5,9 @@ use super::plain::{self, Size};
 use super::rng::Rng;
 use crate::answer::{answer, Answer};
 use crate::build::*;
+use crate::expand::Mode;
 use crate::limits::{BOOK_BYTES, DEFINITIONS, LEVELS, NAME_BYTES};
 use crate::measure::name_bytes;
-use crate::mode::Mode;
 use crate::tree::{Book, Combinator, Definition, Inner};
 use crate::write::write;
 
@@ -132,7 +132,7 @@ pub fn result_bytes(rng: &mut Rng) -> Vec<u8> {
 /// Pads a book so that its result has `target` bytes. Padding in a constant is
 /// neither walked nor copied, so the result grows by what the book grows.
 pub fn with_result_of(source: Book, target: usize) -> Vec<u8> {
-    match answer(&written(&source), Mode::PLAIN) {
+    match answer(&written(&source), Mode::Plain) {
         Ok(Answer::Done(done)) => padded(source, done.book.len(), target),
         _ => written(&source),
     }

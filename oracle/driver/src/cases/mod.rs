@@ -1,7 +1,6 @@
 //! Seeded cases for the judge and the judged.
 
 mod damage;
-mod delivery;
 mod edge;
 mod exact;
 mod growth;
@@ -16,16 +15,13 @@ mod scope;
 pub mod short;
 pub mod sweep;
 mod tables;
-mod typed;
 
 pub use damage::seal;
-pub use delivery::{delivery_case, DeliveryKind, DELIVERY_KINDS};
 pub use exact::both_sides;
 pub use nested::{nested_case, nested_sides, NestedKind, NESTED_KINDS};
 pub use place::{along, STEPS, TAGS};
 pub use rng::Rng;
 pub use tables::around_tables;
-pub use typed::{typed_case, TypedKind, TYPED_KINDS};
 
 use plain::Size;
 

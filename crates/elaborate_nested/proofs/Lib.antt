@@ -1,0 +1,2 @@
+mod Source
+mod Nesting
