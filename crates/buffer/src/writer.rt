@@ -18,7 +18,8 @@ pub struct Writer<'a> {
 
 // One byte.
 fn put_byte<'a>(w: Writer<'a>, x: u8) -> Writer<'a>
-    ensures { result ≡ written w.entry (x ∷ []) }
+    ensures same_reference { result.buf.ghost_name ≡ w.entry.buf.ghost_name }
+    ensures value { result ≡ written w.entry (x ∷ []) }
 {
     let at = w.at;
     let next = crate::writes::put_byte(x, &mut *w.buf, at);
@@ -30,7 +31,8 @@ fn put_byte<'a>(w: Writer<'a>, x: u8) -> Writer<'a>
 
 // A number in two bytes, the lower first.
 fn put_u16<'a>(w: Writer<'a>, n: u16) -> Writer<'a>
-    ensures { result ≡ written w.entry (w_u16 n []) }
+    ensures same_reference { result.buf.ghost_name ≡ w.entry.buf.ghost_name }
+    ensures value { result ≡ written w.entry (w_u16 n []) }
 {
     let at = w.at;
     let next = crate::writes::put_u16(n, &mut *w.buf, at);

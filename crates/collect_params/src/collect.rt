@@ -6,14 +6,14 @@ use crate::roots::{call, roots, selector};
 use crate::scope::{Walk, bind, counted, moved, unbound};
 use layout::items::{byte, label_past, name_past, number, past, stands_on, text_past};
 
-#[derive(Drop)]
+#[derive(Clone, Copy)]
 pub(crate) enum Collected {
     Uses(usize),
     Leftover,
 }
 
 // A combinator, with so many levels left, its own included.
-#[cycle(argument_arguments_array_case_cases_chain_choice_collect_params_with_bound_field_fields_inner_macro_call_wrap)]
+#[cycle(collect)]
 fn collect_params_with_bound(
     s: &[u8],
     w: Walk,
@@ -41,7 +41,7 @@ fn collect_params_with_bound(
 
 // A chain on an inner with this tag. Where it is not collected it is gone over all the same, to find its end: a count past the table's end
 // takes no use.
-#[cycle(argument_arguments_array_case_cases_chain_choice_collect_params_with_bound_field_fields_inner_macro_call_wrap)]
+#[cycle(collect)]
 fn chain(s: &[u8], w: Walk, tag: u8, levels: usize, bound: &mut [u32], uses: &mut [u32]) -> Walk
     ensures { (result ≡ (chain_at levels s.now tag w bound.old uses.old).0) × (bound.new ≡ (chain_at levels s.now tag w bound.old uses.old).1) × (uses.new ≡ (chain_at levels s.now tag w bound.old uses.old).2) }
 {
@@ -57,7 +57,7 @@ fn chain(s: &[u8], w: Walk, tag: u8, levels: usize, bound: &mut [u32], uses: &mu
 }
 
 // An inner, with so many levels left below it.
-#[cycle(argument_arguments_array_case_cases_chain_choice_collect_params_with_bound_field_fields_inner_macro_call_wrap)]
+#[cycle(collect)]
 fn inner(s: &[u8], w: Walk, levels: usize, bound: &mut [u32], uses: &mut [u32]) -> Walk
     ensures { (result ≡ (inner_at levels s.now w bound.old uses.old).0) × (bound.new ≡ (inner_at levels s.now w bound.old uses.old).1) × (uses.new ≡ (inner_at levels s.now w bound.old uses.old).2) }
 {
@@ -83,7 +83,7 @@ fn inner(s: &[u8], w: Walk, levels: usize, bound: &mut [u32], uses: &mut [u32]) 
 }
 
 // A count, and as many fields. A struct's labels are bound no longer behind it.
-#[cycle(argument_arguments_array_case_cases_chain_choice_collect_params_with_bound_field_fields_inner_macro_call_wrap)]
+#[cycle(collect)]
 fn fields(s: &[u8], w: Walk, levels: usize, bound: &mut [u32], uses: &mut [u32]) -> Walk
     ensures { (result ≡ (fields_at levels s.now w bound.old uses.old).0) × (bound.new ≡ (fields_at levels s.now w bound.old uses.old).1) × (uses.new ≡ (fields_at levels s.now w bound.old uses.old).2) }
 {
@@ -99,7 +99,7 @@ fn fields(s: &[u8], w: Walk, levels: usize, bound: &mut [u32], uses: &mut [u32])
     unbound(w, here)
 }
 
-#[cycle(argument_arguments_array_case_cases_chain_choice_collect_params_with_bound_field_fields_inner_macro_call_wrap)]
+#[cycle(collect)]
 fn field(s: &[u8], w: Walk, levels: usize, bound: &mut [u32], uses: &mut [u32]) -> Walk
     ensures { (result ≡ (field_at levels s.now w bound.old uses.old).0) × (bound.new ≡ (field_at levels s.now w bound.old uses.old).1) × (uses.new ≡ (field_at levels s.now w bound.old uses.old).2) }
 {
@@ -119,7 +119,7 @@ fn field(s: &[u8], w: Walk, levels: usize, bound: &mut [u32], uses: &mut [u32]) 
     u
 }
 
-#[cycle(argument_arguments_array_case_cases_chain_choice_collect_params_with_bound_field_fields_inner_macro_call_wrap)]
+#[cycle(collect)]
 fn wrap(s: &[u8], w: Walk, levels: usize, bound: &mut [u32], uses: &mut [u32]) -> Walk
     ensures { (result ≡ (wrap_at levels s.now w bound.old uses.old).0) × (bound.new ≡ (wrap_at levels s.now w bound.old uses.old).1) × (uses.new ≡ (wrap_at levels s.now w bound.old uses.old).2) }
 {
@@ -132,7 +132,7 @@ fn wrap(s: &[u8], w: Walk, levels: usize, bound: &mut [u32], uses: &mut [u32]) -
     moved(u, e)
 }
 
-#[cycle(argument_arguments_array_case_cases_chain_choice_collect_params_with_bound_field_fields_inner_macro_call_wrap)]
+#[cycle(collect)]
 fn choice(s: &[u8], w: Walk, levels: usize, bound: &mut [u32], uses: &mut [u32]) -> Walk
     ensures { (result ≡ (choice_at levels s.now w bound.old uses.old).0) × (bound.new ≡ (choice_at levels s.now w bound.old uses.old).1) × (uses.new ≡ (choice_at levels s.now w bound.old uses.old).2) }
 {
@@ -145,7 +145,7 @@ fn choice(s: &[u8], w: Walk, levels: usize, bound: &mut [u32], uses: &mut [u32])
 }
 
 // A count, and as many cases.
-#[cycle(argument_arguments_array_case_cases_chain_choice_collect_params_with_bound_field_fields_inner_macro_call_wrap)]
+#[cycle(collect)]
 fn cases(s: &[u8], w: Walk, kind: u8, levels: usize, bound: &mut [u32], uses: &mut [u32]) -> Walk
     ensures { (result ≡ (cases_at levels s.now kind w bound.old uses.old).0) × (bound.new ≡ (cases_at levels s.now kind w bound.old uses.old).1) × (uses.new ≡ (cases_at levels s.now kind w bound.old uses.old).2) }
 {
@@ -161,7 +161,7 @@ fn cases(s: &[u8], w: Walk, kind: u8, levels: usize, bound: &mut [u32], uses: &m
     here
 }
 
-#[cycle(argument_arguments_array_case_cases_chain_choice_collect_params_with_bound_field_fields_inner_macro_call_wrap)]
+#[cycle(collect)]
 fn case(s: &[u8], w: Walk, kind: u8, levels: usize, bound: &mut [u32], uses: &mut [u32]) -> Walk
     ensures { (result ≡ (case_at levels s.now kind w bound.old uses.old).0) × (bound.new ≡ (case_at levels s.now kind w bound.old uses.old).1) × (uses.new ≡ (case_at levels s.now kind w bound.old uses.old).2) }
 {
@@ -171,7 +171,7 @@ fn case(s: &[u8], w: Walk, kind: u8, levels: usize, bound: &mut [u32], uses: &mu
     collect_params_with_bound(s, v, levels, bound, uses)
 }
 
-#[cycle(argument_arguments_array_case_cases_chain_choice_collect_params_with_bound_field_fields_inner_macro_call_wrap)]
+#[cycle(collect)]
 fn array(s: &[u8], w: Walk, levels: usize, bound: &mut [u32], uses: &mut [u32]) -> Walk
     ensures { (result ≡ (array_at levels s.now w bound.old uses.old).0) × (bound.new ≡ (array_at levels s.now w bound.old uses.old).1) × (uses.new ≡ (array_at levels s.now w bound.old uses.old).2) }
 {
@@ -180,7 +180,7 @@ fn array(s: &[u8], w: Walk, levels: usize, bound: &mut [u32], uses: &mut [u32]) 
 }
 
 // A MacroInvocation behind its tag. Its arguments hold no use.
-#[cycle(argument_arguments_array_case_cases_chain_choice_collect_params_with_bound_field_fields_inner_macro_call_wrap)]
+#[cycle(collect)]
 fn macro_call(s: &[u8], w: Walk, levels: usize, bound: &mut [u32], uses: &mut [u32]) -> Walk
     ensures { (result ≡ (macro_at levels s.now w bound.old uses.old).0) × (bound.new ≡ (macro_at levels s.now w bound.old uses.old).1) × (uses.new ≡ (macro_at levels s.now w bound.old uses.old).2) }
 {
@@ -197,7 +197,7 @@ fn macro_call(s: &[u8], w: Walk, levels: usize, bound: &mut [u32], uses: &mut [u
 }
 
 // A count, and as many macro arguments.
-#[cycle(argument_arguments_array_case_cases_chain_choice_collect_params_with_bound_field_fields_inner_macro_call_wrap)]
+#[cycle(collect)]
 fn arguments(s: &[u8], w: Walk, levels: usize, bound: &mut [u32], uses: &mut [u32]) -> Walk
     ensures { (result ≡ (arguments_at levels s.now w bound.old uses.old).0) × (bound.new ≡ (arguments_at levels s.now w bound.old uses.old).1) × (uses.new ≡ (arguments_at levels s.now w bound.old uses.old).2) }
 {
@@ -213,7 +213,7 @@ fn arguments(s: &[u8], w: Walk, levels: usize, bound: &mut [u32], uses: &mut [u3
     here
 }
 
-#[cycle(argument_arguments_array_case_cases_chain_choice_collect_params_with_bound_field_fields_inner_macro_call_wrap)]
+#[cycle(collect)]
 fn argument(s: &[u8], w: Walk, levels: usize, bound: &mut [u32], uses: &mut [u32]) -> Walk
     ensures { (result ≡ (argument_at levels s.now w bound.old uses.old).0) × (bound.new ≡ (argument_at levels s.now w bound.old uses.old).1) × (uses.new ≡ (argument_at levels s.now w bound.old uses.old).2) }
 {

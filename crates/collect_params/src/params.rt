@@ -13,7 +13,7 @@ use buffer::numbers::least;
 use layout::lookup::same_name;
 
 // How many parameters the table holds, or code 7.
-#[derive(Drop)]
+#[derive(Clone, Copy)]
 pub enum Params {
     Sorted(usize),
     Leftover,

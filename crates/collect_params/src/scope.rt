@@ -5,7 +5,7 @@ ghost use Rattle.collect_params.specs.scope.Steps.{moved, counted, unbound, bind
 use crate::labels::bind_label;
 
 // Where the walk stands: its place, how many uses are recorded and how many labels bound, and whether a macro call was met.
-#[derive(Drop)]
+#[derive(Clone, Copy)]
 pub(crate) struct Walk {
     pub at: usize,
     pub n: usize,

@@ -1,4 +1,6 @@
 // The entry points for callers in other languages, which get the answers in numbers.
+#![tactic(auto)]
+
 ghost use Rattle.std.specs.Prelude.{◌≡◌, length};
 ghost use Rattle.definition.specs.Answer.{answer, output, zeroed};
 ghost use Rattle.definition.specs.Premise.{premise};

@@ -1,4 +1,6 @@
 // The whole elaboration: what it answers, what it writes and what it leaves in the work area, for every input.
+#![tactic(auto)]
+
 ghost use Rattle.std.specs.Prelude.{◌≡◌, length};
 ghost use Rattle.definition.specs.Answer.{attempt, fault_at, output, zeroed};
 ghost use Rattle.open_book.specs.begin.Begins.{Sound};

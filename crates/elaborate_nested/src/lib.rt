@@ -1,4 +1,6 @@
 // The nested mode of document 02 b: the pass of document 01, more passes with the same macros, then the lifts.
+#![tactic(auto)]
+
 ghost use Rattle.std.specs.Prelude.{◌≡◌, length};
 ghost use Rattle.definition.specs.Answer.{fault_at, zeroed};
 ghost use Rattle.nested.specs.Nested.{attempt_nested_of, output_nested};

@@ -13,7 +13,7 @@ use lift_tables::enter_lift::Counts;
 use walker::ends::end_of;
 
 // The counts and how many lifts are finished, or document 01's number of a refusal.
-#[derive(Drop)]
+#[derive(Clone, Copy)]
 pub enum Body {
     Named(Counts, usize),
     Refused(u8),

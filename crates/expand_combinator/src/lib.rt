@@ -1,5 +1,7 @@
 // The Rust's `expand_combinator`, with a frame for each of the 64 levels where it has a call stack.
 // `anonymous`: `contains_anonymous_format`. `open_child`: a child is lifted or walked (`expand_child_combinator`). `body`: the loop over frames.
+#![tactic(auto)]
+
 mod anonymous;
 pub mod body;
 pub mod open_child;

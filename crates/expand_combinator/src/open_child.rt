@@ -15,7 +15,7 @@ use lift_tables::enter_lift::Counts;
 use walker::ends::end_of;
 
 // A child's frame and the counts then, or document 01's number of a refusal.
-#[derive(Drop)]
+#[derive(Clone, Copy)]
 pub(crate) enum Child {
     Opened(Frame, Counts),
     Refused(u8),

@@ -6,7 +6,7 @@ use name_table::forks::{row_at, slot_of};
 use name_table::kinds::take_kinds;
 
 // Where the definition of a macro stands, if there is one.
-#[derive(Drop)]
+#[derive(Clone, Copy)]
 pub enum Found {
     At { at: usize },
     Unknown,

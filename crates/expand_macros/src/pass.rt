@@ -10,7 +10,7 @@ use buffer::numbers::least;
 use buffer::writes::{put_bytes, put_u16};
 
 // The length of the expanded book, or growth past a limit: code 6.
-#[derive(Drop)]
+#[derive(Clone, Copy)]
 pub enum Expanded {
     Book { len: usize },
     Grown,

@@ -8,7 +8,7 @@ use buffer::writes::put_part;
 use expand_macros::pass::{Expanded, expand_macros};
 
 // The length of the book after the last pass, growth past a limit (code 6), or a known call left after it (code 12).
-#[derive(Drop)]
+#[derive(Clone, Copy)]
 pub enum Passes {
     Book { len: usize },
     Grown,

@@ -7,7 +7,7 @@ ghost use Rattle.generated_name.specs.fresh_name.Free.{Tells, FirstFree, Fresh};
 use name_table::find::find_name;
 
 // The number that is free, and the length of the name.
-#[derive(Drop)]
+#[derive(Clone, Copy)]
 struct Free {
     number: usize,
     len: usize,

@@ -99,9 +99,13 @@ passes (smaller p) (equal q) = smaller p
 passes (equal p) (smaller q) = smaller q
 passes (equal p) (equal q) = equal (passes p q)
 
+less_differs : {a b : Name} → Less a b → a ≡ b → ⊥
+less_differs ends e = cc
+less_differs {a = x ∷ a} {b = y ∷ b} (smaller p) e = let f : x ≡ y = cc in omega arith
+less_differs (equal p) e = less_differs p (cc)
+
 pub irreflexive : (a : Name) → Less a a → ⊥
-irreflexive (x ∷ a) (smaller p) = omega arith
-irreflexive (x ∷ a) (equal p) = irreflexive a p
+irreflexive a p = less_differs p refl
 
 total : (a b : Name) → (a ≡ b → ⊥) → Less a b ⊎ Less b a
 total [] [] h = absurd (h refl)

@@ -31,7 +31,7 @@ ascii_append (x ∷ a) b p q = (p.0, p.1, ascii_append a b p.2 q)
 ascii_chars : (x : List ℕ) → Ascii x → characters [] x ≡ true
 unfolding characters behind
 ascii_chars [] h = refl
-ascii_chars (b ∷ x) h = rw h.0 (ascii_chars x h.2)
+ascii_chars (b ∷ x) h = rw (characters, behind, h.0) (ascii_chars x h.2)
 
 ascii_dots : (x : List ℕ) → Ascii x → no_dot_of x ≡ true
 unfolding no_dot_of

@@ -1,6 +1,8 @@
 // Document 01, "The definition book", by place: going over bytes that were read before, with no refusal to hand on.
 // `items`: the place behind each item of the layout, and the number or byte that stands there. `lookup`: a name as a part of the book or of the
 // generated names. `hash`: the bits by which names are told apart.
+#![tactic(auto)]
+
 pub mod hash;
 pub mod items;
 pub mod lookup;

@@ -5,7 +5,7 @@ ghost use Rattle.definition.specs.Names.{eq_name};
 ghost use Rattle.layout.specs.lookup.Name.{name_at, name_of, place_of};
 
 // Where a name's length byte stands: in the book, or among the generated names of the work area.
-#[derive(Drop)]
+#[derive(Clone, Copy)]
 pub enum Place {
     Source { at: usize },
     Made { at: usize },

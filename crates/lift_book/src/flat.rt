@@ -13,7 +13,7 @@ use walker::ends::inner_end;
 use walker::walk::text_or_length;
 
 // Where a combinator ends, with so many levels left; 0 where a struct, choice, enum or bits stands in it.
-#[cycle(calm_past_inner_past_tail_past_wrap_past)]
+#[cycle(calm)]
 fn calm_past(s: &[u8], at: usize, levels: usize) -> usize
     ensures { result ≡ calm_past_of levels s.now at }
 {
@@ -25,7 +25,7 @@ fn calm_past(s: &[u8], at: usize, levels: usize) -> usize
 }
 
 // The same of an inner, with so many levels left below it.
-#[cycle(calm_past_inner_past_tail_past_wrap_past)]
+#[cycle(calm)]
 fn inner_past(s: &[u8], at: usize, levels: usize) -> usize
     ensures { result ≡ inner_past_of levels s.now at }
 {
@@ -52,7 +52,7 @@ fn inner_past(s: &[u8], at: usize, levels: usize) -> usize
     }
 }
 
-#[cycle(calm_past_inner_past_tail_past_wrap_past)]
+#[cycle(calm)]
 fn wrap_past(s: &[u8], at: usize, levels: usize) -> usize
     ensures { result ≡ wrap_past_of levels s.now at }
 {
@@ -65,7 +65,7 @@ fn wrap_past(s: &[u8], at: usize, levels: usize) -> usize
 }
 
 // What stands behind an inner that ends at `end`: a flag, and a chain where it is 1.
-#[cycle(calm_past_inner_past_tail_past_wrap_past)]
+#[cycle(calm)]
 fn tail_past(s: &[u8], end: usize, levels: usize) -> usize
     ensures { result ≡ tail_past_of levels s.now end }
 {

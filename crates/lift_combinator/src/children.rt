@@ -12,7 +12,7 @@ use layout::lookup::name_at;
 
 // What a frame does next: nothing, pass a Const field up to a place, or walk a child at a place: its chain, or a child that is named by a
 // label, by its number, as a Wrap's or as an item.
-#[derive(Drop)]
+#[derive(Clone, Copy)]
 pub enum Next {
     Done,
     Pass(usize),
@@ -24,7 +24,7 @@ pub enum Next {
 }
 
 // What a node does next: it is at its end, it passes a Const field, or it walks the child at a place, whose base has so many bytes in the path.
-#[derive(Drop)]
+#[derive(Clone, Copy)]
 pub enum Step {
     Done,
     Pass(usize),

@@ -9,7 +9,7 @@ use layout::items::{byte, past};
 use lift_tables::tables::{plus, put_binder, store_in};
 
 // What a node takes after lifting, its inner alone, and how many lifts are finished.
-#[derive(Drop)]
+#[derive(Clone, Copy)]
 pub struct Closed {
     pub whole: usize,
     pub inner: usize,

@@ -10,7 +10,7 @@ use walker::ends::end_of;
 // A node on the way: its combinator from `place` up to `last`; its inner's rest from `here` up to `end`; how many children are left, their
 // sort, and the number of the next; the name's length in the path; how many binders are in force; what the inner takes up to `here` after
 // lifting; whether its chain is still to be walked, and what it takes after lifting; one more than the number of the lift if it is lifted, and the size of the call.
-#[derive(Drop)]
+#[derive(Clone, Copy)]
 pub struct Frame {
     pub place: usize,
     pub last: usize,
@@ -29,7 +29,7 @@ pub struct Frame {
 }
 
 // A frame that waits while a child of its node is walked: the same, with numbers of 16 bits.
-#[derive(Drop)]
+#[derive(Clone, Copy)]
 pub struct Waiting {
     pub place: u16,
     pub last: u16,
@@ -48,7 +48,7 @@ pub struct Waiting {
 }
 
 // Where the children of an inner begin, their sort and how many there are.
-#[derive(Drop)]
+#[derive(Clone, Copy)]
 struct Begin {
     pub here: usize,
     pub kind: u8,

@@ -10,7 +10,7 @@ use generated_name::fresh_name::fresh_generated_name;
 use lift_tables::enter_lift::{Counts, Lifted, enter_lift};
 
 // A lift: the length of its name in the path, the size of its call and the counts with it; or document 01's number of a refusal.
-#[derive(Drop)]
+#[derive(Clone, Copy)]
 pub enum Named {
     Lift(usize, usize, Counts),
     Refused(u8),

@@ -9,7 +9,7 @@ use crate::tables::entry;
 use layout::lookup::{name_at, same_name};
 
 // A binder: the place of its name's length byte, the place of its type, 1 where that is a parameter's own type, and the type's size after lifting.
-#[derive(Drop)]
+#[derive(Clone, Copy)]
 pub(crate) struct Binder {
     pub name: u16,
     pub at: u16,
@@ -18,7 +18,7 @@ pub(crate) struct Binder {
 }
 
 // The first binder of a name, or that there is none.
-#[derive(Drop)]
+#[derive(Clone, Copy)]
 pub(crate) enum Found {
     Bound(Binder),
     Missing,

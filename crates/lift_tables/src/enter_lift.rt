@@ -13,14 +13,14 @@ use collect_params::uses::name_of_use;
 use name_table::taken::take_name;
 
 // The sizes of the parameters' names and of their types, or that one has no binder.
-#[derive(Drop)]
+#[derive(Clone, Copy)]
 enum Built {
     All(usize, usize),
     Missing,
 }
 
 // How much the tables hold: names taken, the place after the last generated name, lifts, their parameters; and the book as code 10 measures it.
-#[derive(Drop)]
+#[derive(Clone, Copy)]
 pub struct Counts {
     pub taken: usize,
     pub end: usize,
@@ -31,7 +31,7 @@ pub struct Counts {
 }
 
 // A lift: the size of its call and the counts with it, or document 01's number of a refusal.
-#[derive(Drop)]
+#[derive(Clone, Copy)]
 pub enum Lifted {
     Made(usize, Counts),
     Refused(u8),

@@ -1,4 +1,6 @@
 // Prints the listing of the book on standard input. With the word --nested macros that call macros are expanded too (document 02 b).
+#![tactic(auto)]
+
 use libc::{STDIN_FILENO, STDOUT_FILENO};
 use listing_lines::lines::put_lines;
 use words::{Mode, mode_of};

@@ -1,5 +1,7 @@
 // Prints the listings of books of examples/ (copies of them stand in data/), one after the other, each below its name; of the last one that of
 // each mode.
+#![tactic(auto)]
+
 use libc::STDOUT_FILENO;
 use listing_lines::lines::put_lines;
 

@@ -6,7 +6,7 @@ use read_book::body::Verdict;
 use read_book::book::read;
 
 // A book that passes codes 1 to 5, without macros or with some; or a code, and the place of the item at fault where it has one.
-#[derive(Drop)]
+#[derive(Clone, Copy)]
 pub enum Begun {
     Plain,
     Macros,

@@ -7,7 +7,7 @@ use crate::begin::{Begun, begin};
 use expand_macros::pass::{Expanded, expand_macros};
 
 // The expanded book, which fills the output's first bytes; or a code, and the place of the item at fault where it has one.
-#[derive(Drop)]
+#[derive(Clone, Copy)]
 pub enum Opened {
     Book { len: usize },
     Refused { code: u8, at: u16 },

@@ -11,7 +11,7 @@ use crate::cursor::{Cursor, Fault, NumberStep, Walked};
 use crate::name_list::names;
 
 // What a judgement says: nothing is wrong, or the first fault.
-#[derive(Drop)]
+#[derive(Clone, Copy)]
 pub enum Verdict {
     Sound,
     Refused(Fault),

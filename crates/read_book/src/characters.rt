@@ -4,7 +4,7 @@ ghost use Rattle.definition.specs.Utf8.{range, behind, characters};
 ghost use Rattle.read_book.specs.characters.Ranges.{ranges, ranges_by};
 
 // What a character that has begun still wants: so many bytes, the next one from low to high and the others from 80 to BF.
-#[derive(Drop)]
+#[derive(Clone, Copy)]
 pub(crate) struct Awaits {
     pub left: u8,
     pub low: u8,

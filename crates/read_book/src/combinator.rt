@@ -54,7 +54,7 @@ fn invocation(s: &[u8], c: Cursor) -> Walked
 }
 
 // A combinator, with so many levels left: an inner, and a chain or none.
-#[cycle(arguments_array_case_cases_choice_combinator_field_fields_inner_items_macro_invocation_wrap)]
+#[cycle(combinator)]
 pub(crate) fn combinator(s: &[u8], c: Cursor, levels: usize) -> Walked
     ensures { Walks s.now c.at result (combinatorOf levels) }
 {
@@ -73,7 +73,7 @@ pub(crate) fn combinator(s: &[u8], c: Cursor, levels: usize) -> Walked
 }
 
 // A tag and its items: an unknown tag is 3 before its level is tested.
-#[cycle(arguments_array_case_cases_choice_combinator_field_fields_inner_items_macro_invocation_wrap)]
+#[cycle(combinator)]
 pub(crate) fn inner(s: &[u8], c: Cursor, levels: usize) -> Walked
     ensures { Walks s.now c.at result (arg levels) }
 {
@@ -90,7 +90,7 @@ pub(crate) fn inner(s: &[u8], c: Cursor, levels: usize) -> Walked
 }
 
 // What stands behind a tag; `levels` are those left for what is inside.
-#[cycle(arguments_array_case_cases_choice_combinator_field_fields_inner_items_macro_invocation_wrap)]
+#[cycle(combinator)]
 fn items(s: &[u8], c: Cursor, tag: u8, levels: usize) -> Walked
     ensures { Walks s.now c.at result (items_at levels (tag_of tag)) }
 {
@@ -108,7 +108,7 @@ fn items(s: &[u8], c: Cursor, tag: u8, levels: usize) -> Walked
     }
 }
 
-#[cycle(arguments_array_case_cases_choice_combinator_field_fields_inner_items_macro_invocation_wrap)]
+#[cycle(combinator)]
 fn field(s: &[u8], c: Cursor, levels: usize) -> Walked
     ensures { Leads s.now c.at result (fields_of (combinatorOf levels)) }
 {
@@ -127,7 +127,7 @@ fn field(s: &[u8], c: Cursor, levels: usize) -> Walked
 }
 
 // A struct: a count, and as many fields.
-#[cycle(arguments_array_case_cases_choice_combinator_field_fields_inner_items_macro_invocation_wrap)]
+#[cycle(combinator)]
 fn fields(s: &[u8], c: Cursor, levels: usize) -> Walked
     ensures { Walks s.now c.at result (items_at levels is_struct) }
 {
@@ -152,7 +152,7 @@ fn fields(s: &[u8], c: Cursor, levels: usize) -> Walked
     }
 }
 
-#[cycle(arguments_array_case_cases_choice_combinator_field_fields_inner_items_macro_invocation_wrap)]
+#[cycle(combinator)]
 fn wrap(s: &[u8], c: Cursor, levels: usize) -> Walked
     ensures { Walks s.now c.at result (items_at levels is_wrap) }
 {
@@ -165,7 +165,7 @@ fn wrap(s: &[u8], c: Cursor, levels: usize) -> Walked
     }
 }
 
-#[cycle(arguments_array_case_cases_choice_combinator_field_fields_inner_items_macro_invocation_wrap)]
+#[cycle(combinator)]
 fn case(s: &[u8], c: Cursor, kind: u8, levels: usize) -> Walked
     ensures { Leads s.now c.at result (cases_of (combinatorOf levels) (case_kind_of kind)) }
 {
@@ -176,7 +176,7 @@ fn case(s: &[u8], c: Cursor, kind: u8, levels: usize) -> Walked
 }
 
 // A count, and as many cases.
-#[cycle(arguments_array_case_cases_choice_combinator_field_fields_inner_items_macro_invocation_wrap)]
+#[cycle(combinator)]
 fn cases(s: &[u8], c: Cursor, kind: u8, levels: usize) -> Walked
     ensures { Walks s.now c.at result (counted (cases_of (combinatorOf levels) (case_kind_of kind))) }
 {
@@ -201,7 +201,7 @@ fn cases(s: &[u8], c: Cursor, kind: u8, levels: usize) -> Walked
     }
 }
 
-#[cycle(arguments_array_case_cases_choice_combinator_field_fields_inner_items_macro_invocation_wrap)]
+#[cycle(combinator)]
 fn choice(s: &[u8], c: Cursor, levels: usize) -> Walked
     ensures { Walks s.now c.at result (items_at levels is_choice) }
 {
@@ -214,7 +214,7 @@ fn choice(s: &[u8], c: Cursor, levels: usize) -> Walked
     }
 }
 
-#[cycle(arguments_array_case_cases_choice_combinator_field_fields_inner_items_macro_invocation_wrap)]
+#[cycle(combinator)]
 fn array(s: &[u8], c: Cursor, levels: usize) -> Walked
     ensures { Walks s.now c.at result (items_at levels is_array) }
 {
@@ -225,7 +225,7 @@ fn array(s: &[u8], c: Cursor, levels: usize) -> Walked
 }
 
 // A count, and as many inners.
-#[cycle(arguments_array_case_cases_choice_combinator_field_fields_inner_items_macro_invocation_wrap)]
+#[cycle(combinator)]
 fn arguments(s: &[u8], c: Cursor, levels: usize) -> Walked
     ensures { Walks s.now c.at result (counted (inners (arg levels))) }
 {
@@ -251,7 +251,7 @@ fn arguments(s: &[u8], c: Cursor, levels: usize) -> Walked
 }
 
 // A macro call: a name and arguments.
-#[cycle(arguments_array_case_cases_choice_combinator_field_fields_inner_items_macro_invocation_wrap)]
+#[cycle(combinator)]
 fn macro_invocation(s: &[u8], c: Cursor, levels: usize) -> Walked
     ensures { Walks s.now c.at result (items_at levels is_macro_invocation) }
 {

@@ -8,32 +8,32 @@ ghost use Rattle.read_book.specs.cursor.Item.{among as amongOf};
 use crate::utf8::is_name;
 
 // A place in the book.
-#[derive(Drop)]
+#[derive(Clone, Copy)]
 pub(crate) struct Cursor {
     pub at: usize,
 }
 
 // A refusal: its code, and the place of the item at fault.
-#[derive(Drop)]
+#[derive(Clone, Copy)]
 pub struct Fault {
     pub code: u8,
     pub at: usize,
 }
 
-#[derive(Drop)]
+#[derive(Clone, Copy)]
 pub(crate) enum ByteStep {
     Byte(u8, Cursor),
     NoByte(Fault),
 }
 
-#[derive(Drop)]
+#[derive(Clone, Copy)]
 pub(crate) enum NumberStep {
     Number(usize, Cursor),
     NoNumber(Fault),
 }
 
 // What was walked past holds no number: the next place is all there is to say.
-#[derive(Drop)]
+#[derive(Clone, Copy)]
 pub(crate) enum Walked {
     Past(Cursor),
     Refused(Fault),

@@ -8,7 +8,7 @@ use crate::cursor::{Cursor, Fault};
 use layout::items::number;
 
 // An entry of the contents: its kind's byte, where its body ends, and the next entry.
-#[derive(Drop)]
+#[derive(Clone, Copy)]
 pub(crate) enum EntryStep {
     Entry(u8, usize, Cursor),
     NoEntry(Fault),

@@ -2,6 +2,8 @@
 // `characters`, `utf8`: names, byte by byte. `cursor`: a byte, number, name or text, and the cursor after it. `name_list`: a count and names.
 // `combinator`: the cycle of combinators, fields and cases, with the levels left. `body`: one definition, in any range. `entry`, `contents`:
 // "Contents first". `book`: all of it.
+#![tactic(auto)]
+
 pub mod body;
 pub mod book;
 mod characters;

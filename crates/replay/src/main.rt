@@ -1,5 +1,7 @@
 // Replays the recorded answers of the Rust, data/ (its page there says how they were made and laid out), and counts for each
 // code the answers that are the recorded ones and those that are not.
+#![tactic(auto)]
+
 ghost use Rattle.std.specs.Prelude.{◌≡◌, length};
 
 use elaborate::elaborate;
@@ -11,14 +13,14 @@ use read_book::body::Verdict;
 use what_comes_back::{Elaborated, Tested};
 
 // How many answers were right and wrong, by code.
-#[derive(Drop)]
+#[derive(Clone, Copy)]
 struct Counts {
     pub right: [u64; 16],
     pub wrong: [u64; 16],
 }
 
 // Of reading, of macro expansion, of the premise test and of `elaborate`.
-#[derive(Drop)]
+#[derive(Clone, Copy)]
 struct Tally {
     pub reading: Counts,
     pub expansion: Counts,
@@ -27,7 +29,7 @@ struct Tally {
 }
 
 // Where recorded bytes stand: in the book (1), in the result (2), or here.
-#[derive(Drop)]
+#[derive(Clone, Copy)]
 struct Bytes {
     pub within: u8,
     pub from: usize,
@@ -36,7 +38,7 @@ struct Bytes {
 
 // A record: where its book stands, the answer of `elaborate` with the place of a fault and the result, the answer of the premise test and the expanded book, and the
 // next record.
-#[derive(Drop)]
+#[derive(Clone, Copy)]
 struct Case {
     pub from: usize,
     pub to: usize,

@@ -54,7 +54,7 @@ fn substitute_in_combinator(
 
 // Where the making of an instance stands: the places of the next parameter and of the next argument, the length of the combinator made so far and
 // the number of its marks, and whether it is within the limits.
-#[derive(Drop)]
+#[derive(Clone, Copy)]
 pub struct Turn {
     pub param: usize,
     pub arg: usize,

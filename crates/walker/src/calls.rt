@@ -10,7 +10,7 @@ use layout::items::{
 };
 
 // A combinator, with so many levels left, its own included.
-#[cycle(argument_arguments_array_case_cases_choice_combinator_field_fields_inner_macro_call_wrap)]
+#[cycle(calls)]
 pub(crate) fn combinator(s: &[u8], w: Walk, levels: usize, marks: &mut [u16]) -> Walk
     ensures { (result ≡ (combinator_at levels s.now w marks.old).0) × (marks.new ≡ (combinator_at levels s.now w marks.old).1) }
 {
@@ -32,7 +32,7 @@ pub(crate) fn combinator(s: &[u8], w: Walk, levels: usize, marks: &mut [u16]) ->
 }
 
 // An inner, with so many levels left below it.
-#[cycle(argument_arguments_array_case_cases_choice_combinator_field_fields_inner_macro_call_wrap)]
+#[cycle(calls)]
 pub(crate) fn inner(s: &[u8], w: Walk, levels: usize, marks: &mut [u16]) -> Walk
     ensures { (result ≡ (inner_at levels s.now w marks.old).0) × (marks.new ≡ (inner_at levels s.now w marks.old).1) }
 {
@@ -57,7 +57,7 @@ pub(crate) fn inner(s: &[u8], w: Walk, levels: usize, marks: &mut [u16]) -> Walk
 }
 
 // A count, and as many fields.
-#[cycle(argument_arguments_array_case_cases_choice_combinator_field_fields_inner_macro_call_wrap)]
+#[cycle(calls)]
 fn fields(s: &[u8], w: Walk, levels: usize, marks: &mut [u16]) -> Walk
     ensures { (result ≡ (fields_at levels s.now w marks.old).0) × (marks.new ≡ (fields_at levels s.now w marks.old).1) }
 {
@@ -73,7 +73,7 @@ fn fields(s: &[u8], w: Walk, levels: usize, marks: &mut [u16]) -> Walk
     here
 }
 
-#[cycle(argument_arguments_array_case_cases_choice_combinator_field_fields_inner_macro_call_wrap)]
+#[cycle(calls)]
 fn field(s: &[u8], w: Walk, levels: usize, marks: &mut [u16]) -> Walk
     ensures { (result ≡ (field_at levels s.now w marks.old).0) × (marks.new ≡ (field_at levels s.now w marks.old).1) }
 {
@@ -89,7 +89,7 @@ fn field(s: &[u8], w: Walk, levels: usize, marks: &mut [u16]) -> Walk
     combinator(s, v, levels, marks)
 }
 
-#[cycle(argument_arguments_array_case_cases_choice_combinator_field_fields_inner_macro_call_wrap)]
+#[cycle(calls)]
 fn wrap(s: &[u8], w: Walk, levels: usize, marks: &mut [u16]) -> Walk
     ensures { (result ≡ (wrap_at levels s.now w marks.old).0) × (marks.new ≡ (wrap_at levels s.now w marks.old).1) }
 {
@@ -102,7 +102,7 @@ fn wrap(s: &[u8], w: Walk, levels: usize, marks: &mut [u16]) -> Walk
     moved(u, e)
 }
 
-#[cycle(argument_arguments_array_case_cases_choice_combinator_field_fields_inner_macro_call_wrap)]
+#[cycle(calls)]
 fn choice(s: &[u8], w: Walk, levels: usize, marks: &mut [u16]) -> Walk
     ensures { (result ≡ (choice_at levels s.now w marks.old).0) × (marks.new ≡ (choice_at levels s.now w marks.old).1) }
 {
@@ -115,7 +115,7 @@ fn choice(s: &[u8], w: Walk, levels: usize, marks: &mut [u16]) -> Walk
 }
 
 // A count, and as many cases.
-#[cycle(argument_arguments_array_case_cases_choice_combinator_field_fields_inner_macro_call_wrap)]
+#[cycle(calls)]
 fn cases(s: &[u8], w: Walk, kind: u8, levels: usize, marks: &mut [u16]) -> Walk
     ensures { (result ≡ (cases_at levels s.now kind w marks.old).0) × (marks.new ≡ (cases_at levels s.now kind w marks.old).1) }
 {
@@ -131,7 +131,7 @@ fn cases(s: &[u8], w: Walk, kind: u8, levels: usize, marks: &mut [u16]) -> Walk
     here
 }
 
-#[cycle(argument_arguments_array_case_cases_choice_combinator_field_fields_inner_macro_call_wrap)]
+#[cycle(calls)]
 fn case(s: &[u8], w: Walk, kind: u8, levels: usize, marks: &mut [u16]) -> Walk
     ensures { (result ≡ (case_at levels s.now kind w marks.old).0) × (marks.new ≡ (case_at levels s.now kind w marks.old).1) }
 {
@@ -141,7 +141,7 @@ fn case(s: &[u8], w: Walk, kind: u8, levels: usize, marks: &mut [u16]) -> Walk
     combinator(s, v, levels, marks)
 }
 
-#[cycle(argument_arguments_array_case_cases_choice_combinator_field_fields_inner_macro_call_wrap)]
+#[cycle(calls)]
 fn array(s: &[u8], w: Walk, levels: usize, marks: &mut [u16]) -> Walk
     ensures { (result ≡ (array_at levels s.now w marks.old).0) × (marks.new ≡ (array_at levels s.now w marks.old).1) }
 {
@@ -153,7 +153,7 @@ fn array(s: &[u8], w: Walk, levels: usize, marks: &mut [u16]) -> Walk
 
 // A MacroInvocation whose tag stands at `at`; the walk stands behind the tag. Its arguments are gone over with nothing recorded:
 // a place past the end of the row takes no mark.
-#[cycle(argument_arguments_array_case_cases_choice_combinator_field_fields_inner_macro_call_wrap)]
+#[cycle(calls)]
 fn macro_call(s: &[u8], w: Walk, at: usize, levels: usize, marks: &mut [u16]) -> Walk
     ensures { (result ≡ (macro_at levels s.now at w marks.old).0) × (marks.new ≡ (macro_at levels s.now at w marks.old).1) }
 {
@@ -167,7 +167,7 @@ fn macro_call(s: &[u8], w: Walk, at: usize, levels: usize, marks: &mut [u16]) ->
 }
 
 // A count, and as many macro arguments.
-#[cycle(argument_arguments_array_case_cases_choice_combinator_field_fields_inner_macro_call_wrap)]
+#[cycle(calls)]
 fn arguments(s: &[u8], w: Walk, levels: usize, marks: &mut [u16]) -> Walk
     ensures { (result ≡ (arguments_at levels s.now w marks.old).0) × (marks.new ≡ (arguments_at levels s.now w marks.old).1) }
 {
@@ -183,7 +183,7 @@ fn arguments(s: &[u8], w: Walk, levels: usize, marks: &mut [u16]) -> Walk
     here
 }
 
-#[cycle(argument_arguments_array_case_cases_choice_combinator_field_fields_inner_macro_call_wrap)]
+#[cycle(calls)]
 fn argument(s: &[u8], w: Walk, levels: usize, marks: &mut [u16]) -> Walk
     ensures { (result ≡ (argument_at levels s.now w marks.old).0) × (marks.new ≡ (argument_at levels s.now w marks.old).1) }
 {

@@ -8,7 +8,7 @@ use buffer::numbers::minus;
 use layout::items::{name_past, number, past};
 
 // Definitions that are left of a book's: how many, the entry of the first and where its body begins.
-#[derive(Drop)]
+#[derive(Clone, Copy)]
 pub struct Definitions {
     pub left: usize,
     pub entry: usize,

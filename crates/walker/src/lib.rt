@@ -3,6 +3,8 @@
 // left aside. `skip`: the same with nothing recorded. `pieces`: a combinator as the pieces between its calls, on trees. `definitions`: the
 // definitions that the contents list, one after the other. `bodies`: a test of every format's body. `measure`, `measure_book`, `ends`: where
 // each inner ends, found once for a book and looked up afterwards.
+#![tactic(auto)]
+
 pub mod bodies;
 pub mod calls;
 pub mod definitions;

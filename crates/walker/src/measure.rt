@@ -21,7 +21,7 @@ fn keep(at: usize, end: usize, ends: &mut [u16])
 }
 
 // A combinator, with so many levels left, its own included; the place behind it.
-#[cycle(argument_arguments_behind_choice_field_fields_measure_combinator_measure_inner_wrap)]
+#[cycle(measure)]
 pub(crate) fn measure_combinator(s: &[u8], at: usize, levels: usize, ends: &mut [u16]) -> usize
     ensures { (result ≡ (combinator_at levels s.now at ends.old).0) × (ends.new ≡ (combinator_at levels s.now at ends.old).1) }
 {
@@ -38,7 +38,7 @@ pub(crate) fn measure_combinator(s: &[u8], at: usize, levels: usize, ends: &mut 
 }
 
 // An inner, with so many levels left below it. Its end is kept.
-#[cycle(argument_arguments_behind_choice_field_fields_measure_combinator_measure_inner_wrap)]
+#[cycle(measure)]
 pub(crate) fn measure_inner(s: &[u8], at: usize, levels: usize, ends: &mut [u16]) -> usize
     ensures { (result ≡ (inner_at levels s.now at ends.old).0) × (ends.new ≡ (inner_at levels s.now at ends.old).1) }
 {
@@ -50,7 +50,7 @@ pub(crate) fn measure_inner(s: &[u8], at: usize, levels: usize, ends: &mut [u16]
 }
 
 // What stands behind the tag of an inner.
-#[cycle(argument_arguments_behind_choice_field_fields_measure_combinator_measure_inner_wrap)]
+#[cycle(measure)]
 fn behind(s: &[u8], tag: u8, at: usize, levels: usize, ends: &mut [u16]) -> usize
     ensures { (result ≡ (behind_at levels s.now tag at ends.old).0) × (ends.new ≡ (behind_at levels s.now tag at ends.old).1) }
 {
@@ -77,7 +77,7 @@ fn behind(s: &[u8], tag: u8, at: usize, levels: usize, ends: &mut [u16]) -> usiz
 }
 
 // A count, and as many fields.
-#[cycle(argument_arguments_behind_choice_field_fields_measure_combinator_measure_inner_wrap)]
+#[cycle(measure)]
 fn fields(s: &[u8], at: usize, levels: usize, ends: &mut [u16]) -> usize
     ensures { (result ≡ (fields_at levels s.now at ends.old).0) × (ends.new ≡ (fields_at levels s.now at ends.old).1) }
 {
@@ -90,7 +90,7 @@ fn fields(s: &[u8], at: usize, levels: usize, ends: &mut [u16]) -> usize
     here
 }
 
-#[cycle(argument_arguments_behind_choice_field_fields_measure_combinator_measure_inner_wrap)]
+#[cycle(measure)]
 fn field(s: &[u8], at: usize, levels: usize, ends: &mut [u16]) -> usize
     ensures { (result ≡ (field_at levels s.now at ends.old).0) × (ends.new ≡ (field_at levels s.now at ends.old).1) }
 {
@@ -103,7 +103,7 @@ fn field(s: &[u8], at: usize, levels: usize, ends: &mut [u16]) -> usize
     measure_combinator(s, b, levels, ends)
 }
 
-#[cycle(argument_arguments_behind_choice_field_fields_measure_combinator_measure_inner_wrap)]
+#[cycle(measure)]
 fn wrap(s: &[u8], at: usize, levels: usize, ends: &mut [u16]) -> usize
     ensures { (result ≡ (wrap_at levels s.now at ends.old).0) × (ends.new ≡ (wrap_at levels s.now at ends.old).1) }
 {
@@ -113,7 +113,7 @@ fn wrap(s: &[u8], at: usize, levels: usize, ends: &mut [u16]) -> usize
 }
 
 // A selector, the cases' kind, a count, and as many cases.
-#[cycle(argument_arguments_behind_choice_field_fields_measure_combinator_measure_inner_wrap)]
+#[cycle(measure)]
 fn choice(s: &[u8], at: usize, levels: usize, ends: &mut [u16]) -> usize
     ensures { (result ≡ (choice_at levels s.now at ends.old).0) × (ends.new ≡ (choice_at levels s.now at ends.old).1) }
 {
@@ -131,7 +131,7 @@ fn choice(s: &[u8], at: usize, levels: usize, ends: &mut [u16]) -> usize
 }
 
 // A count, and as many macro arguments.
-#[cycle(argument_arguments_behind_choice_field_fields_measure_combinator_measure_inner_wrap)]
+#[cycle(measure)]
 fn arguments(s: &[u8], at: usize, levels: usize, ends: &mut [u16]) -> usize
     ensures { (result ≡ (arguments_at levels s.now at ends.old).0) × (ends.new ≡ (arguments_at levels s.now at ends.old).1) }
 {
@@ -144,7 +144,7 @@ fn arguments(s: &[u8], at: usize, levels: usize, ends: &mut [u16]) -> usize
     here
 }
 
-#[cycle(argument_arguments_behind_choice_field_fields_measure_combinator_measure_inner_wrap)]
+#[cycle(measure)]
 fn argument(s: &[u8], at: usize, levels: usize, ends: &mut [u16]) -> usize
     ensures { (result ≡ (argument_at levels s.now at ends.old).0) × (ends.new ≡ (argument_at levels s.now at ends.old).1) }
 {

@@ -7,7 +7,7 @@ use layout::items::{length_past, stands_on, text_past};
 
 // Where the walk stands: its place, how many numbers are recorded, the fewest levels that were left on the way, and whether
 // every chain so far stands on Bytes or Tail.
-#[derive(Drop)]
+#[derive(Clone, Copy)]
 pub struct Walk {
     pub at: usize,
     pub n: usize,

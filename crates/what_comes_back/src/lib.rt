@@ -1,10 +1,12 @@
 // What comes back from the calls: their answers, and the same in the numbers that callers in other languages get.
+#![tactic(auto)]
+
 ghost use Rattle.std.specs.Prelude.{◌≡◌};
 ghost use Rattle.what_comes_back.specs.Elaborates.{reported};
 ghost use Rattle.what_comes_back.specs.Tells.{told};
 
 // The result's length, its count of definitions and the count lifted; or a code, and the place of the item at fault where it has one.
-#[derive(Drop)]
+#[derive(Clone, Copy)]
 pub enum Elaborated {
     Done {
         length: u16,
@@ -18,7 +20,7 @@ pub enum Elaborated {
 }
 
 // The premise test's answer: yes, no, or a code and a place.
-#[derive(Drop)]
+#[derive(Clone, Copy)]
 pub enum Tested {
     Holds,
     Fails,
@@ -27,7 +29,7 @@ pub enum Tested {
 
 // An elaboration's answer in numbers.
 #[repr(C)]
-#[derive(Drop)]
+#[derive(Clone, Copy)]
 pub struct Report {
     pub code: u32,
     pub length: u32,
@@ -38,7 +40,7 @@ pub struct Report {
 
 // The premise test's: the code, 1 for yes, and the place.
 #[repr(C)]
-#[derive(Drop)]
+#[derive(Clone, Copy)]
 pub struct Numbers {
     pub code: u32,
     pub holds: u32,

@@ -1,11 +1,13 @@
 // The words that the program `listing` is started with.
+#![tactic(auto)]
+
 ghost use Rattle.std.specs.Prelude.{◌≡◌};
 ghost use Rattle.words.specs.Mode.{mode_of};
 
 use layout::lookup::same_name;
 
 // What it lists: in document 01's mode, in the nested one of document 02 b, or nothing, since the words are others.
-#[derive(Drop)]
+#[derive(Clone, Copy)]
 pub enum Mode {
     Plain,
     Nested,

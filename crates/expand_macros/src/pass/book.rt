@@ -86,7 +86,7 @@ fn expand_definition(
 
 // Between two definitions: how many are left, the entry of the first of them and where its body begins; where the next entry is written, and
 // where the next body.
-#[derive(Drop)]
+#[derive(Clone, Copy)]
 struct Turn {
     pub left: usize,
     pub entry: usize,

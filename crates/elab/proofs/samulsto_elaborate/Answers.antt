@@ -1,0 +1,11 @@
+use mathlib.Core.Path.{ap, ◌∙◌}
+use Rattle.definition.specs.Answer.{Answer}
+use Rattle.elab.proofs.Numbers.{plain_numbers}
+use Rattle.elab.proofs.samulsto_elaborate.Goals as goal
+
+pub returns : goal.returns
+returns c =
+    let n = c.elaborated_in_numbers.ensures in
+    let e = c.elaborate-e.ensures in
+    let a = plain_numbers _ _ _ e.0 in
+    ((n.0 ∙ ap (λ (x : Answer). x.code) a, n.1 ∙ ap (λ (x : Answer). x.size) a, n.2 ∙ ap (λ (x : Answer). x.definitions) a, n.3 ∙ ap (λ (x : Answer). x.lifts) a, n.4 ∙ ap (λ (x : Answer). x.at) a), e.1)

@@ -1,0 +1,7 @@
+use mathlib.Core.Path.{refl}
+use Rattle.elaborate.proofs.Answering.{answers_it, fills_it}
+use Rattle.buffer.proofs.zeroing.Zero.{all_zero}
+use Rattle.elaborate.proofs.elaborate.Goals as goal
+
+pub returns : goal.returns
+returns c = (answers_it _ _ c.attempt-answer.ensures, (fills_it _ _ c.attempt-answer.ensures, all_zero _ _ _ _ c.zero_range.auto.work refl c.zero_range.ensures))

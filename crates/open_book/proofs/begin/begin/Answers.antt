@@ -1,0 +1,21 @@
+use native.Mathlib.Omega.{arith}
+use Rattle.open_book.proofs.begin.Beginning.{all_bytes, begins_1, begins_2, begins_bad, verdict_inside, begins_sound, begins_plain}
+use Rattle.open_book.proofs.begin.begin.Goals as goal
+
+pub returns-then-work-lt65536 : goal.returns-then-work-lt65536
+returns-then-work-lt65536 c = begins_1 _ _ c.if-work-lt65536.true
+
+pub returns-then-book-gt16384 : goal.returns-then-book-gt16384
+returns-then-book-gt16384 c = begins_2 _ _ c.if-work-lt65536.false c.if-book-gt16384.true
+
+pub overflow_cast-result : goal.overflow_cast-result
+overflow_cast-result c = omega (arith, verdict_inside c.args.book.now _ c.if-work-lt65536.false c.if-book-gt16384.false c.read-verdict.ensures c.in-Refused.is)
+
+pub returns-then-has_no_macros : goal.returns-then-has_no_macros
+returns-then-has_no_macros c = begins_plain _ _ c.if-work-lt65536.false c.if-book-gt16384.false (begins_sound _ _ c.if-work-lt65536.false c.if-book-gt16384.false c.read-verdict.ensures c.in-Sound.is (all_bytes c.args.book.now (λ i. omega (arith, c..auto.shared_slice_known i)))) c.has_no_macros.ensures c.if-has_no_macros.true
+
+pub returns-in-Refused : goal.returns-in-Refused
+returns-in-Refused c = begins_bad _ _ c.if-work-lt65536.false c.if-book-gt16384.false c.read-verdict.ensures c.in-Refused.is
+
+pub returns-else-has_no_macros : goal.returns-else-has_no_macros
+returns-else-has_no_macros c = begins_sound _ _ c.if-work-lt65536.false c.if-book-gt16384.false c.read-verdict.ensures c.in-Sound.is (all_bytes c.args.book.now (λ i. omega (arith, c..auto.shared_slice_known i)))

@@ -1,0 +1,6 @@
+use Rattle.write_result.proofs.result.Adds.{result_is}
+use Rattle.write_result.proofs.result.Result.{writes}
+use Rattle.write_result.proofs.result.write_result.Goals as goal
+
+pub returns : goal.returns
+returns c = writes _ _ _ (result_is _ _ _ _ c.number-kept.ensures c.put_u16.ensures c.add_all.ensures)
