@@ -1,3 +1,1 @@
-pub mod Held
-pub mod Again
-mod Number
+mod Written

@@ -10,47 +10,56 @@ ghost use Rattle.buffer.specs.writer.Written.{written};
 
 use crate::numbers::minus;
 
-#[derive(Drop)]
 pub struct Writer<'a> {
     pub buf: &'a mut [u8],
     pub at: usize,
 }
 
-// One byte.
-fn put_byte<'a>(w: Writer<'a>, x: u8) -> Writer<'a>
-    ensures same_reference { result.buf.ghost_name ≡ w.entry.buf.ghost_name }
-    ensures value { result ≡ written w.entry (x ∷ []) }
-{
-    let at = w.at;
-    let next = crate::writes::put_byte(x, &mut *w.buf, at);
-    Writer {
-        buf: w.buf,
-        at: next,
+impl<'a> Writer<'a> {
+    // A writer over a buffer, its next byte at a place.
+    pub fn new(buf: &'a mut [u8], at: usize) -> Writer<'a>
+        ensures same_reference { result.buf.ghost_name ≡ buf.entry.ghost_name }
+        ensures value { result ≡ record { buf = buf.entry; at = at } }
+    {
+        Writer { buf: buf, at: at }
     }
 }
 
-// A number in two bytes, the lower first.
-fn put_u16<'a>(w: Writer<'a>, n: u16) -> Writer<'a>
-    ensures same_reference { result.buf.ghost_name ≡ w.entry.buf.ghost_name }
-    ensures value { result ≡ written w.entry (w_u16 n []) }
-{
-    let at = w.at;
-    let next = crate::writes::put_u16(n, &mut *w.buf, at);
-    Writer {
-        buf: w.buf,
-        at: next,
+// What a writer leaves in the buffer is what its buffer holds when it is let go.
+impl Drop for Writer<'_> {
+    fn drop(self)
+        ensures { self.exit.0.now ≡ self.entry.buf.now }
+    {
+        let Writer { buf, at } = self;
     }
+}
+
+// One byte.
+fn put_byte(w: &mut Writer, x: u8)
+    ensures same_reference { w.new.buf.ghost_name ≡ w.old.buf.ghost_name }
+    ensures value { w.new ≡ written w.old (x ∷ []) }
+{
+    w.at = crate::writes::put_byte(x, &mut *w.buf, w.at);
+}
+
+// A number in two bytes, the lower first.
+fn put_u16(w: &mut Writer, n: u16)
+    ensures same_reference { w.new.buf.ghost_name ≡ w.old.buf.ghost_name }
+    ensures value { w.new ≡ written w.old (w_u16 n []) }
+{
+    w.at = crate::writes::put_u16(n, &mut *w.buf, w.at);
 }
 
 // An entry: kind, a zero byte, place and size.
 fn entry_at(kind: u8, from: u16, size: u16, out: &mut [u8], at: usize) -> usize
     ensures { Wrote out.old at (kind ∷ 0 ∷ w_u16 from (w_u16 size [])) out.new result }
 {
-    let a = put_byte(Writer { buf: out, at: at }, kind);
-    let b = put_byte(a, 0);
-    let c = put_u16(b, from);
-    let d = put_u16(c, size);
-    d.at
+    let mut w = Writer::new(out, at);
+    put_byte(&mut w, kind);
+    put_byte(&mut w, 0);
+    put_u16(&mut w, from);
+    put_u16(&mut w, size);
+    w.at
 }
 
 // The entry of a body that stands from one place up to another.

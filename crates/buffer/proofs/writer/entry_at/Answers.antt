@@ -1,10 +1,16 @@
-use Rattle.std.proofs.Common.{rules, ◌≡◌, [], ◌∷◌, ◌-◌, ℕ, ◌+◌, ◌*◌, ◌<◌, ◌≤◌, length, ◌/◌, ◌%◌, Bool, true, false, nat_eq, nat_lt, List, ◌++◌, slice_index_or, slice_set, bit_and, bit_or, Fits, w8, w32, w64, Bor, MutBor}
+use Rattle.std.proofs.Common.{◌≡◌, ◌∙◌, sym, ap}
 use Rattle.definition.specs.Write.{w_u16}
-use Rattle.buffer.specs.writes.Buf.{Wrote}
-use Rattle.buffer.specs.writer.Entry.{entry_bytes}
-use Rattle.buffer.specs.writer.Written.{written}
+use Rattle.buffer.proofs.writes.Wrote.{glue}
+use Rattle.buffer.proofs.writer.Written.{wrote_of}
 use Rattle.buffer.proofs.writer.entry_at.Goals as goal
 
--- src/writer.rt:46:1
 pub returns : goal.returns
-returns c = ?
+unfolding w_u16
+returns c =
+    let a = wrote_of c.put_byte.ensures.value in
+    let b = wrote_of c.put_byte-2.ensures.value in
+    let d = wrote_of c.put_u16.ensures.value in
+    let e = wrote_of c.put_u16-2.ensures.value in
+    let last = c.out-1.given.1.1 (cc) ∙ c.drop-w.ensures in
+    let first = c.new-w.ensures.value in
+    rw last (rw first at (glue (glue (glue a b) d) e))
