@@ -34,8 +34,18 @@ class Fn:
             for new,old,sub in fs:
                 if norm(old)==l and sub and rest[:len(sub)]==list(sub) and (best is None or len(sub)>len(best[0])): best=(sub,arm,new)
         if best: return [best[1],best[2]]+rest[len(best[0]):]
+        if rest[:1]==['given'] and re.search(r'known\d*$',l):
+            base=re.sub(r'\d+$','',l); num=lambda s:int(re.search(r'(\d*)$',s)[1] or 1)
+            ty=self.d['typed'][anc[0]] if anc else []
+            ty=[(v,norm(o)) for v,o in ty if re.sub(r'\d+$','',norm(o))==base]
+            ex=[v for v,o in ty if o==l]
+            if len({v for v,o in ty})==1: return ['type_inv',ty[0][0]]+rest[1:]
+            if len(ex)==1: return ['type_inv',ex[0]]+rest[1:]
+            return ['type_inv','VAR-'+'|'.join(v+':'+o for v,o in ty)]+rest[1:]
         if rest[:1]==['given'] and label in given:
-            i=given[label]; par=self.idx[self.d['places'][i][1]]; lab=self.d['places'][par][2]
+            i=given[label]; par=self.idx[self.d['places'][i][1]]
+            while self.d['places'][par][3] is None and self.d['places'][par][1] and not self.d['places'][par][0].startswith('At-'): par=self.idx[self.d['places'][par][1]]
+            lab=self.d['places'][par][2]
             return [lab[1],'auto',re.sub(r'\d+$','',l)]+rest[1:]
         for i in anc:
             lab=self.d['places'][i][2]

@@ -7,7 +7,7 @@ pub returns-then-table-at : goal.returns-then-table-at
 returns-then-table-at c = (sym (get_or-eq_default c.args.table.now 0 c.if-table-at.true), omega arith)
 
 pub overflow_cast-result : goal.overflow_cast-result
-overflow_cast-result c = omega (arith, c.if-table-at.auto.shared_slice_known c.args.at)
+overflow_cast-result c = omega (arith, c.type_inv.table c.args.at)
 
 pub returns : goal.returns
-returns c = (refl, omega (arith, c.if-table-at.auto.shared_slice_known c.args.at))
+returns c = (refl, omega (arith, c.type_inv.table c.args.at))

@@ -76,6 +76,6 @@ loop-e-smaller c = round_less_open c.loop-e.invariant.0 _ c.next_step-step.ensur
 
 pub loop-e-preserved : goal.loop-e-preserved
 loop-e-preserved c = (
-  round_open c.loop-e.invariant.0 _ c.next_step-step.ensures c.in-Child.is c.next_step-step.auto.path c.open_child-child.ensures.0 c.in-Opened.is c.open_child-child.ensures.1 (put_in _ _ _ c.put_away-waiting.ensures) c.open_child-child.auto.path c.slice_known-in-Child-1.auto.bound c.slice_known-in-Child-2-1.auto.uses c.slice_known-in-Child-3-1.auto.spare,
-  lengths_on c.loop-e.invariant.1 (record { path = c.open_child-child.auto.path ∙ c.next_step-step.auto.path; binders = refl; bound = c.slice_known-in-Child-1.auto.bound; uses = c.slice_known-in-Child-2-1.auto.uses; spare = c.slice_known-in-Child-3-1.auto.spare; sheet = c.slice_known-in-Child-4-1.auto.sheet; places = c.slice_known-in-Child-5-1.auto.places; ways = c.slice_known-in-Child-6-1.auto.ways; hints = c.slice_known-in-Child-7-1.auto.hints; number = c.slice_known-in-Child-8-1.auto.number }),
+  round_open c.loop-e.invariant.0 _ c.next_step-step.ensures c.in-Child.is c.next_step-step.auto.path c.open_child-child.ensures.0 c.in-Opened.is c.open_child-child.ensures.1 (put_in _ _ _ c.put_away-waiting.ensures) c.open_child-child.auto.path c.open_child-child.auto.bound c.open_child-child.auto.uses c.open_child-child.auto.spare,
+  lengths_on c.loop-e.invariant.1 (record { path = c.open_child-child.auto.path ∙ c.next_step-step.auto.path; binders = refl; bound = c.open_child-child.auto.bound; uses = c.open_child-child.auto.uses; spare = c.open_child-child.auto.spare; sheet = c.open_child-child.auto.sheet; places = c.open_child-child.auto.places; ways = c.open_child-child.auto.ways; hints = c.open_child-child.auto.hints; number = c.open_child-child.auto.number }),
 )

@@ -39,15 +39,15 @@ loop-d-preserved c =
       going_step i.0 (omega (arith, c.loop-d-test.true)) c.byte-kind.ensures (rw c.in-Named.is at c.expand_definition.ensures) c.requires.2 c.next_definition-d.ensures,
       record {
         path = c.expand_definition.auto.path ∙ i.1.path;
-        binders = c.slice_known-in-loop-d-1.auto.binders ∙ i.1.binders;
-        bound = c.slice_known-in-loop-d-2-1.auto.bound ∙ i.1.bound;
-        uses = c.slice_known-in-loop-d-3-1.auto.uses ∙ i.1.uses;
-        spare = c.slice_known-in-loop-d-4-1.auto.spare ∙ i.1.spare;
-        sheet = c.slice_known-in-loop-d-5-1.auto.sheet ∙ i.1.sheet;
-        places = c.slice_known-in-loop-d-6-1.auto.places ∙ i.1.places;
-        ways = c.slice_known-in-loop-d-7-1.auto.ways ∙ i.1.ways;
-        hints = c.slice_known-in-loop-d-8-1.auto.hints ∙ i.1.hints;
-        number = c.slice_known-in-loop-d-9-1.auto.number ∙ i.1.number;
+        binders = c.expand_definition.auto.binders ∙ i.1.binders;
+        bound = c.expand_definition.auto.bound ∙ i.1.bound;
+        uses = c.expand_definition.auto.uses ∙ i.1.uses;
+        spare = c.expand_definition.auto.spare ∙ i.1.spare;
+        sheet = c.expand_definition.auto.sheet ∙ i.1.sheet;
+        places = c.expand_definition.auto.places ∙ i.1.places;
+        ways = c.expand_definition.auto.ways ∙ i.1.ways;
+        hints = c.expand_definition.auto.hints ∙ i.1.hints;
+        number = c.expand_definition.auto.number ∙ i.1.number;
       },
     )
 

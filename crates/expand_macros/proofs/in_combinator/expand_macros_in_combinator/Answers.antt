@@ -8,13 +8,13 @@ pub loop-i-init : goal.loop-i-init
 loop-i-init c = record { low = omega arith; areas_long = refl; row_long = refl; out_long = refl; goes = λ d r e. e }
 
 pub overflow_cast-call : goal.overflow_cast-call
-overflow_cast-call c = omega (arith, c.loop-i-test.auto.shared_slice_known c.loop-i.i)
+overflow_cast-call c = omega (arith, c.type_inv.marks c.loop-i.i)
 
 pub overflow_cast-end : goal.overflow_cast-end
-overflow_cast-end c = omega (arith, c.shared_slice_known-in-loop-i-1.auto.shared_slice_known (c.loop-i.i + 1))
+overflow_cast-end c = omega (arith, c.type_inv.marks (c.loop-i.i + 1))
 
 pub returns-then-out-o : goal.returns-then-out-o
-returns-then-out-o c = c.loop-i.invariant.goes _ _ (expanding_stop c.loop-i-test.true (rw c.in-At.is at c.macro_of-found.ensures) c.put_part-q.ensures c.expand_call-o.ensures c.slice_known-in-At-3-1.auto.out c.if-out-o.true)
+returns-then-out-o c = c.loop-i.invariant.goes _ _ (expanding_stop c.loop-i-test.true (rw c.in-At.is at c.macro_of-found.ensures) c.put_part-q.ensures c.expand_call-o.ensures c.expand_call-o.auto.out c.if-out-o.true)
 
 pub loop-i-preserved-else-out-o : goal.loop-i-preserved-else-out-o
 loop-i-preserved-else-out-o c =
@@ -23,9 +23,9 @@ loop-i-preserved-else-out-o c =
     record {
       low = omega arith;
       areas_long = c.expand_call-o.auto.areas ∙ l.areas_long;
-      row_long = c.slice_known-in-At-2-1.auto.row ∙ l.row_long;
-      out_long = c.slice_known-in-At-3-1.auto.out ∙ c.put_part-q.auto.out ∙ l.out_long;
-      goes = λ d r e. l.goes d r (expanding_call t (rw c.in-At.is at c.macro_of-found.ensures) c.put_part-q.ensures c.expand_call-o.ensures c.slice_known-in-At-3-1.auto.out c.expand_call-o.auto.areas e);
+      row_long = c.expand_call-o.auto.row ∙ l.row_long;
+      out_long = c.expand_call-o.auto.out ∙ c.put_part-q.auto.out ∙ l.out_long;
+      goes = λ d r e. l.goes d r (expanding_call t (rw c.in-At.is at c.macro_of-found.ensures) c.put_part-q.ensures c.expand_call-o.ensures c.expand_call-o.auto.out c.expand_call-o.auto.areas e);
     }
 
 pub loop-i-preserved : goal.loop-i-preserved

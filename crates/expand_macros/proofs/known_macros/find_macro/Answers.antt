@@ -9,7 +9,7 @@ pub returns-then-places-row : goal.returns-then-places-row
 returns-then-places-row c = finds_far _ _ _ _ _ c.slot_of-x.ensures c.row_at-row.ensures.0 c.if-n-row.false c.if-places-row.true
 
 pub overflow_cast-at : goal.overflow_cast-at
-overflow_cast-at c = omega (arith, c.if-places-row.auto.shared_slice_known c.row_at-row.result)
+overflow_cast-at c = omega (arith, c.type_inv.places c.row_at-row.result)
 
 pub returns-then-same_name : goal.returns-then-same_name
 returns-then-same_name c = finds_here _ _ _ _ _ c.slot_of-x.ensures c.row_at-row.ensures.0 c.if-n-row.false c.name_at.ensures c.same_name.ensures c.if-same_name.true

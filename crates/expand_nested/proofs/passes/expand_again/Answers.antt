@@ -17,7 +17,7 @@ returns-in-Grown c =
 pub loop-left-preserved : goal.loop-left-preserved
 loop-left-preserved c =
     let l = c.loop-left.invariant in
-    (c.pass_back-got.auto.book ∙ l.0, c.slice_known-in-loop-left-1.auto.areas ∙ l.1, c.slice_known-in-loop-left-2-1.auto.next ∙ l.2, record { goes = λ a r t. l.3.goes a r (again_step c.first_bytes-here.ensures c.settled.ensures c.if-settled.false c.loop-left-test.true l.1 l.2 (rw c.in-Book.is at c.pass_back-got.ensures) c.pass_back-got.auto.book t) })
+    (c.pass_back-got.auto.book ∙ l.0, c.pass_back-got.auto.areas ∙ l.1, c.pass_back-got.auto.next ∙ l.2, record { goes = λ a r t. l.3.goes a r (again_step c.first_bytes-here.ensures c.settled.ensures c.if-settled.false c.loop-left-test.true l.1 l.2 (rw c.in-Book.is at c.pass_back-got.ensures) c.pass_back-got.auto.book t) })
 
 pub returns-then-settled-2 : goal.returns-then-settled-2
 returns-then-settled-2 c = c.loop-left.invariant.3.goes _ _ (again_settled c.first_bytes-last.ensures c.settled-2.ensures c.if-settled-2.true)

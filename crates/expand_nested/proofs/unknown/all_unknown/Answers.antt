@@ -8,7 +8,7 @@ pub loop-i-init : goal.loop-i-init
 loop-i-init c = (omega arith, marked_all)
 
 pub overflow_cast-call : goal.overflow_cast-call
-overflow_cast-call c = omega (arith, c.loop-i-test.auto.shared_slice_known c.loop-i.i)
+overflow_cast-call c = omega (arith, c.type_inv.marks c.loop-i.i)
 
 pub returns-then-not-is_unknown : goal.returns-then-not-is_unknown
 returns-then-not-is_unknown c = marked_stop c.loop-i.invariant.1 c.loop-i-test.true c.is_unknown.ensures (not-true _ c.if-not-is_unknown.true)

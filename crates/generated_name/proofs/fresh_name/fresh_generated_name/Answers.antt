@@ -13,7 +13,7 @@ pub returns-then-found-n : goal.returns-then-found-n
 returns-then-found-n c = (chosen_base c.find_name-found.ensures c.if-found-n.true (omega arith), c.requires.1)
 
 pub overflow_cast-first : goal.overflow_cast-first
-overflow_cast-first c = omega (arith, c.if-found-n.auto.slice_known c.find_name-found.result)
+overflow_cast-first c = omega (arith, c.type_inv.hints c.find_name-found.result)
 
 pub first_free-free-requires : goal.first_free-free-requires
 first_free-free-requires c =

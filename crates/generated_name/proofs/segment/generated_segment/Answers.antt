@@ -19,20 +19,20 @@ unfolding eq_name kept letter letters
 loop-i-init c = (omega arith, tested _ refl tt, wrote_none _ _ (omega arith))
 
 pub overflow_cast-x : goal.overflow_cast-x
-overflow_cast-x c = omega (arith, c.loop-i-test.auto.shared_slice_known c.loop-i.i)
+overflow_cast-x c = omega (arith, c.type_inv.label c.loop-i.i)
 
 pub bounds-table-label : goal.bounds-table-label
-bounds-table-label c = omega (arith, c.loop-i-test.auto.shared_slice_known c.loop-i.i)
+bounds-table-label c = omega (arith, c.type_inv.label c.loop-i.i)
 
 pub loop-i-preserved-then-x-ne0 : goal.loop-i-preserved-then-x-ne0
 loop-i-preserved-then-x-ne0 c =
     let l = c.loop-i in
-    (omega arith, l.invariant.1, keeps _ _ _ _ _ l.i _ (omega arith) (l.invariant.1.rule _ (omega (arith, c.loop-i-test.auto.shared_slice_known l.i))) l.invariant.2 c.if-x-ne0.true c.put_byte-o.ensures)
+    (omega arith, l.invariant.1, keeps _ _ _ _ _ l.i _ (omega arith) (l.invariant.1.rule _ (omega (arith, c.type_inv.label l.i))) l.invariant.2 c.if-x-ne0.true c.put_byte-o.ensures)
 
 pub loop-i-preserved : goal.loop-i-preserved
 loop-i-preserved c =
     let l = c.loop-i in
-    (omega arith, l.invariant.1, drops _ _ _ _ _ l.i _ (omega arith) (l.invariant.1.rule _ (omega (arith, c.loop-i-test.auto.shared_slice_known l.i))) l.invariant.2 c.if-x-ne0.false)
+    (omega arith, l.invariant.1, drops _ _ _ _ _ l.i _ (omega arith) (l.invariant.1.rule _ (omega (arith, c.type_inv.label l.i))) l.invariant.2 c.if-x-ne0.false)
 
 pub returns : goal.returns
 returns c =

@@ -9,10 +9,10 @@ unfolding fours
 loop-i-init c = (omega arith, c.words_hash-h.ensures.1, c.words_hash-h.ensures.0)
 
 pub overflow_cast-name : goal.overflow_cast-name
-overflow_cast-name c = omega (arith, c.loop-i-test.auto.shared_slice_known c.loop-i.i)
+overflow_cast-name c = omega (arith, c.type_inv.name c.loop-i.i)
 
 pub mix-h-requires : goal.mix-h-requires
-mix-h-requires c = (omega arith, omega (arith, c.loop-i-test.auto.shared_slice_known c.loop-i.i))
+mix-h-requires c = (omega arith, omega (arith, c.type_inv.name c.loop-i.i))
 
 pub loop-i-preserved : goal.loop-i-preserved
 loop-i-preserved c =

@@ -4,16 +4,16 @@ use Prim.Native.Nat.{◌+◌}
 use Rattle.layout.proofs.hash.pair.Goals as goal
 
 pub overflow_cast-low : goal.overflow_cast-low
-overflow_cast-low c = omega (arith, c..auto.shared_slice_known c.args.i)
+overflow_cast-low c = omega (arith, c.type_inv.name c.args.i)
 
 pub overflow_cast-high : goal.overflow_cast-high
-overflow_cast-high c = omega (arith, c..auto.shared_slice_known c.args.i, c.shared_slice_known-1.auto.shared_slice_known (c.args.i + 1))
+overflow_cast-high c = omega (arith, c.type_inv.name c.args.i, c.type_inv.name (c.args.i + 1))
 
 pub overflow_mul-result : goal.overflow_mul-result
-overflow_mul-result c = omega (arith, c..auto.shared_slice_known c.args.i, c.shared_slice_known-1.auto.shared_slice_known (c.args.i + 1))
+overflow_mul-result c = omega (arith, c.type_inv.name c.args.i, c.type_inv.name (c.args.i + 1))
 
 pub overflow_add-result : goal.overflow_add-result
-overflow_add-result c = omega (arith, c..auto.shared_slice_known c.args.i, c.shared_slice_known-1.auto.shared_slice_known (c.args.i + 1))
+overflow_add-result c = omega (arith, c.type_inv.name c.args.i, c.type_inv.name (c.args.i + 1))
 
 pub returns : goal.returns
-returns c = (refl, omega (arith, c..auto.shared_slice_known c.args.i, c.shared_slice_known-1.auto.shared_slice_known (c.args.i + 1)))
+returns c = (refl, omega (arith, c.type_inv.name c.args.i, c.type_inv.name (c.args.i + 1)))

@@ -12,7 +12,7 @@ pub returns-then-s-at : goal.returns-then-s-at
 returns-then-s-at c = sym (name_none _ _ (omega arith))
 
 pub overflow_cast-n : goal.overflow_cast-n
-overflow_cast-n c = omega (arith, c.if-s-at.auto.shared_slice_known c.args.at)
+overflow_cast-n c = omega (arith, c.type_inv.s c.args.at)
 
 pub returns-then-s-first : goal.returns-then-s-first
 returns-then-s-first c =

@@ -21,7 +21,7 @@ pub overflow_cast-lifted : goal.overflow_cast-lifted
 overflow_cast-lifted c = omega (arith, (small (rw c.in-Named.is at c.expand_definitions-body.ensures) c.requires.0).lifts)
 
 pub write_parts-requires : goal.write_parts-requires
-write_parts-requires c = omega (arith, c.slice_known-11-1.auto.sheet, c.requires.2)
+write_parts-requires c = omega (arith, c.expand_definitions-body.auto.sheet, c.requires.2)
 
 pub returns-in-Refused : goal.returns-in-Refused
 returns-in-Refused c = lifts_refused (rw c.in-Refused.is at c.expand_definitions-body.ensures)

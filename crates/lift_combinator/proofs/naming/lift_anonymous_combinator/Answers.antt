@@ -28,12 +28,12 @@ enter_lift-entered-requires c =
     let w = p.1.whole in
     let m = whole_within w in
     let k = count_short w s.args.bound.now s.args.uses.now s.args.spare.now p.2 p.0.source e in (
-      tables_hinted p.0 (rw (made_lent c.args.sheet.now) at c.fresh_generated_name-n.ensures).1 (omega (arith, c.slice_known-10-1.auto.hints)),
+      tables_hinted p.0 (rw (made_lent c.args.sheet.now) at c.fresh_generated_name-n.ensures).1 (omega (arith, c.fresh_generated_name-n.auto.hints)),
       omega (arith, w.is.reach, p.0.source),
       omega (arith, p.0.source),
       c.if-path-n.false,
       omega (arith, p.3, c.fresh_generated_name-n.auto.path, c.if-path-n.false),
-      omega (arith, p.2.uses_long, c.slice_known-12-1.auto.uses),
+      omega (arith, p.2.uses_long, c.lift_params-found.auto.uses),
       omega (arith, p.0.source),
       p.4,
       p.5,

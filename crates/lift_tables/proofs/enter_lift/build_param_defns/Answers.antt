@@ -27,7 +27,7 @@ pub overflow_add-names-in-Bound : goal.overflow_add-names-in-Bound
 overflow_add-names-in-Bound c = let short = use-short _ _ c.name_of_use-name.ensures in omega arith
 
 pub overflow_add-types : goal.overflow_add-types
-overflow_add-types c = omega (arith, c.slice_known-in-Bound-1.auto.struct_known)
+overflow_add-types c = omega (arith, c.type_inv.VAR-)
 
 pub loop-i-preserved : goal.loop-i-preserved
 loop-i-preserved c =
@@ -43,7 +43,7 @@ loop-i-preserved c =
     let short = use-short _ _ n.ensures in
     let sized = found_sized _ _ _ 0 _ d e (λ j h. s.requires.4 j (omega arith)) in (
       omega (arith, c.loop-i-test.true),
-      record { names_least = omega (arith, w.names_least); names_most = omega (arith, w.names_most); types_least = omega (arith, w.types_least); types_most = omega (arith, c.slice_known-in-Bound-1.auto.struct_known, w.types_most) },
+      record { names_least = omega (arith, w.names_least); names_most = omega (arith, w.names_most); types_least = omega (arith, w.types_least); types_most = omega (arith, c.type_inv.VAR-, w.types_most) },
       filled_more l.invariant.2 (omega (arith, s.requires.1, c.loop-i-test.true)) d
           (rw (← n.ensures) (first_found s.args.s.now s.args.binders.now n.result.now 0 s.args.b ∙ (rw e)))
           u.params q,

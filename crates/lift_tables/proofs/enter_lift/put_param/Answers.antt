@@ -7,7 +7,7 @@ use Rattle.lift_tables.proofs.enter_lift.put_param.Goals as goal
 pub returns : goal.returns
 returns c =
     let s = c.before.before.before.before.before.before.before.before.before.before.before.before.before.before.before.before.before.before.before in
-    let z = c.struct_known-1.auto.struct_known in
+    let z = c.type_inv.VAR- in
     let a = c.put_in_params.ensures in
     let b = c.put_in_params-2.ensures in
     let d = c.put_in_params-3.ensures in

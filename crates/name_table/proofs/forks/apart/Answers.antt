@@ -19,4 +19,4 @@ pub bits_apart-requires : goal.bits_apart-requires
 bits_apart-requires c = (c.name_hash-g.ensures, c.name_hash-h.ensures, omega (arith, c.byte_apart.ensures.1, c.requires))
 
 pub returns : goal.returns
-returns c = apart_own _ _ c.bits_apart-d.ensures c.if-d-lt32.false (rw (← c.byte_apart.ensures.0) c.byte_apart.ensures.1) (λ j. omega (arith, c..auto.shared_slice_known j)) (λ j. omega (arith, c.shared_slice_known-1.auto.shared_slice_known j)) c.byte_apart.ensures.0 refl c.bits_apart.ensures
+returns c = apart_own _ _ c.bits_apart-d.ensures c.if-d-lt32.false (rw (← c.byte_apart.ensures.0) c.byte_apart.ensures.1) (λ j. omega (arith, c.type_inv.a j)) (λ j. omega (arith, c.type_inv.b j)) c.byte_apart.ensures.0 refl c.bits_apart.ensures

@@ -10,7 +10,7 @@ pub overflow_mul-left : goal.overflow_mul-left
 overflow_mul-left c = let i = c.loop-left.invariant in search (rules, i.0)
 
 pub loop-left-preserved : goal.loop-left-preserved
-loop-left-preserved c = let i = c.loop-left.invariant in (omega (arith, i.0), back_step i.1 c.loop-left-test.true c.past-entry.ensures c.take_entry-n.auto.places c.slice_known-in-loop-left-1.auto.ways c.take_entry-n.ensures)
+loop-left-preserved c = let i = c.loop-left.invariant in (omega (arith, i.0), back_step i.1 c.loop-left-test.true c.past-entry.ensures c.take_entry-n.auto.places c.take_entry-n.auto.ways c.take_entry-n.ensures)
 
 pub returns : goal.returns
 returns c = back_all c.loop-left.invariant.1 (omega (arith, c.loop-left-test.false))

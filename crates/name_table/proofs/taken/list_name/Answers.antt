@@ -7,10 +7,10 @@ pub enter_row-requires : goal.enter_row-requires
 enter_row-requires c =
     let s = c.before.before.before.before.before.before.before in
     let p = s.requires in
-    (rw c.name_at.ensures (name_short s.args.book.now s.args.at s.args.places.now s.args.n p.0 (omega (arith, c..auto.shared_slice_known s.args.at)) p.1 p.2), p.1, p.2)
+    (rw c.name_at.ensures (name_short s.args.book.now s.args.at s.args.places.now s.args.n p.0 (omega (arith, c.type_inv.book s.args.at)) p.1 p.2), p.1, p.2)
 
 pub returns : goal.returns
 returns c =
     let s = c.before.before.before.before.before.before.before.before.before.before in
     let p = s.requires in
-    listed s.args.book.now s.args.at s.args.places.now s.args.n p.0 (omega (arith, c..auto.shared_slice_known s.args.at)) p.1 p.2 (rw c.name_at.ensures at c.enter_row.ensures) c.enter_row.auto.ways refl
+    listed s.args.book.now s.args.at s.args.places.now s.args.n p.0 (omega (arith, c.type_inv.book s.args.at)) p.1 p.2 (rw c.name_at.ensures at c.enter_row.ensures) c.enter_row.auto.ways refl

@@ -12,10 +12,10 @@ pub overflow_cast-result : goal.overflow_cast-result
 overflow_cast-result c = omega (arith, verdict_inside c.args.book.now _ c.if-work-lt65536.false c.if-book-gt16384.false c.read-verdict.ensures c.in-Refused.is)
 
 pub returns-then-has_no_macros : goal.returns-then-has_no_macros
-returns-then-has_no_macros c = begins_plain _ _ c.if-work-lt65536.false c.if-book-gt16384.false (begins_sound _ _ c.if-work-lt65536.false c.if-book-gt16384.false c.read-verdict.ensures c.in-Sound.is (all_bytes c.args.book.now (λ i. omega (arith, c..auto.shared_slice_known i)))) c.has_no_macros.ensures c.if-has_no_macros.true
+returns-then-has_no_macros c = begins_plain _ _ c.if-work-lt65536.false c.if-book-gt16384.false (begins_sound _ _ c.if-work-lt65536.false c.if-book-gt16384.false c.read-verdict.ensures c.in-Sound.is (all_bytes c.args.book.now (λ i. omega (arith, c.type_inv.book i)))) c.has_no_macros.ensures c.if-has_no_macros.true
 
 pub returns-in-Refused : goal.returns-in-Refused
 returns-in-Refused c = begins_bad _ _ c.if-work-lt65536.false c.if-book-gt16384.false c.read-verdict.ensures c.in-Refused.is
 
 pub returns-else-has_no_macros : goal.returns-else-has_no_macros
-returns-else-has_no_macros c = begins_sound _ _ c.if-work-lt65536.false c.if-book-gt16384.false c.read-verdict.ensures c.in-Sound.is (all_bytes c.args.book.now (λ i. omega (arith, c..auto.shared_slice_known i)))
+returns-else-has_no_macros c = begins_sound _ _ c.if-work-lt65536.false c.if-book-gt16384.false c.read-verdict.ensures c.in-Sound.is (all_bytes c.args.book.now (λ i. omega (arith, c.type_inv.book i)))

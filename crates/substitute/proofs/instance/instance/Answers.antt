@@ -13,8 +13,8 @@ loop-left-preserved c =
     record {
       good = c.if-good.true;
       areas_long = c.substitute_next-here.auto.areas ∙ l.areas_long;
-      marks_long = c.slice_known-in-loop-left-1.auto.marks ∙ l.marks_long;
-      goes = λ a m r i. l.goes a m r (instanced_step c.substitute_next-here.ensures c.loop-left-test.true c.if-good.true c.substitute_next-here.auto.areas c.slice_known-in-loop-left-1.auto.marks i);
+      marks_long = c.substitute_next-here.auto.marks ∙ l.marks_long;
+      goes = λ a m r i. l.goes a m r (instanced_step c.substitute_next-here.ensures c.loop-left-test.true c.if-good.true c.substitute_next-here.auto.areas c.substitute_next-here.auto.marks i);
     }
 
 pub returns-else-good : goal.returns-else-good

@@ -9,10 +9,10 @@ pub loop-i-init : goal.loop-i-init
 loop-i-init c = copied_none _ _ _ _ _
 
 pub overflow_cast-call : goal.overflow_cast-call
-overflow_cast-call c = omega (arith, c.loop-i-test.auto.shared_slice_known c.loop-i.i)
+overflow_cast-call c = omega (arith, c.type_inv.marks c.loop-i.i)
 
 pub overflow_cast-end : goal.overflow_cast-end
-overflow_cast-end c = omega (arith, c.shared_slice_known-in-loop-i-1.auto.shared_slice_known (c.loop-i.i + 1))
+overflow_cast-end c = omega (arith, c.type_inv.marks (c.loop-i.i + 1))
 
 pub loop-i-preserved-then-calls_name : goal.loop-i-preserved-then-calls_name
 loop-i-preserved-then-calls_name c = copied_call _ _ _ _ _ c.loop-i.invariant c.loop-i-test.true (sym (c.calls_name.ensures ∙ rw c.first_area.ensures) ∙ c.if-calls_name.true) c.put_across-q.ensures c.put_bytes-o.ensures

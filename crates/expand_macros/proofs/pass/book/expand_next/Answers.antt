@@ -8,10 +8,10 @@ returns-then-kind-eq4 c = turned_macro c.byte-kind.ensures c.next_definition-d.e
 pub returns-then-out-r : goal.returns-then-out-r
 returns-then-out-r c =
     turned_stop c.byte-kind.ensures c.next_definition-d.ensures c.if-kind-eq4.false
-    (c.number-size.ensures ∙ rw c.past.ensures) c.expand_definition-r.ensures c.slice_known-7-1.auto.out c.if-out-r.true
+    (c.number-size.ensures ∙ rw c.past.ensures) c.expand_definition-r.ensures c.expand_definition-r.auto.out c.if-out-r.true
 
 pub returns : goal.returns
 returns c =
     turned_step c.byte-kind.ensures c.next_definition-d.ensures c.if-kind-eq4.false
     (c.number-size.ensures ∙ rw c.past.ensures) c.expand_definition-r.ensures c.put_entry-f.auto.out c.if-out-r.false
-    c.put_entry-f.ensures c.expand_definition-r.auto.areas c.slice_known-5-1.auto.marks
+    c.put_entry-f.ensures c.expand_definition-r.auto.areas c.expand_definition-r.auto.marks
