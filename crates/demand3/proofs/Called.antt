@@ -61,7 +61,7 @@ occurs_once : (n : Name) (ms : List Name) → Distinct ms → elem n ms ≡ true
 unfolding occurs elem
 occurs_once n [] d q = not_both false q refl
 occurs_once n (m ∷ ms) d q = by_test (eq_name n m)
-    (λ r. let e = eq_name-true n m r in let o = occurs_not m ms d.0 in rw (e, eq_name_refl m, o) refl)
+    (λ r. let e = eq_name-true n m r in let k : eq_name m n ≡ true = rw e (eq_name_refl m) in let o : occurs n ms ≡ 0 = occurs_not n ms (rw e d.0) in rw k (omega (arith, o)))
     (λ r. rw (eq_name_swap n m r) (omega (arith, occurs_once n ms d.1 (rw r at q))))
 
 -- those of these definitions that have the name n have parameters of these names

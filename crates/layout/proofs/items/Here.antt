@@ -60,8 +60,8 @@ module _ {s : List ℕ} {p : ℕ} where
 
 pub names_here : {s : List ℕ} {p : ℕ} (ns : List Name) {z : List ℕ} → Here s p (w_all w_name ns z) → Here s (names_past_of s (length ns) p) z
 unfolding w_all names_past_of
-names_here [] h = h
-names_here (n ∷ ns) h = names_here ns (name_here n h)
+names_here {s = s} {p = p} [] h = h
+names_here {s = s} {p = p} (n ∷ ns) h = names_here {s = s} {p = name_past_of s p} ns (name_here n h)
 
 pub list_here : {s : List ℕ} {p : ℕ} (ns : List Name) {z : List ℕ} → Here s p (w_list w_name ns z) → Here s (list_past_of s p) z
 unfolding w_list list_past_of
