@@ -1,4 +1,4 @@
-use Rattle.std.proofs.Common.{◌≡◌, length, refl, ◌∙◌, ap, arith}
+use Rattle.std.proofs.Common.{length, refl, ◌∙◌, ap, arith}
 use Rattle.buffer.specs.declared.writer.Writer.{Writer}
 use Rattle.write_result.proofs.result.Adds.{left_all, left_end, all_done, next_left}
 use Rattle.write_result.proofs.result.add_all.Goals as goal

@@ -1,4 +1,4 @@
-use Rattle.std.proofs.Common.{rules, ◌≡◌, ℕ, length, refl, ◌∙◌, sym, ap, arith}
+use Rattle.std.proofs.Common.{length, refl, ◌∙◌, ap, arith}
 use Rattle.buffer.specs.declared.writer.Writer.{Writer}
 use Rattle.expand_macros.proofs.pass.Leftover.{ends_none, ends_some}
 use Rattle.expand_macros.proofs.pass.book.expand_each.Goals as goal
