@@ -1,4 +1,3 @@
-use borrow.Author.Tests.{not-true, not-false}
 use Rattle.walker.proofs.bodies.Places.{every_next, every_stop, every_end}
 use Rattle.premise.specs.called.Known.{known_at}
 use Prim.Native.Nat.{◌-◌}
@@ -13,10 +12,10 @@ pub overflow_cast-call : goal.overflow_cast-call
 overflow_cast-call c = omega (arith, c.type_inv.marks c.loop-i.i)
 
 pub returns-then-not-is_known : goal.returns-then-not-is_known
-returns-then-not-is_known c = every_stop _ _ _ c.loop-i.invariant.1 c.loop-i-test.true c.is_known.ensures (not-true _ c.if-not-is_known.true)
+returns-then-not-is_known c = every_stop _ _ _ c.loop-i.invariant.1 c.loop-i-test.true c.is_known.ensures c.if-not-is_known.true
 
 pub loop-i-preserved : goal.loop-i-preserved
-loop-i-preserved c = (omega arith, every_next _ _ _ c.loop-i.invariant.1 c.loop-i-test.true c.is_known.ensures (not-false _ c.if-not-is_known.false))
+loop-i-preserved c = (omega arith, every_next _ _ _ c.loop-i.invariant.1 c.loop-i-test.true c.is_known.ensures c.if-not-is_known.false)
 
 pub returns : goal.returns
 returns c = every_end (known_at c.args.s.now c.args.places.now c.args.n) c.args.marks.now c.loop-i.i c.loop-i.invariant.1 (omega arith)

@@ -3,4 +3,4 @@ use mathlib.Core.Path.{refl}
 use Rattle.premise.proofs.test.premise.Goals as goal
 
 pub returns : goal.returns
-returns c = (c.test-answer.ensures, all_zero _ _ _ _ c.zero_range.auto.work refl c.zero_range.ensures)
+returns c = record { value = c.test-answer.ensures; work_after = all_zero _ _ _ _ c.test-answer.auto.work refl c.zero_range.ensures }

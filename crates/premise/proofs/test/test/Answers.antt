@@ -1,14 +1,11 @@
 use Prim.Native.Nat.{ℕ}
-use lib.ListN.{length-replicate, length-take}
+use lib.ListN.{length-replicate}
 use Rattle.premise.proofs.test.Telling.{tells_code, tells_yes, tells_no}
 use native.Mathlib.Omega.{arith}
 use Rattle.premise.proofs.test.test.Goals as goal
 
 pub slice_bounds-expanded-end : goal.slice_bounds-expanded-end
 slice_bounds-expanded-end c = omega (arith, ((rw c.in-Book.is at c.open_book-opened.ensures).by (length-replicate {0} {A = ℕ} 16384 0)).fits, (length-replicate {0} {A = ℕ} 16384 0))
-
-pub UNKNOWN-slice-aggregate-init : goal.UNKNOWN-slice-aggregate-init
-UNKNOWN-slice-aggregate-init c = simp length-take (omega (arith, ((rw c.in-Book.is at c.open_book-opened.ensures).by (length-replicate {0} {A = ℕ} 16384 0)).fits, (length-replicate {0} {A = ℕ} 16384 0), c.in-Book.auto.expanded))
 
 pub returns-then-holds : goal.returns-then-holds
 returns-then-holds c = tells_yes (length-replicate {0} {A = ℕ} 16384 0) (rw c.in-Book.is at c.open_book-opened.ensures) c.holds.ensures c.if-holds.true
