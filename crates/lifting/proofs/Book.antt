@@ -5,7 +5,7 @@ use mathlib.Core.List.{List, [], ◌∷◌, map}
 use Prim.Native.Nat.{ℕ, suc, ◌+◌, ◌<◌}
 use native.Mathlib.Omega.{arith}
 use lib.ListN.{length, length-append, length-map}
-use Rattle.definition.specs.Res.{absent, just, Res, ok}
+use Rattle.definition.specs.Res.{bad, absent, just, Res, ok}
 use Rattle.definition.specs.Answer.{outcome}
 use Rattle.definition.specs.Tree.{Param, Definition, format, constant, byte_order, macro}
 use Rattle.definition.specs.Write.{w_all, w_definition, size_of}
@@ -96,6 +96,7 @@ unfolding begin start find
 was_traced ds t e = of (walk_all full ds (start ds)) refl (rw e at (book_both ds))
   where
     of : (m : Res State (List Definition)) → walk_all full ds (start ds) ≡ m → Both (Makes (out_all ds (first_at ds)) (lifts_all ds (first_at ds)) (start ds) (begin ds)) m (ok tt t) → Traced ds t
+    of (bad k u) w v = elim v [ ]
     of (ok es u) w (values g) =
         let l = later_self t.records in
         let z = measures full ds es u w in

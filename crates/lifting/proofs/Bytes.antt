@@ -40,6 +40,7 @@ module _ (s : List ℕ) (rs : List Record) where
       not_here : (a : Bool) (x : ℕ) → suc p ≤ x → (Stands x (lifts c p) → ⊥) → Stands x (lifts c p) ⊎ Stands x (itself a c p) → ⊥
       not_here a x i h (inl k) = h k
       not_here true x i h (inr (inl e)) = omega arith
+      not_here true x i h (inr (inr k)) = k
       not_here false x i h (inr k) = k
 
   pub raw : (w : List ℕ → List ℕ) → Splits w → {p e to : ℕ} {r : List ℕ} → Raw s rs w p p e → p + length (w []) ≡ e → Goes s rs to e r → Goes s rs to p (w r)

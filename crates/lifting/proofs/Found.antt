@@ -41,6 +41,7 @@ pub later_one : (a : List Record) (r : Record) (x : ℕ) → r.at ≡ x → find
 later_one a r x h n = record { keeps = λ y q e. find_other a r y (λ k. let f : find a x ≡ just q = rw (sym h ∙ k) e in let z : ◌≡◌ {A = ℕ} 0 1 = cc in omega arith) ∙ e }
 
 pub stands_left : (x : ℕ) (a b : List Lift) → Stands x a → Stands x (a ++ b)
+stands_left x [] b h = absurd h
 stands_left x (l ∷ a) b (inl e) = inl e
 stands_left x (l ∷ a) b (inr h) = inr (stands_left x a b h)
 
