@@ -1,6 +1,6 @@
 -- A fifth table, for document 02 a: "the offset of the item at fault: the first byte of the count, entry, tag, flag, name or text that failed (of a name or
 -- text, its length), and for leftover bytes the first of them". One theorem over it: `Faults`, proved in proofs/Faults.
-use Rattle.std.specs.Prelude.{List, [], ◌∷◌, ◌++◌, ℕ, replicate}
+use Rattle.std.specs.Prelude.{List, [], ◌∷◌, ◌++◌, replicate}
 use Rattle.definition.specs.Notation.{hex}
 use Rattle.definition.specs.Worked.{refuses_at}
 use Rattle.definition.specs.Asked.{Row, tells_at, lists, raw, Holds}

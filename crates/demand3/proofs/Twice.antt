@@ -9,7 +9,6 @@ use borrow.Author.Tests.{le-leb}
 use Rattle.definition.specs.Res.{ok}
 use Rattle.definition.specs.Out.{done}
 use Rattle.definition.specs.Tree.{Name, Leaf, constraint_int, constraint_enum, bits, enum, tail, nothing, never, CaseKind, Combinator, plain, chained, Inner, leaf, struct, choice, shell, bytes, invocation, macro_invocation, Fields, no_field, field, const, Cases, no_case, case, Param, Definition, format, constant, byte_order, macro}
-use Rattle.definition.specs.Contents.{book}
 use Rattle.definition.specs.Write.{w_book}
 use Rattle.definition.specs.Size.{size_book, levels_book}
 use Rattle.definition.specs.Names.{child, segment, case_segment, shell_segment}

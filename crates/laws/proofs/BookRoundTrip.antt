@@ -9,7 +9,7 @@ use lib.ListN.{length, length-map}
 use borrow.Author.Tests.{eq-eqb, le-leb}
 use Rattle.definition.specs.Res.{ok}
 use Rattle.definition.specs.Tree.{Kind, is_format, is_constant, is_byte_order, is_macro, Entry, Inner, Param, Definition, format, constant, byte_order, macro}
-use Rattle.definition.specs.Read.{part, undotted, byte, name, known, one_of, combinator, arg, params, kinds, definition}
+use Rattle.definition.specs.Read.{part, undotted, byte, known, one_of, combinator, arg, params, kinds, definition}
 use Rattle.definition.specs.Contents.{entry, entries, contents, Body, cut, at_end, whole, within, bodies, count, book}
 use Rattle.definition.specs.Write.{w_u16, w_all, w_list, w_inner, w_param, w_definition, kind_of, kind_byte, size_of, w_entries, w_parts, entry_of, w_book}
 use Rattle.definition.specs.Size.{size_book, levels_i, levels_p, levels_book}

@@ -17,7 +17,7 @@ use Rattle.definition.specs.Collect.{anonymous, free, leftover}
 use Rattle.definition.specs.Lift.{Course, State, Walk, binder, bound, typed, take, grow, measured, append, lift, child_by, bind, walk, walk_i, walk_f, walk_c, walk_all, start, full}
 use Rattle.laws.specs.Laws.{stopped, limited, SumAtEachLift, MeasureIsSize, Left, Within, Over, Code10IsFirstOver}
 use Rattle.laws.proofs.Tests.{by_test, not_both, both_true}
-use Rattle.laws.proofs.Steps.{no_ok, gave, value}
+use Rattle.laws.proofs.Steps.{no_ok, gave}
 use Rattle.laws.proofs.Lifted.{typed_says}
 use Rattle.laws.proofs.Measure.{measures}
 

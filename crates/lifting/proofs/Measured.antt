@@ -21,7 +21,7 @@ use Rattle.laws.proofs.Steps.{Gives, refusal, value}
 use Rattle.lifting.specs.Records.{Ref, own, passed, Record, find, call}
 use Rattle.lifting.specs.After.{chain_at, fields_at, cases_at, shell_at, field_at, const_end, case_at, Lift, lifts_k, type_of, params_of, first_at, Stands, AllFound}
 use Rattle.lifting.specs.Calls.{param_room, byte_head, names_room, call_room}
-use Rattle.lifting.specs.Trace.{Trace, Binder, refs, enter, finish, fits, bind_ref, Tracing, lifting, trace_by, trace, trace_i, trace_f, trace_c, own_binders, params_at, tree_head, trace_all, begin, trace_book}
+use Rattle.lifting.specs.Trace.{Trace, Binder, enter, finish, fits, bind_ref, Tracing, lifting, trace_by, trace, trace_i, trace_f, trace_c, own_binders, params_at, tree_head, trace_all, begin, trace_book}
 use Rattle.lifting.proofs.Both.{alike}
 use Rattle.lifting.proofs.Found.{later_self, later_one, find_other}
 use Rattle.lifting.proofs.Ranges.{Between, in-range, in-rangeK}

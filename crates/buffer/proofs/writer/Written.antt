@@ -1,7 +1,7 @@
 -- What a writer is after a write, as a write of its buffer.
 -- Assumes nothing.
 use Rattle.std.proofs.Common.{◌≡◌, ℕ, List, ap}
-use Rattle.buffer.specs.writes.Buf.{put, after, Wrote}
+use Rattle.buffer.specs.writes.Buf.{Wrote}
 use Rattle.buffer.specs.writer.Written.{written}
 use Rattle.buffer.specs.declared.writer.Writer.{Writer}
 

@@ -1,6 +1,6 @@
 -- The bytes of characters, one at a time.
 -- Assumes nothing.
-use mathlib.Core.Path.{◌≡◌, refl, sym}
+use mathlib.Core.Path.{◌≡◌, refl, sym, ap}
 use mathlib.Core.List.{List, [], ◌∷◌}
 use mathlib.Core.Bool.{false}
 use Prim.Native.Nat.{ℕ, zero, suc, ◌-◌, ◌≤◌, ◌<◌}
@@ -24,7 +24,7 @@ never (b ∷ t) = rw (no_byte b)
 module _ (low high b : ℕ) (t : List ℕ) where
   pub c_lead : (n : ℕ) (q : List Range) → n ≡ 0 → behind b ≡ q → characters (ranges_by n (range low high)) (b ∷ t) ≡ characters q t
   unfolding characters ranges_by
-  c_lead n q e f = rw (e, f)
+  c_lead n q e f = rw e (ap (λ (x : List Range). characters x t) f)
 
   pub c_low : (n : ℕ) → (n ≡ 0 → ⊥) → b < low → characters (ranges_by n (range low high)) (b ∷ t) ≡ characters (ranges_by 1 (range 1 0)) t
   unfolding characters ranges_by

@@ -1,4 +1,4 @@
-use Rattle.std.proofs.Common.{◌≡◌, ◌∙◌, sym, ap}
+use Rattle.std.proofs.Common.{◌∙◌}
 use Rattle.definition.specs.Write.{w_u16}
 use Rattle.buffer.proofs.writes.Wrote.{glue}
 use Rattle.buffer.proofs.writer.Written.{wrote_of}

@@ -1,5 +1,5 @@
 use mathlib.Core.Path.{refl, sym, ◌∙◌}
-use Prim.Native.Nat.{◌+◌, ◌-◌}
+use Prim.Native.Nat.{◌+◌}
 use native.Mathlib.Omega.{arith}
 use Rattle.buffer.specs.writes.Buf.{part}
 use Rattle.buffer.proofs.zeroing.Zero.{put-zeros_none, zeros_more, zeros_there, zeros_end}

@@ -1,4 +1,3 @@
-use Prim.Native.Nat.{◌-◌}
 use native.Mathlib.Omega.{arith}
 use Rattle.layout.specs.hash.Hash.{fours}
 use Rattle.layout.proofs.hash.Hash.{bytes_on, bytes_end}

@@ -1,5 +1,4 @@
 use mathlib.Core.Path.{refl}
-use Prim.Native.Nat.{◌-◌}
 use native.Mathlib.Omega.{arith}
 use Rattle.layout.specs.hash.Hash.{spread}
 use Rattle.layout.proofs.hash.Hash.{words_on, words_end}

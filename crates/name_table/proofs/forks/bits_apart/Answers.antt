@@ -1,5 +1,4 @@
 use mathlib.Core.Path.{sym, ◌∙◌}
-use Prim.Native.Nat.{◌-◌}
 use native.Mathlib.Omega.{arith}
 use Rattle.name_table.proofs.forks.Steps.{bits_start, bits_on, bits_here, bits_done}
 use Rattle.name_table.proofs.forks.bits_apart.Goals as goal

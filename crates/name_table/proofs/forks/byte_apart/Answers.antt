@@ -1,5 +1,4 @@
 use mathlib.Core.Path.{sym, ◌∙◌}
-use Prim.Native.Nat.{◌-◌}
 use native.Mathlib.Omega.{arith}
 use Rattle.layout.specs.items.At.{byte_at}
 use Rattle.name_table.proofs.forks.Steps.{byte_start, byte_here, byte_on, byte_done}

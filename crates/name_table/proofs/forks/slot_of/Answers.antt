@@ -1,5 +1,4 @@
 use mathlib.Core.Path.{sym, ◌∙◌}
-use Prim.Native.Nat.{◌-◌}
 use native.Mathlib.Omega.{arith}
 use Rattle.name_table.proofs.forks.Steps.{way_head, way_start, way_end, way_on, way_done}
 use Rattle.name_table.proofs.forks.slot_of.Goals as goal

@@ -1,3 +1,4 @@
+use native.Mathlib.Omega.{arith}
 use mathlib.Core.Path.{refl}
 use Rattle.definition.specs.Tree.{is_format, is_constant, is_byte_order, is_macro}
 use Rattle.definition.specs.Read.{text, definition}
@@ -19,4 +20,4 @@ pub returns-in-4 : goal.returns-in-4
 returns-in-4 c = rw c.in-4.is (a_kind 4 is_macro refl c.macro_body.ensures)
 
 pub returns-in_default : goal.returns-in_default
-returns-in_default c = no_such_kind _ _ c.in_default.rest.0.0.0.1 c.in_default.rest.0.0.1 c.in_default.rest.0.1 c.in_default.rest.1
+returns-in_default c = no_such_kind _ _ (λ e. omega arith) (λ e. omega arith) (λ e. omega arith) (λ e. omega arith)

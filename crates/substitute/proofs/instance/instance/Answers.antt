@@ -1,5 +1,4 @@
 use mathlib.Core.Path.{refl, ◌∙◌}
-use Prim.Native.Nat.{◌-◌}
 use native.Mathlib.Omega.{arith}
 use Rattle.substitute.proofs.instance.Making.{instanced_none, instanced_stop, instanced_step}
 use Rattle.substitute.proofs.instance.instance.Goals as goal

@@ -1,4 +1,3 @@
-use Prim.Native.Nat.{◌-◌}
 use Rattle.substitute.proofs.instance.Making.{Making}
 use Rattle.substitute.proofs.instance.instance.Given as goal
 

@@ -1,7 +1,6 @@
 use mathlib.Core.Path.{◌∙◌, sym}
-use Prim.Native.Nat.{◌+◌, ◌-◌}
+use Prim.Native.Nat.{◌+◌}
 use native.Mathlib.Omega.{arith}
-use Rattle.buffer.proofs.writes.Wrote as wrote
 use Rattle.substitute.proofs.substitution.Copied.{copied_none, copied_call, copied_other, copied_all}
 use Rattle.substitute.proofs.substitution.substitute_in_combinator.Goals as goal
 

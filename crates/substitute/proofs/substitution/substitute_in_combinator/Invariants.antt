@@ -1,6 +1,5 @@
 use Prim.Native.Nat.{◌-◌}
 use lib.ListN.{length}
-use Rattle.buffer.proofs.writes.Wrote as wrote
 use Rattle.substitute.proofs.substitution.Copied.{Copied}
 use Rattle.substitute.proofs.substitution.substitute_in_combinator.Given as goal
 

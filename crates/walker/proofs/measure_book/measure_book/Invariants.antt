@@ -1,5 +1,4 @@
 use mathlib.Core.Path.{◌≡◌}
-use Prim.Native.Nat.{◌-◌}
 use lib.ListN.{length}
 use Rattle.walker.specs.measure.Measure.{times}
 use Rattle.walker.specs.measure_book.Measure.{entry_step}
