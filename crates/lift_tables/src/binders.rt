@@ -90,7 +90,7 @@ fn first_named(s: &[u8], name: &[u8], row: &[Binder]) -> usize
     i
 }
 
-// The same of an array, which is lent as a row: whoever calls it needs no walk of the MIR.
+// The same of an array, which is lent as a row.
 fn first_in_window(s: &[u8], name: &[u8], window: [Binder; 8]) -> usize
     ensures { result ≡ first_in s.now name.now window }
 {

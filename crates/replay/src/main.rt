@@ -9,9 +9,9 @@ use expand_macros::pass::Expanded;
 use layout::items::{byte, number, past};
 use layout::lookup::same_name;
 use read_book::body::Verdict;
+use read_full::read_full;
 use std::fs::{File, Files};
 use std::io;
-use std::io::Read;
 use what_comes_back::{Elaborated, Tested};
 
 // How many answers were right and wrong, by code.
@@ -330,22 +330,7 @@ fn buffer() -> [u8; 400000]
     [0; 400000]
 }
 
-// Reads until the buffer is full or there is no more, and says how many bytes were read.
-fn read_full<F: Read>(from: &mut F, s: &mut [u8]) -> io::Result<usize>
-    ensures { IfOk result (λ n. n ≤ length s.new) }
-{
-    let mut n = 0;
-    while n < s.len() {
-        let got = from.read(&mut s[n..])?;
-        if got == 0 {
-            return Ok(n);
-        }
-        n += got;
-    }
-    Ok(n)
-}
-
-// The bytes of one file, in the buffer.
+// The first bytes of a file, in the buffer: how many.
 fn contents<R: Files>(rt: &R, path: &str, s: &mut [u8]) -> io::Result<usize>
     ensures { IfOk result (λ n. n ≤ length s.new) }
 {

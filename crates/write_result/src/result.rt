@@ -117,9 +117,10 @@ fn add_all(
     requires { (kept ≤ all) × (all ≤ kept + 65535) }
     ensures { Adds out.old 0 at (definitions_from (tables s.now names.now (pairs rows.now) (pairs params.now) number.now) (pairs order.now) kept all 0) out.new result }
 {
-    let mut w = Writer { buf: out, at: at };
+    let mut w = Writer::new(out, at);
     let mut i = 0;
     while i < all {
+        let o = w.at;
         w.at = add_next(
             s,
             names,
@@ -130,7 +131,7 @@ fn add_all(
             kept,
             i,
             &mut *w.buf,
-            w.at,
+            o,
         );
         i += 1;
     }

@@ -6,7 +6,7 @@ use Prim.Native.Nat.{ℕ, suc, ◌+◌, ◌≤◌, ◌<◌}
 use native.Mathlib.Omega.{arith}
 use lib.ListN.{length, get_or, drop, length-drop, length-append}
 use Rattle.definition.specs.Out.{Out, refused, done, ◌>>=◌}
-use Rattle.definition.specs.Tree.{Name, Combinator, Inner, Inners, invocation, macro_invocation}
+use Rattle.definition.specs.Tree.{Name, Combinator, Inner, Inners, leaf, struct, choice, shell, bytes, invocation, macro_invocation}
 use Rattle.definition.specs.Write.{w_inner}
 use Rattle.definition.specs.Size.{levels, levels_i}
 use Rattle.definition.specs.Macros.{Macro, instance, inner_of, expand_i, expand_macro}
@@ -36,6 +36,11 @@ module _ {book : List ℕ} {p : ℕ} {macros pl hs : List ℕ} {rows : ℕ} wher
     where
       stays : (ms : List Macro) (i : Inner) (z : List ℕ) → IsCall i → Here book p (w_inner i z) → expand_i i ms ≡ done i
       stays ms (invocation n a) z a_call h = refl
+      stays ms (leaf _ _) z ic h = elim ic [ ]
+      stays ms (struct _) z ic h = elim ic [ ]
+      stays ms (choice _ _ _) z ic h = elim ic [ ]
+      stays ms (shell _ _) z ic h = elim ic [ ]
+      stays ms (bytes _) z ic h = elim ic [ ]
       stays ms (macro_invocation n xs) z a_macro h = absurd (f (macro_tag n xs z h))
 
   pub found_macro : byte_at book p ≡ 16 → {name : Name} → name ≡ name_at book (past_at book p 1) → {r : Found} → FindsMacro name macros pl hs rows r → MacroOf book p macros pl hs rows r
@@ -48,6 +53,11 @@ module _ {book : List ℕ} {p : ℕ} {macros pl hs : List ℕ} {rows : ℕ} wher
 
       tells : (ms : List Macro) → Rows macros pl hs rows ms → (i : Inner) (z : List ℕ) → IsCall i → Here book p (w_inner i z) → Becomes macros ms i r
       tells ms rs (invocation n a) z a_call h = let t = call_tag n a z h in absurd (omega arith)
+      tells ms rs (leaf _ _) z ic h = elim ic [ ]
+      tells ms rs (struct _) z ic h = elim ic [ ]
+      tells ms rs (choice _ _ _) z ic h = elim ic [ ]
+      tells ms rs (shell _ _) z ic h = elim ic [ ]
+      tells ms rs (bytes _) z ic h = elim ic [ ]
       tells ms rs (macro_invocation n xs) z a_macro h = becomes ms n xs (q ∙ macro_name n xs z h) r (f.says ms rs xs)
 
 -- a call that was replaced, by whether its instance is there; t is the rest

@@ -169,7 +169,7 @@ fn expand_each(
 ) -> usize
     ensures { Ends macros.now places.now ways.now rows book.now areas.old marks.old out.old left entry at e o out.new result }
 {
-    let mut w = Writer { buf: out, at: o };
+    let mut w = Writer::new(out, o);
     let mut t = Turn {
         left,
         entry,
@@ -178,6 +178,7 @@ fn expand_each(
         o,
     };
     while 0 < t.left {
+        let o = w.at;
         t = expand_next(
             macros,
             places,
@@ -192,7 +193,7 @@ fn expand_each(
             marks,
             row,
             &mut *w.buf,
-            w.at,
+            o,
         );
         w.at = t.o;
     }

@@ -50,7 +50,7 @@ module _ {s : List ℕ} (small : length s ≤ 65535) where
       rw (end_last s p k (omega arith) (rw (byte_here e))) (next_here e)
   combinator_rest {p} (chained i c) k z d m h =
       let e = inner_rest small i (1 ∷ w_combinator c z) h in
-      rw (end_more s p k (omega arith) (rw (byte_here e))) (combinator_rest c (k - 1) z (omega arith) (omega arith) (next_here e))
+      rw (end_more s p k (omega arith) (rw (byte_here e))) (combinator_rest {p = past_at s (inner_end_of s p) 1} c (k - 1) z (omega arith) (omega arith) (next_here e))
 
   pub combinator_end_lem : {p : ℕ} (c : Combinator) (k : ℕ) (z : List ℕ) → levels c ≤ k → k ≤ 64 → Here s p (w_combinator c z) → combinator_end_of k s p ≡ p + size c
   unfolding size

@@ -1,26 +1,16 @@
 -- The first binder of a name in a row, record by record.
 -- Assumes nothing.
 use mathlib.Core.Path.{◌≡◌, refl, ap, ◌∙◌}
-use mathlib.Core.Bool.{Bool, true, false, not}
+use mathlib.Core.Bool.{true, false}
 use mathlib.Core.List.{List, [], ◌∷◌}
 use Prim.Native.Nat.{ℕ, suc, ◌+◌, ◌≤◌, ◌<◌}
 use native.Mathlib.Numerals.{add-one}
 use native.Mathlib.Omega.{arith}
-use lib.Dec.{T}
 use lib.ListN.{length, drop, get_or, drop_of_length-le}
 use lib.Seq.{drop-cons}
 use Rattle.definition.specs.Tree.{Name}
 use Rattle.lift_tables.specs.declared.binders.Binder.{Binder}
 use Rattle.lift_tables.specs.binders.Row.{no_binder, is_named, first_in}
-
--- a test that held, and one that did not
-pub held : (r : Bool) → T r → r ≡ true
-held true t = refl
-held false t = absurd t
-
-pub failed : (r : Bool) → T (not r) → r ≡ false
-failed true t = absurd t
-failed false t = refl
 
 module _ (s : List ℕ) (n : Name) where
   hit : (b : Binder) (bs : List Binder) → is_named s n b ≡ true → first_in s n (b ∷ bs) ≡ 0

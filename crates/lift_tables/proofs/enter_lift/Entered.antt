@@ -4,7 +4,7 @@ use mathlib.Core.Path.{◌≡◌, refl, sym, ap, ◌∙◌}
 use mathlib.Core.Logic.{⊎_elim}
 use mathlib.Core.Bool.{true, false, ◌&&◌}
 use mathlib.Core.List.{List, [], ◌∷◌, ◌++◌, map}
-use Prim.Native.Nat.{ℕ, ◌+◌, ◌-◌, ◌*◌, ◌%◌, ◌≤◌, ◌<◌}
+use Prim.Native.Nat.{ℕ, ◌+◌, ◌*◌, ◌%◌, ◌≤◌, ◌<◌}
 use native.Mathlib.Omega.{arith}
 use native.Mathlib.Nat.{eq-or-lt_of_le}
 use native.Mathlib.Numerals.{add-one}
@@ -21,7 +21,7 @@ use Rattle.collect_params.specs.uses.Uses.{names_in_of}
 use Rattle.lift_tables.specs.tables.Rows.{Row, row_at, rows_of}
 use Rattle.lift_tables.specs.tables.Parts.{order_in, rows_in_of, params_in, made_in, Parts}
 use Rattle.lift_tables.proofs.tables.Params.{Same}
-use Rattle.name_table.specs.taken.Taken.{both, taken, Grown, Took}
+use Rattle.name_table.specs.taken.Taken.{both, Grown, Took}
 use Rattle.name_table.proofs.taken.Take.{byte_before}
 use Rattle.lift_tables.specs.declared.enter_lift.Counts.{Counts}
 use Rattle.lift_tables.specs.declared.enter_lift.Lifted.TheVariants.{Made, Refused}

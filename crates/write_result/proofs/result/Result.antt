@@ -163,6 +163,7 @@ module _ (rs : List Record) where
       (h.0.short, short_params f.of.params f.of.types w.count h.1.0)
 
   all_short : (ls : List Lift) (Q : Ref → Type 0) → AllFound rs ls → AllTyped Q rs → GoodAll (map (definition_of rs) ls) → (x : ℕ) (r : Record) → Stands x ls → find rs x ≡ just r → (length r.name ≤ 255) × Short r.params
+  all_short [] Q f a g x r h e = elim h [ ]
   all_short (l ∷ ls) Q f a g x r (inl h) e =
       let k : ◌≡◌ {A = Maybe Record} (just f.0.of) (just r) = sym f.0.found ∙ (rw h e) in
       let same : f.0.of ≡ r = cc in

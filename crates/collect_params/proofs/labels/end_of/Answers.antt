@@ -1,5 +1,4 @@
 use mathlib.Core.Path.{sym, ◌∙◌}
-use Prim.Native.Nat.{◌-◌}
 use native.Mathlib.Omega.{arith}
 use Rattle.collect_params.proofs.labels.Steps.{way_start, way_done, way_end, way_same, way_next}
 use Rattle.collect_params.proofs.labels.end_of.Goals as goal

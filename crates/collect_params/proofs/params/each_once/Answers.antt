@@ -1,6 +1,5 @@
 use mathlib.Core.Path.{sym, ◌∙◌}
 use native.Mathlib.Omega.{arith}
-use Prim.Native.Nat.{◌-◌}
 use Rattle.collect_params.proofs.params.Once.{drop_one, keep_one, once_none, dropping_all, dropping_done}
 use Rattle.collect_params.proofs.params.each_once.Goals as goal
 

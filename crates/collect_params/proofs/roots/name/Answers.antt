@@ -1,5 +1,4 @@
 use mathlib.Core.Path.{refl}
-use Rattle.collect_params.specs.scope.Steps.{moved, counted}
 use Rattle.collect_params.specs.roots.Recorded.{name_by}
 use Rattle.collect_params.proofs.roots.name.Goals as goal
 

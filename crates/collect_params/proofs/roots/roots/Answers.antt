@@ -1,5 +1,4 @@
 use mathlib.Core.Path.{refl}
-use Rattle.collect_params.specs.scope.Steps.{moved}
 use Rattle.collect_params.specs.roots.Recorded.{length_by}
 use Rattle.collect_params.proofs.roots.roots.Goals as goal
 

@@ -1,6 +1,5 @@
 use mathlib.Core.Path.{sym, ◌∙◌}
 use native.Mathlib.Omega.{arith}
-use Prim.Native.Nat.{◌-◌}
 use Rattle.collect_params.proofs.sort.Merging.{merging_all, merging_done, left_there, right_there, merge_left, merge_right}
 use Rattle.collect_params.proofs.sort.merge.Goals as goal
 

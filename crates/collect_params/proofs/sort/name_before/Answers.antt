@@ -1,5 +1,4 @@
 use native.Mathlib.Omega.{arith}
-use Prim.Native.Nat.{◌-◌}
 use mathlib.Core.Path.{refl, sym, ◌∙◌}
 use Rattle.collect_params.proofs.sort.Tables.{before_on, before_not, before_longer, before_end}
 use Rattle.collect_params.proofs.sort.name_before.Goals as goal

@@ -1,5 +1,4 @@
 use native.Mathlib.Omega.{arith}
-use Prim.Native.Nat.{◌-◌}
 use Rattle.collect_params.proofs.uses.Uses.{root_on, root_stop, root_end}
 use Rattle.collect_params.proofs.uses.root_length.Goals as goal
 

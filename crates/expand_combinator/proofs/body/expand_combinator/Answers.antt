@@ -57,7 +57,7 @@ pub open_child-child-requires : goal.open_child-child-requires
 open_child-child-requires c = open-safe c.loop-e.invariant.0 _ c.next_step-step.ensures c.in-Child.is c.next_step-step.auto.path c.requires.3
 
 pub returns-in-Refused : goal.returns-in-Refused
-returns-in-Refused c = walks_refused c.loop-e.invariant.0 _ c.next_step-step.ensures c.in-Child.is c.open_child-child.auto.path c.open_child-child.ensures.0 c.in-Refused.is c.open_child-child.ensures.1
+returns-in-Refused c = walks_refused c.loop-e.invariant.0 _ c.next_step-step.ensures c.in-Child.is c.next_step-step.auto.path c.open_child-child.ensures.0 c.in-Refused.is c.open_child-child.ensures.1
 
 pub put_away-waiting-requires : goal.put_away-waiting-requires
 put_away-waiting-requires c = away_safe c.loop-e.invariant.0
@@ -72,7 +72,7 @@ pub bounds-frames-d-in-Opened : goal.bounds-frames-d-in-Opened
 bounds-frames-d-in-Opened c = omega (arith, round_deep c.loop-e.invariant.0)
 
 pub loop-e-smaller : goal.loop-e-smaller
-loop-e-smaller c = round_less_open c.loop-e.invariant.0 _ c.next_step-step.ensures c.in-Child.is c.open_child-child.auto.path c.open_child-child.ensures.0 c.in-Opened.is (put_in _ _ _ c.put_away-waiting.ensures)
+loop-e-smaller c = round_less_open c.loop-e.invariant.0 _ c.next_step-step.ensures c.in-Child.is c.next_step-step.auto.path c.open_child-child.ensures.0 c.in-Opened.is (put_in _ _ _ c.put_away-waiting.ensures)
 
 pub loop-e-preserved : goal.loop-e-preserved
 loop-e-preserved c = (

@@ -15,7 +15,7 @@ expand_combinator-requires c =
     let p = c.requires in (
       p.0,
       ready p.0.tables.source c.name_past-list.ensures c.own_params-body.ensures c.number-b.ensures (p.2 c.if-kind-ne1.false)
-          (omega (arith, c.put_bytes-len.auto.path, p.1.path_long)) (omega (arith, c.own_params-body.auto.binders, p.1.binders_long)) p.1.scratch,
+          (omega (arith, c.put_bytes-len.auto.dst, p.1.path_long)) (omega (arith, c.own_params-body.auto.binders, p.1.binders_long)) p.1.scratch,
       len_most c.put_bytes-len.ensures p.1.path_long,
       p.3,
     )

@@ -23,8 +23,8 @@ loop-i-preserved-else-out-o c =
     record {
       low = omega arith;
       areas_long = c.expand_call-o.auto.areas ∙ l.areas_long;
-      row_long = c.expand_call-o.auto.row ∙ l.row_long;
-      out_long = c.expand_call-o.auto.out ∙ c.put_part-q.auto.out ∙ l.out_long;
+      row_long = c.expand_call-o.auto.marks ∙ l.row_long;
+      out_long = c.expand_call-o.auto.out ∙ c.put_part-q.auto.dst ∙ l.out_long;
       goes = λ d r e. l.goes d r (expanding_call t (rw c.in-At.is at c.macro_of-found.ensures) c.put_part-q.ensures c.expand_call-o.ensures c.expand_call-o.auto.out c.expand_call-o.auto.areas e);
     }
 

@@ -5,4 +5,4 @@ pub returns-then-good : goal.returns-then-good
 returns-then-good c = called_done c.make_instance-made.ensures c.if-good.true c.make_instance-made.auto.areas c.put_inner.ensures
 
 pub returns : goal.returns
-returns c = called_after c.expand_longer.auto.areas c.expand_longer.ensures
+returns c = called_after c.make_instance-made.auto.areas c.expand_longer.ensures

@@ -1,5 +1,4 @@
 use Rattle.buffer.proofs.writes.Wrote as written
-use Prim.Native.Nat.{◌-◌}
 use Rattle.generated_name.proofs.fresh_name.FreeNames.{trying_none, search_stops, search_goes_on, search_ends}
 use native.Mathlib.Omega.{arith}
 use Rattle.generated_name.proofs.fresh_name.first_free.Goals as goal

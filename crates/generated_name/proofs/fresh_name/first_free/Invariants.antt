@@ -1,5 +1,4 @@
 use Rattle.name_table.specs.taken.Taken.{both, taken}
-use Rattle.buffer.proofs.writes.Wrote as written
 use Prim.Native.Nat.{◌-◌}
 use Rattle.generated_name.proofs.fresh_name.FreeNames.{Trying}
 use Rattle.generated_name.proofs.fresh_name.first_free.Given as goal

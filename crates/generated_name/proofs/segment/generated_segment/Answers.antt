@@ -1,8 +1,6 @@
 use Rattle.generated_name.proofs.segment.Segment.{tested, keeps, drops, segment_none, segment_all}
 use Rattle.generated_name.specs.segment.Kept.{kept}
 use Rattle.definition.specs.Names.{eq_name, letter, letters}
-use Prim.Native.Nat.{◌-◌}
-use Rattle.buffer.proofs.writes.Wrote as written
 use Rattle.buffer.proofs.writes.Wrote.{wrote_past, wrote_none}
 use mathlib.Core.Path.{refl}
 use native.Mathlib.Omega.{arith}

@@ -3,7 +3,6 @@ use Rattle.buffer.specs.writes.Buf.{Wrote}
 use Rattle.definition.specs.Names.{letters}
 use Prim.Native.Nat.{◌≤◌, ◌-◌}
 use lib.ListN.{length, take}
-use Rattle.buffer.proofs.writes.Wrote as written
 use Rattle.generated_name.proofs.segment.generated_segment.Given as goal
 
 abbrev pub invariant-loop-i : goal.invariant-loop-i

@@ -20,4 +20,4 @@ returns-in-7 c = rw (← c.byte-tag.ensures, ← c.past-a.ensures, c.in-7.is) c.
 
 pub returns-in_default : goal.returns-in_default
 unfolding root_by
-returns-in_default c = rw (← c.byte-tag.ensures, ← c.past-a.ensures, ne_eqb _ _ c.in_default.rest.0.0.0.1, ne_eqb _ _ c.in_default.rest.0.0.1, ne_eqb _ _ c.in_default.rest.0.1, ne_eqb _ _ c.in_default.rest.1) c.inner_past.ensures
+returns-in_default c = rw (← c.byte-tag.ensures, ← c.past-a.ensures, ne_eqb _ _ c.in_default.in_default-own.rest.0.0.0.1, ne_eqb _ _ c.in_default.in_default-own.rest.0.0.1, ne_eqb _ _ c.in_default.in_default-own.rest.0.1, ne_eqb _ _ c.in_default.in_default-own.rest.1) c.inner_past.ensures

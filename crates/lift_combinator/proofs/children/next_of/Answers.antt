@@ -28,4 +28,4 @@ returns-in-5 c = rw (c.if-f.false, ne_eqb _ _ c.if-f-eq0.false, c.in-5.is) c.nex
 
 pub returns-in_default : goal.returns-in_default
 unfolding next_of
-returns-in_default c = rw (c.if-f.false, ne_eqb _ _ c.if-f-eq0.false, ne_eqb _ _ c.in_default.rest.0.0.0.1, ne_eqb _ _ c.in_default.rest.0.0.1, ne_eqb _ _ c.in_default.rest.0.1, ne_eqb _ _ c.in_default.rest.1, ← c.text_past-b.ensures)
+returns-in_default c = rw (c.if-f.false, ne_eqb _ _ c.if-f-eq0.false, ne_eqb _ _ c.in_default.in_default-own.rest.0.0.0.1, ne_eqb _ _ c.in_default.in_default-own.rest.0.0.1, ne_eqb _ _ c.in_default.in_default-own.rest.0.1, ne_eqb _ _ c.in_default.in_default-own.rest.1, ← c.text_past-b.ensures)

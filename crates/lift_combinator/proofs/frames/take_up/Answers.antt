@@ -1,44 +1,7 @@
 use mathlib.Core.Path.{refl}
-use native.Mathlib.Omega.{arith}
 use Rattle.lift_combinator.specs.frames.Frames.{widened}
 use Rattle.lift_combinator.proofs.frames.take_up.Goals as goal
 
 pub returns : goal.returns
 unfolding widened
 returns c = refl
-
-pub overflow_cast-result : goal.overflow_cast-result
-overflow_cast-result c = omega (arith, c.type_inv.VAR-)
-
-pub overflow_cast-result-2 : goal.overflow_cast-result-2
-overflow_cast-result-2 c = omega (arith, c.type_inv.VAR-)
-
-pub overflow_cast-result-3 : goal.overflow_cast-result-3
-overflow_cast-result-3 c = omega (arith, c.type_inv.VAR-)
-
-pub overflow_cast-result-4 : goal.overflow_cast-result-4
-overflow_cast-result-4 c = omega (arith, c.type_inv.VAR-)
-
-pub overflow_cast-result-5 : goal.overflow_cast-result-5
-overflow_cast-result-5 c = omega (arith, c.type_inv.VAR-)
-
-pub overflow_cast-result-6 : goal.overflow_cast-result-6
-overflow_cast-result-6 c = omega (arith, c.type_inv.VAR-)
-
-pub overflow_cast-result-7 : goal.overflow_cast-result-7
-overflow_cast-result-7 c = omega (arith, c.type_inv.VAR-)
-
-pub overflow_cast-result-8 : goal.overflow_cast-result-8
-overflow_cast-result-8 c = omega (arith, c.type_inv.VAR-)
-
-pub overflow_cast-result-9 : goal.overflow_cast-result-9
-overflow_cast-result-9 c = omega (arith, c.type_inv.VAR-)
-
-pub overflow_cast-result-10 : goal.overflow_cast-result-10
-overflow_cast-result-10 c = omega (arith, c.type_inv.VAR-)
-
-pub overflow_cast-result-11 : goal.overflow_cast-result-11
-overflow_cast-result-11 c = omega (arith, c.type_inv.VAR-)
-
-pub overflow_cast-result-12 : goal.overflow_cast-result-12
-overflow_cast-result-12 c = omega (arith, c.type_inv.VAR-)

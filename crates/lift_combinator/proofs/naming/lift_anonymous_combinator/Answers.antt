@@ -13,22 +13,20 @@ slice_bounds-fresh_generated_name-start c = omega (arith, sheet_long c.args.shee
 
 pub fresh_generated_name-n-requires : goal.fresh_generated_name-n-requires
 fresh_generated_name-n-requires c =
-    let s = c.before.before.before.before.before.before.before.before.before.before.before.before.before.before.before.before.before in
-    let t = s.requires.0 in
-    rw (made_lent s.args.sheet.now) (t.table, t.hinted, omega (arith, s.requires.3), omega (arith, t.few.1, t.defns_most))
+    let t = c.requires.0 in
+    rw (made_lent c.args.sheet.now) (t.table, t.hinted, omega (arith, c.requires.3), omega (arith, t.few.1, t.defns_most))
 
 pub returns-then-path-n : goal.returns-then-path-n
-returns-then-path-n c = (refused_name (rw (made_lent c.args.sheet.now) at c.fresh_generated_name-n.ensures).0.named (rw (made_lent c.args.sheet.now) at c.fresh_generated_name-n.ensures).0.kept (omega (arith, c.requires.3, c.fresh_generated_name-n.auto.path)) (omega (arith, c.requires.3, c.fresh_generated_name-n.auto.path, c.if-path-n.true)), refl)
+returns-then-path-n c = (refused_name (rw (made_lent c.args.sheet.now) at c.fresh_generated_name-n.ensures.fresh).named (rw (made_lent c.args.sheet.now) at c.fresh_generated_name-n.ensures.fresh).kept (omega (arith, c.requires.3, c.fresh_generated_name-n.auto.path)) (omega (arith, c.requires.3, c.fresh_generated_name-n.auto.path, c.if-path-n.true)), refl)
 
 pub enter_lift-entered-requires : goal.enter_lift-entered-requires
 enter_lift-entered-requires c =
-    let s = c.before.before.before.before.before.before.before.before.before.before.before.before.before.before.before.before.before.before.before.before.before.before.before.before.before.before.before.before.before.before.before.before.before.before.before.before.before.before.before.before.before.before.before in
-    let p = s.requires in
+    let p = c.requires in
     let e = sym c.lift_params-found.ensures.0 ∙ c.in-Sorted.is in
     let w = p.1.whole in
     let m = whole_within w in
-    let k = count_short w s.args.bound.now s.args.uses.now s.args.spare.now p.2 p.0.source e in (
-      tables_hinted p.0 (rw (made_lent c.args.sheet.now) at c.fresh_generated_name-n.ensures).1 (omega (arith, c.fresh_generated_name-n.auto.hints)),
+    let k = count_short w c.args.bound.now c.args.uses.now c.args.spare.now p.2 p.0.source e in (
+      tables_hinted p.0 (rw (made_lent c.args.sheet.now) at c.fresh_generated_name-n.ensures.hints) (omega (arith, c.fresh_generated_name-n.auto.hints)),
       omega (arith, w.is.reach, p.0.source),
       omega (arith, p.0.source),
       c.if-path-n.false,
@@ -41,20 +39,18 @@ enter_lift-entered-requires c =
 
 pub returns-in-Leftover : goal.returns-in-Leftover
 returns-in-Leftover c =
-    let s = c.before.before.before.before.before.before.before.before.before.before.before.before.before.before.before.before.before.before.before.before.before.before.before.before.before.before.before.before.before.before.before.before.before.before.before in
-    let p = s.requires in
+    let p = c.requires in
     let e = c.lift_params-found.ensures.0 in
-    (refused_macro (rw (made_lent c.args.sheet.now) at c.fresh_generated_name-n.ensures).0.named (rw (made_lent c.args.sheet.now) at c.fresh_generated_name-n.ensures).0.kept (omega (arith, p.3, c.fresh_generated_name-n.auto.path)) (omega (arith, p.3, c.fresh_generated_name-n.auto.path, c.if-path-n.false)) (λ a w. left_over w s.args.bound.now s.args.uses.now s.args.spare.now p.2 p.0.source (sym e ∙ c.in-Leftover.is)), refl)
+    (refused_macro (rw (made_lent c.args.sheet.now) at c.fresh_generated_name-n.ensures.fresh).named (rw (made_lent c.args.sheet.now) at c.fresh_generated_name-n.ensures.fresh).kept (omega (arith, p.3, c.fresh_generated_name-n.auto.path)) (omega (arith, p.3, c.fresh_generated_name-n.auto.path, c.if-path-n.false)) (λ a w. left_over w c.args.bound.now c.args.uses.now c.args.spare.now p.2 p.0.source (sym e ∙ c.in-Leftover.is)), refl)
 
 pub returns-in-Sorted : goal.returns-in-Sorted
 returns-in-Sorted c =
-    let s = c.before.before.before.before.before.before.before.before.before.before.before.before.before.before.before.before.before.before.before.before.before.before.before.before.before.before.before.before.before.before.before.before.before.before.before.before.before.before.before.before.before.before.before.before.before.before.before.before.before.before.before.before.before.before.before in
-    let p = s.requires in
+    let p = c.requires in
     let g = c.lift_params-found.ensures in
     let e = sym g.0 ∙ c.in-Sorted.is in
     rw c.named_of.ensures (
-      (entered_lift (rw (made_lent c.args.sheet.now) at c.fresh_generated_name-n.ensures).0.named (rw (made_lent c.args.sheet.now) at c.fresh_generated_name-n.ensures).0.kept (omega (arith, p.3, c.fresh_generated_name-n.auto.path)) (omega (arith, p.3, c.fresh_generated_name-n.auto.path, c.if-path-n.false)) _ _
-          (λ a w. (clear w s.args.bound.now s.args.uses.now s.args.spare.now p.2 p.0.source e, rw g.2 (are_sorted w s.args.bound.now s.args.uses.now s.args.spare.now p.2 p.0.source e)))
+      (entered_lift (rw (made_lent c.args.sheet.now) at c.fresh_generated_name-n.ensures.fresh).named (rw (made_lent c.args.sheet.now) at c.fresh_generated_name-n.ensures.fresh).kept (omega (arith, p.3, c.fresh_generated_name-n.auto.path)) (omega (arith, p.3, c.fresh_generated_name-n.auto.path, c.if-path-n.false)) _ _
+          (λ a w. (clear w c.args.bound.now c.args.uses.now c.args.spare.now p.2 p.0.source e, rw g.2 (are_sorted w c.args.bound.now c.args.uses.now c.args.spare.now p.2 p.0.source e)))
           c.enter_lift-entered.ensures.0),
       c.enter_lift-entered.ensures.1,
     )

@@ -1,4 +1,4 @@
-use Prim.Native.Nat.{◌+◌, ◌-◌}
+use Prim.Native.Nat.{◌+◌}
 use native.Mathlib.Omega.{arith}
 use Rattle.lift_tables.proofs.binders.Windows.{clear_more, found_here, found_end}
 use Rattle.lift_tables.proofs.binders.find_binder.Goals as goal

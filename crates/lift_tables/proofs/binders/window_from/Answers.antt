@@ -1,5 +1,4 @@
 use mathlib.Core.Path.{refl}
-use Prim.Native.Nat.{◌-◌}
 use native.Mathlib.Omega.{arith}
 use Rattle.lift_tables.proofs.binders.Windows.{filling_more, filled, filled_all}
 use Rattle.lift_tables.proofs.binders.window_from.Goals as goal

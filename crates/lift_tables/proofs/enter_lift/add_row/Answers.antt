@@ -20,4 +20,4 @@ pub take_name-next-requires : goal.take_name-next-requires
 take_name-next-requires c = let p = c.requires in (simp length-take (omega arith), simp (length-take, length-drop) (omega (arith, p.6, c.put_row.auto.sheet)), p.5, omega arith, omega arith, omega arith)
 
 pub returns : goal.returns
-returns c = row_added c.args.sheet.now _ _ (omega (arith, c.requires.6, c.take_name-next.auto.sheet)) c.put_row.ensures c.store.ensures (omega arith) c.take_name-next.ensures (refl, refl, refl, refl, refl)
+returns c = row_added c.args.sheet.now _ _ (omega (arith, c.requires.6, c.put_row.auto.sheet)) c.put_row.ensures c.store.ensures (omega arith) c.take_name-next.ensures (refl, refl, refl, refl, refl)

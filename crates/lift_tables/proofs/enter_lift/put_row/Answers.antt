@@ -5,8 +5,7 @@ use Rattle.lift_tables.proofs.enter_lift.put_row.Goals as goal
 
 pub returns : goal.returns
 returns c =
-    let s = c.before.before.before.before.before.before.before.before.before.before.before.before.before.before.before.before.before.before.before.before.before in
-    let p = s.requires in
+    let p = c.requires in
     let a = c.put_in_rows.ensures in
     let b = c.put_in_rows-2.ensures in
     let d = c.put_in_rows-3.ensures in
@@ -14,7 +13,7 @@ returns c =
     let f = c.put_in_rows-5.ensures in
     record {
       order = f.order ∙ e.order ∙ d.order ∙ b.order ∙ a.order;
-      rows = row_put (rows_in_of s.args.sheet.now) s.args.i _ _ _ _ _ a.rows b.rows d.rows e.rows f.rows p.1 p.2 p.3 p.4 p.5;
+      rows = row_put (rows_in_of c.args.sheet.now) c.args.i _ _ _ _ _ a.rows b.rows d.rows e.rows f.rows p.1 p.2 p.3 p.4 p.5;
       params = f.params ∙ e.params ∙ d.params ∙ b.params ∙ a.params;
       made = f.made ∙ e.made ∙ d.made ∙ b.made ∙ a.made;
     }

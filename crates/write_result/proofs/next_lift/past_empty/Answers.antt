@@ -12,13 +12,11 @@ returns-then-end-p-lt64 c = sym (c.loop-p.invariant ∙ block_last _ _ _ c.if-en
 
 pub returns-then-some_in : goal.returns-then-some_in
 returns-then-some_in c =
-    let l = c.before.before.before.before.before in
-    sym (l.loop.invariant ∙ block_on l.args.number.now _ _ _ c.loop-p-test.true c.if-end-p-lt64.false c.some_in.ensures ∙ rw c.if-some_in.true)
+    sym (c.loop-p.invariant ∙ block_on c.args.number.now _ _ _ c.loop-p-test.true c.if-end-p-lt64.false c.some_in.ensures ∙ rw c.if-some_in.true)
 
 pub loop-p-preserved : goal.loop-p-preserved
 loop-p-preserved c =
-    let l = c.before.before.before.before.before in
-    l.loop.invariant ∙ block_on l.args.number.now _ _ _ c.loop-p-test.true c.if-end-p-lt64.false c.some_in.ensures ∙ rw c.if-some_in.false
+    c.loop-p.invariant ∙ block_on c.args.number.now _ _ _ c.loop-p-test.true c.if-end-p-lt64.false c.some_in.ensures ∙ rw c.if-some_in.false
 
 pub returns : goal.returns
 returns c = sym (c.loop-p.invariant ∙ block_last _ _ _ (omega arith))

@@ -13,5 +13,5 @@ returns-then-out-r c =
 pub returns : goal.returns
 returns c =
     turned_step c.byte-kind.ensures c.next_definition-d.ensures c.if-kind-eq4.false
-    (c.number-size.ensures ∙ rw c.past.ensures) c.expand_definition-r.ensures c.put_entry-f.auto.out c.if-out-r.false
+    (c.number-size.ensures ∙ rw c.past.ensures) c.expand_definition-r.ensures c.expand_definition-r.auto.out c.if-out-r.false
     c.put_entry-f.ensures c.expand_definition-r.auto.areas c.expand_definition-r.auto.marks
