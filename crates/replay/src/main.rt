@@ -2,14 +2,16 @@
 // code the answers that are the recorded ones and those that are not.
 #![tactic(auto)]
 
-ghost use Rattle.std.specs.Prelude.{◌≡◌, length};
+ghost use Rattle.std.specs.Prelude.{◌≡◌, ◌≤◌, length, IfOk};
 
 use elaborate::elaborate;
 use expand_macros::pass::Expanded;
 use layout::items::{byte, number, past};
 use layout::lookup::same_name;
-use libc::STDOUT_FILENO;
 use read_book::body::Verdict;
+use read_full::read_full;
+use std::fs::{File, Files};
+use std::io;
 use what_comes_back::{Elaborated, Tested};
 
 // How many answers were right and wrong, by code.
@@ -269,9 +271,9 @@ fn counted(t: Counts, code: u8, good: bool) -> Counts {
     }
     let i = code as usize;
     if good {
-        u.right[i] = std::num::wrapping_add_u64(u.right[i], 1);
+        u.right[i] = u.right[i].wrapping_add(1);
     } else {
-        u.wrong[i] = std::num::wrapping_add_u64(u.wrong[i], 1);
+        u.wrong[i] = u.wrong[i].wrapping_add(1);
     }
     u
 }
@@ -328,47 +330,51 @@ fn buffer() -> [u8; 400000]
     [0; 400000]
 }
 
-fn file(path: &[u8], t: Tally) -> Tally {
-    let fd = os::open_read(path);
-    if fd < 0 {
-        os::fail(path);
-        return t;
-    }
-    let mut s = buffer();
-    let n = io::read_full(fd, &mut s);
-    libc::close(fd);
-    replay(&s[..n], t)
+// The first bytes of a file, in the buffer: how many.
+fn contents<R: Files>(rt: &R, path: &str, s: &mut [u8]) -> io::Result<usize>
+    ensures { IfOk result (λ n. n ≤ length s.new) }
+{
+    let mut from = File::open(rt, path)?;
+    read_full(&mut from, s)
 }
 
-fn print(what: &[u8], code: u8, t: Counts) {
+// A file that cannot be read is told of, and counts for nothing.
+fn file<R: Files + Eprint>(rt: &R, path: &str, t: Tally) -> io::Result<Tally> {
+    let mut s = buffer();
+    match contents(rt, path, &mut s) {
+        Err(e) => {
+            eprintln!(rt; "{path}: {e}")?;
+            Ok(t)
+        }
+        Ok(n) => Ok(replay(&s[..n], t)),
+    }
+}
+
+fn print<R: Print>(rt: &R, what: &str, code: u8, t: Counts) -> io::Result<()> {
     if 16 <= code {
-        return;
+        return Ok(());
     }
     let i = code as usize;
-    io::write_all(STDOUT_FILENO, what);
-    io::write_all(STDOUT_FILENO, b", code ");
-    io::print_decimal(STDOUT_FILENO, code as u64);
-    io::write_all(STDOUT_FILENO, b": ");
-    io::print_decimal(STDOUT_FILENO, t.right[i]);
-    io::write_all(STDOUT_FILENO, b" as recorded, ");
-    io::print_decimal(STDOUT_FILENO, t.wrong[i]);
-    io::write_all(STDOUT_FILENO, b" different\n");
+    let right = t.right[i];
+    let wrong = t.wrong[i];
+    println!(rt; "{what}, code {code}: {right} as recorded, {wrong} different")
 }
 
 // A line for code 0 and each code from 2 up to the last: 1 speaks of the work area, and no record has it.
-fn print_all(what: &[u8], last: u8, t: Counts) {
-    print(what, 0, t);
+fn print_all<R: Print>(rt: &R, what: &str, last: u8, t: Counts) -> io::Result<()> {
+    print(rt, what, 0, t)?;
     let mut code: u8 = 2;
     while code <= last {
-        print(what, code, t);
+        print(rt, what, code, t)?;
         if 16 <= code {
-            return;
+            return Ok(());
         }
         code += 1;
     }
+    Ok(())
 }
 
-fn main() {
+fn main(rt: HostRuntime) -> io::Result<()> {
     let none = Counts {
         right: [0; 16],
         wrong: [0; 16],
@@ -379,13 +385,13 @@ fn main() {
         premise: none,
         answer: none,
     };
-    t = file(b"cases-0.bin", t);
-    t = file(b"cases-1.bin", t);
-    t = file(b"cases-2.bin", t);
-    t = file(b"cases-3.bin", t);
-    print_all(b"reading", 10, t.reading);
-    print(b"expansion", 0, t.expansion);
-    print(b"expansion", 6, t.expansion);
-    print_all(b"premise test", 6, t.premise);
-    print_all(b"elaborate", 10, t.answer);
+    t = file(&rt, "cases-0.bin", t)?;
+    t = file(&rt, "cases-1.bin", t)?;
+    t = file(&rt, "cases-2.bin", t)?;
+    t = file(&rt, "cases-3.bin", t)?;
+    print_all(&rt, "reading", 10, t.reading)?;
+    print(&rt, "expansion", 0, t.expansion)?;
+    print(&rt, "expansion", 6, t.expansion)?;
+    print_all(&rt, "premise test", 6, t.premise)?;
+    print_all(&rt, "elaborate", 10, t.answer)
 }
