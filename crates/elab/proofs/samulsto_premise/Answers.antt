@@ -4,4 +4,4 @@ use mathlib.Core.Path.{ap, ◌∙◌}
 use Rattle.elab.proofs.samulsto_premise.Goals as goal
 
 pub returns : goal.returns
-returns c = ((let e = premise_numbers _ _ c.premise-answer.ensures.0 in (c.tested_in_numbers.ensures.0 ∙ ap (λ (a : PremiseAnswer). a.code) e, c.tested_in_numbers.ensures.1 ∙ ap (λ (a : PremiseAnswer). a.holds) e, c.tested_in_numbers.ensures.2 ∙ ap (λ (a : PremiseAnswer). a.at) e)), c.premise-answer.ensures.1)
+returns c = record { code_value = (let e = premise_numbers _ _ c.premise-answer.ensures.value in (c.tested_in_numbers.ensures.0 ∙ ap (λ (a : PremiseAnswer). a.code) e, c.tested_in_numbers.ensures.1 ∙ ap (λ (a : PremiseAnswer). a.holds) e, c.tested_in_numbers.ensures.2 ∙ ap (λ (a : PremiseAnswer). a.at) e)); work_after = c.premise-answer.ensures.work_after }

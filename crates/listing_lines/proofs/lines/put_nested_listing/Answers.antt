@@ -5,4 +5,4 @@ use Rattle.listing_lines.proofs.lines.Whole.{tells_nested}
 use Rattle.listing_lines.proofs.lines.put_nested_listing.Goals as goal
 
 pub returns : goal.returns
-returns c = tells_nested _ _ _ (all_bytes c.args.book.now (λ i. omega (arith, c.type_inv.book i))) (simp length-replicate (omega arith)) (simp length-replicate (omega arith)) c.elaborate_nested-answer.ensures.0 c.elaborate_nested-answer.ensures.1.0 c.put_answer.ensures
+returns c = tells_nested _ _ _ (all_bytes c.args.book.now (λ i. omega (arith, c.type_inv.book i))) (simp length-replicate (omega arith)) (simp length-replicate (omega arith)) c.elaborate_nested-answer.ensures.value c.elaborate_nested-answer.ensures.out_after c.put_answer.ensures
