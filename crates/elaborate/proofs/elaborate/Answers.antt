@@ -4,4 +4,4 @@ use Rattle.buffer.proofs.zeroing.Zero.{all_zero}
 use Rattle.elaborate.proofs.elaborate.Goals as goal
 
 pub returns : goal.returns
-returns c = (answers_it _ _ c.attempt-answer.ensures, (fills_it _ _ c.attempt-answer.ensures, all_zero _ _ _ _ c.zero_range.auto.work refl c.zero_range.ensures))
+returns c = record { value = answers_it _ _ c.attempt-answer.ensures; out_after = fills_it _ _ c.attempt-answer.ensures; work_after = all_zero _ _ _ _ c.attempt-answer.auto.work refl c.zero_range.ensures }

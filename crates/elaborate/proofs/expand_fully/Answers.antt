@@ -7,9 +7,6 @@ use Rattle.elaborate.proofs.expand_fully.Goals as goal
 pub slice_bounds-expanded-end : goal.slice_bounds-expanded-end
 slice_bounds-expanded-end c = omega (arith, ((rw c.in-Book.is at c.expand_book-opened.ensures).by (length-replicate {0} {A = ℕ} 16384 0)).fits, (length-replicate {0} {A = ℕ} 16384 0))
 
-pub slice_bounds-lift_expanded-end : goal.slice_bounds-lift_expanded-end
-slice_bounds-lift_expanded-end c = simp length-take (omega (arith, ((rw c.in-Book.is at c.expand_book-opened.ensures).by (length-replicate {0} {A = ℕ} 16384 0)).fits, (length-replicate {0} {A = ℕ} 16384 0), c.in-Book.auto.expanded))
-
 pub lift_expanded-requires : goal.lift_expanded-requires
 lift_expanded-requires c = (opened_book _ _ ((rw c.in-Book.is at c.expand_book-opened.ensures).by (length-replicate {0} {A = ℕ} 16384 0)), omega (arith, c.requires.wide, c.expand_book-opened.auto.work))
 

@@ -10,9 +10,6 @@ open_nested-opened-requires c = length-replicate {0} {A = ℕ} 16384 0
 pub slice_bounds-expanded-end : goal.slice_bounds-expanded-end
 slice_bounds-expanded-end c = omega (arith, (rw c.in-Book.is at c.open_nested-opened.ensures).by.fits, (length-replicate {0} {A = ℕ} 16384 0))
 
-pub slice_bounds-lift_expanded-end : goal.slice_bounds-lift_expanded-end
-slice_bounds-lift_expanded-end c = simp length-take (omega (arith, (rw c.in-Book.is at c.open_nested-opened.ensures).by.fits, (length-replicate {0} {A = ℕ} 16384 0), c.in-Book.auto.expanded))
-
 pub lift_expanded-requires : goal.lift_expanded-requires
 lift_expanded-requires c =
     let o = (rw c.in-Book.is at c.open_nested-opened.ensures) in

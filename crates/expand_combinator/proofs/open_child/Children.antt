@@ -3,7 +3,7 @@
 use mathlib.Core.Path.{◌≡◌, refl, sym, ap, ◌∙◌}
 use mathlib.Core.Bool.{true, false}
 use mathlib.Core.List.{List, [], ◌∷◌, ◌++◌}
-use Prim.Native.Nat.{ℕ, ◌+◌, ◌-◌, ◌*◌, ◌≤◌, ◌<◌}
+use Prim.Native.Nat.{ℕ, ◌+◌, ◌*◌, ◌≤◌, ◌<◌}
 use native.Mathlib.Omega.{arith}
 use lib.ListN.{length, take, length-set, length-append}
 use Rattle.definition.specs.Code.{Code, number}
@@ -36,7 +36,7 @@ use Rattle.lift_combinator.specs.naming.Lifts.{Whole, Answers, Lifts}
 use Rattle.lift_combinator.proofs.naming.Begins.{begins}
 use Rattle.lift_combinator.proofs.naming.Opened.{size_rest_lem, frame_opens}
 use Rattle.lift_combinator.proofs.naming.Machine.{steps_walked, steps_lifted, steps_refused}
-use Rattle.expand_combinator.specs.open_child.Steps.{Sound, weight, Opened, ChildIs, Comes}
+use Rattle.expand_combinator.specs.open_child.Steps.{Sound, weight, ChildIs, Comes}
 use Rattle.expand_combinator.specs.declared.open_child.Child.TheVariants as comes
 use Rattle.expand_combinator.proofs.open_child.Started.{started, rows-length, numbered_on}
 

@@ -9,7 +9,7 @@ use lib.Dec.{eqb}
 use lib.ListN.{length}
 use borrow.Author.Tests.{ne_eqb}
 use Rattle.definition.specs.Tree.{Name, Shell, wrap, vec, option, array, CaseKind, enums, ints, arrays, FieldKind, ordinary, dependent, Combinator, plain, chained, Inner, leaf, struct, choice, shell, bytes, invocation, macro_invocation, Fields, no_field, field, const, Cases, no_case, case}
-use Rattle.definition.specs.Names.{child, case_segment, shell_segment}
+use Rattle.definition.specs.Names.{case_segment, shell_segment}
 use Rattle.definition.specs.Write.{w_name, w_text, w_label, w_len, w_open, w_shut, count_f, count_c, case_byte, field_byte, w_combinator, w_fields, w_cases}
 use Rattle.definition.specs.Size.{levels, levels_i}
 use Rattle.laws.proofs.Sizes.{adds, size_i, size_f, size_c, size_struct, size_choice, size_constant}

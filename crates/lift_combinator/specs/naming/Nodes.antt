@@ -1,6 +1,6 @@
 -- The same walk with one node for each level: what a node still has to do, and the nodes that wait for it. Document 01: "The walk's call stack may
 -- become one frame for each of the 64 levels." That it is `walk` is shown in proofs/Machine.antt.
-use Rattle.std.specs.Prelude.{◌≡◌, List, [], ◌∷◌, ℕ, suc, ◌+◌, ◌-◌, length}
+use Rattle.std.specs.Prelude.{◌≡◌, List, [], ◌∷◌, ℕ, suc, ◌+◌, length}
 use Rattle.definition.specs.Res.{Res, ok, ◌>>=◌}
 use Rattle.definition.specs.Tree.{Name, CaseKind, FieldKind, Shell, Combinator, plain, chained, Inner, leaf, struct, choice, shell, bytes, invocation, macro_invocation, Fields, Cases}
 use Rattle.definition.specs.Names.{child, shell_segment}

@@ -1,3 +1,4 @@
+use native.Mathlib.Omega.{arith}
 use borrow.Author.Tests.{eq-eqb, ne_eqb}
 use Rattle.expand_combinator.specs.anonymous.Anonymous.{anonymous_by}
 use Rattle.expand_combinator.proofs.anonymous.Level.{anonymous_level}
@@ -41,4 +42,4 @@ returns-in-12 t c = rw (anonymous_level, ne_eqb _ _ c.if-levels-eq0.false, ← c
 
 pub returns-in_default : goal.returns-in_default
 unfolding anonymous_by
-returns-in_default t c = rw (anonymous_level, ne_eqb _ _ c.if-levels-eq0.false, ← c.byte-tag.ensures, ← c.past-a.ensures, ne_eqb _ _ c.in_default.in_default-own.rest.0.0.0.0.0.0.0.1, ne_eqb _ _ c.in_default.in_default-own.rest.0.0.0.0.0.0.1, ne_eqb _ _ c.in_default.in_default-own.rest.0.0.0.0.0.1, ne_eqb _ _ c.in_default.in_default-own.rest.0.0.0.0.1, ne_eqb _ _ c.in_default.in_default-own.rest.0.0.0.1, ne_eqb _ _ c.in_default.in_default-own.rest.0.0.1, ne_eqb _ _ c.in_default.in_default-own.rest.0.1, ne_eqb _ _ c.in_default.in_default-own.rest.1)
+returns-in_default t c = rw (anonymous_level, ne_eqb _ _ c.if-levels-eq0.false, ← c.byte-tag.ensures, ← c.past-a.ensures, ne_eqb c.byte-tag.result 3 (omega arith), ne_eqb c.byte-tag.result 4 (omega arith), ne_eqb c.byte-tag.result 5 (omega arith), ne_eqb c.byte-tag.result 6 (omega arith), ne_eqb c.byte-tag.result 7 (omega arith), ne_eqb c.byte-tag.result 8 (omega arith), ne_eqb c.byte-tag.result 9 (omega arith), ne_eqb c.byte-tag.result 12 (omega arith))

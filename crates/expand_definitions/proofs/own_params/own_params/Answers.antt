@@ -1,5 +1,4 @@
 use mathlib.Core.Path.{refl, ◌∙◌}
-use Prim.Native.Nat.{◌-◌}
 use native.Mathlib.Omega.{arith}
 use Rattle.expand_definitions.proofs.own_params.Own.{none_yet, type_first, binding_step, binding_all, params_shown, own_all}
 use Rattle.expand_definitions.proofs.own_params.own_params.Goals as goal

@@ -1,3 +1,4 @@
+use native.Mathlib.Omega.{arith}
 use borrow.Author.Tests.{eq-eqb, ne_eqb}
 use Rattle.lift_book.specs.flat.Past.{wrap_by, inner_by, tail_by, combinator_by}
 use Rattle.lift_book.proofs.flat.Level.{calm_level}
@@ -53,7 +54,7 @@ inner_past-returns-in-16 t c = rw (← c.byte-tag.ensures, ← c.past-a.ensures,
 
 pub inner_past-returns-in_default : goal.inner_past-returns-in_default
 unfolding inner_by
-inner_past-returns-in_default t c = rw (← c.byte-tag.ensures, ← c.past-a.ensures, ne_eqb _ _ c.in_default.in_default-own.rest.0.0.0.0.0.0.0.0.0.1, ne_eqb _ _ c.in_default.in_default-own.rest.0.0.0.0.0.0.0.0.1, ne_eqb _ _ c.in_default.in_default-own.rest.0.0.0.0.0.0.0.1, ne_eqb _ _ c.in_default.in_default-own.rest.0.0.0.0.0.0.1, ne_eqb _ _ c.in_default.in_default-own.rest.0.0.0.0.0.1, ne_eqb _ _ c.in_default.in_default-own.rest.0.0.0.0.1, ne_eqb _ _ c.in_default.in_default-own.rest.0.0.0.1, ne_eqb _ _ c.in_default.in_default-own.rest.0.0.1, ne_eqb _ _ c.in_default.in_default-own.rest.0.1, ne_eqb _ _ c.in_default.in_default-own.rest.1) c.text_or_length.ensures
+inner_past-returns-in_default t c = rw (← c.byte-tag.ensures, ← c.past-a.ensures, ne_eqb c.byte-tag.result 3 (omega arith), ne_eqb c.byte-tag.result 4 (omega arith), ne_eqb c.byte-tag.result 5 (omega arith), ne_eqb c.byte-tag.result 6 (omega arith), ne_eqb c.byte-tag.result 7 (omega arith), ne_eqb c.byte-tag.result 8 (omega arith), ne_eqb c.byte-tag.result 9 (omega arith), ne_eqb c.byte-tag.result 12 (omega arith), ne_eqb c.byte-tag.result 15 (omega arith), ne_eqb c.byte-tag.result 16 (omega arith)) c.text_or_length.ensures
 
 pub tail_past-returns-then-end-eq0 : goal.tail_past-returns-then-end-eq0
 unfolding tail_by

@@ -1,3 +1,4 @@
+use native.Mathlib.Omega.{arith}
 use borrow.Author.Tests.{ne_eqb}
 use Rattle.lift_book.specs.flat.Past.{root_by}
 use Rattle.lift_book.proofs.flat.root_past.Goals as goal
@@ -20,4 +21,4 @@ returns-in-7 c = rw (← c.byte-tag.ensures, ← c.past-a.ensures, c.in-7.is) c.
 
 pub returns-in_default : goal.returns-in_default
 unfolding root_by
-returns-in_default c = rw (← c.byte-tag.ensures, ← c.past-a.ensures, ne_eqb _ _ c.in_default.in_default-own.rest.0.0.0.1, ne_eqb _ _ c.in_default.in_default-own.rest.0.0.1, ne_eqb _ _ c.in_default.in_default-own.rest.0.1, ne_eqb _ _ c.in_default.in_default-own.rest.1) c.inner_past.ensures
+returns-in_default c = rw (← c.byte-tag.ensures, ← c.past-a.ensures, ne_eqb c.byte-tag.result 3 (omega arith), ne_eqb c.byte-tag.result 4 (omega arith), ne_eqb c.byte-tag.result 6 (omega arith), ne_eqb c.byte-tag.result 7 (omega arith)) c.inner_past.ensures

@@ -1,3 +1,4 @@
+use native.Mathlib.Omega.{arith}
 use borrow.Author.Tests.{eq-eqb, ne_eqb}
 use Rattle.lift_combinator.specs.children.Next.{next_of}
 use Rattle.lift_combinator.proofs.children.next_of.Goals as goal
@@ -28,4 +29,4 @@ returns-in-5 c = rw (c.if-f.false, ne_eqb _ _ c.if-f-eq0.false, c.in-5.is) c.nex
 
 pub returns-in_default : goal.returns-in_default
 unfolding next_of
-returns-in_default c = rw (c.if-f.false, ne_eqb _ _ c.if-f-eq0.false, ne_eqb _ _ c.in_default.in_default-own.rest.0.0.0.1, ne_eqb _ _ c.in_default.in_default-own.rest.0.0.1, ne_eqb _ _ c.in_default.in_default-own.rest.0.1, ne_eqb _ _ c.in_default.in_default-own.rest.1, ← c.text_past-b.ensures)
+returns-in_default c = rw (c.if-f.false, ne_eqb _ _ c.if-f-eq0.false, ne_eqb c.args.f.kind 0 (omega arith), ne_eqb c.args.f.kind 1 (omega arith), ne_eqb c.args.f.kind 2 (omega arith), ne_eqb c.args.f.kind 5 (omega arith), ← c.text_past-b.ensures)

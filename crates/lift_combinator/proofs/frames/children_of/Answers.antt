@@ -1,3 +1,4 @@
+use native.Mathlib.Omega.{arith}
 use borrow.Author.Tests.{ne_eqb}
 use Rattle.lift_combinator.specs.frames.Frames.{begin_at}
 use Rattle.lift_combinator.proofs.frames.children_of.Goals as goal
@@ -28,4 +29,4 @@ returns-in-12 c = rw (← c.byte-tag.ensures, ← c.past-a.ensures, c.in-12.is)
 
 pub returns-in_default : goal.returns-in_default
 unfolding begin_at
-returns-in_default c = rw (← c.byte-tag.ensures, ← c.past-a.ensures, ne_eqb _ _ c.in_default.in_default-own.rest.0.0.0.0.0.1, ne_eqb _ _ c.in_default.in_default-own.rest.0.0.0.0.1, ne_eqb _ _ c.in_default.in_default-own.rest.0.0.0.1, ne_eqb _ _ c.in_default.in_default-own.rest.0.0.1, ne_eqb _ _ c.in_default.in_default-own.rest.0.1, ne_eqb _ _ c.in_default.in_default-own.rest.1)
+returns-in_default c = rw (← c.byte-tag.ensures, ← c.past-a.ensures, ne_eqb c.byte-tag.result 4 (omega arith), ne_eqb c.byte-tag.result 5 (omega arith), ne_eqb c.byte-tag.result 7 (omega arith), ne_eqb c.byte-tag.result 8 (omega arith), ne_eqb c.byte-tag.result 9 (omega arith), ne_eqb c.byte-tag.result 12 (omega arith))
