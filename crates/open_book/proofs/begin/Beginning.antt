@@ -26,7 +26,7 @@ use Rattle.expand_macros.proofs.kept.Counting.{all-kept}
 use Rattle.expand_macros.specs.pass.Pass.{pass}
 use Rattle.expand_macros.proofs.pass.Plain.{pass_plain}
 use Rattle.open_book.specs.declared.begin.Begun.TheVariants as begun
-use Rattle.open_book.specs.begin.Begins.{opened, Refuses, Sound as Passes, Begins}
+use Rattle.open_book.specs.begin.Begins.{opened, Sound as Passes, Begins}
 
 -- the definition computes with long lists of what unfolds; what it says is short
 read_says : (s : List ℕ) → read_book_of s ≡ book_of 6 s

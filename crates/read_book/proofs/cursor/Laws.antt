@@ -7,7 +7,7 @@ use native.Mathlib.Omega.{arith}
 use borrow.Author.Tests.{le-leb, lt-leb}
 use lib.ListN.{length, get_or, take, drop, length-drop}
 use Rattle.definition.specs.Code.{Code, number, not_a_book, bad_name}
-use Rattle.definition.specs.Res.{Res, bad, ◌>>=◌}
+use Rattle.definition.specs.Res.{Res, bad}
 use Rattle.definition.specs.Read.{byte, u16, text, name_by, known}
 use Rattle.read_book.specs.utf8.Tested.{tested}
 use Rattle.read_book.specs.cursor.Item.{among}

@@ -8,7 +8,7 @@ use native.Mathlib.Omega.{arith}
 use lib.ListN.{length, get_or, take, drop, drop_of_length-le, length-drop}
 use lib.Seq.{drop-cons, drop-drop}
 use Rattle.definition.specs.Code.{Code, not_a_book}
-use Rattle.definition.specs.Res.{bad, ok, ◌>>=◌}
+use Rattle.definition.specs.Res.{bad, ok}
 use Rattle.definition.specs.Read.{byte, u16, part}
 use Rattle.read_book.specs.cursor.Ends.{Along}
 

@@ -1,7 +1,7 @@
 -- Readings one after the other, where the answer of the first is known.
 use mathlib.Core.Path.{◌≡◌, ◌∙◌, subst}
 use mathlib.Core.List.{List}
-use Prim.Native.Nat.{ℕ, ◌-◌}
+use Prim.Native.Nat.{ℕ}
 use lib.ListN.{drop}
 use Rattle.definition.specs.Code.{Code}
 use Rattle.definition.specs.Res.{Res, bad, ok, ◌>>=◌}

@@ -1,6 +1,5 @@
 use Rattle.walker.proofs.bodies.Places.{every_next, every_stop, every_end}
 use Rattle.premise.specs.called.Known.{known_at}
-use Prim.Native.Nat.{◌-◌}
 use mathlib.Core.Path.{refl}
 use native.Mathlib.Omega.{arith}
 use Rattle.premise.proofs.called.all_known.Goals as goal

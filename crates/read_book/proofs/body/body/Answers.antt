@@ -1,6 +1,5 @@
 use native.Mathlib.Omega.{arith}
 use lib.ListN.{length-take}
-use Rattle.definition.specs.Read.{definition}
 use Rattle.read_book.proofs.body.Judge.{out_of_book, back_to_front, body_fails, body_left, body_sound}
 use Rattle.read_book.proofs.body.body.Goals as goal
 

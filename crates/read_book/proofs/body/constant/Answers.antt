@@ -1,4 +1,4 @@
-use Rattle.definition.specs.Read.{name, text, definition}
+use Rattle.definition.specs.Read.{name, definition}
 use Rattle.read_book.proofs.name_list.Bind.{then, fails, made, walked}
 use Rattle.read_book.proofs.body.constant.Goals as goal
 

@@ -1,7 +1,7 @@
 use native.Mathlib.Omega.{arith}
 use mathlib.Core.Path.{refl}
 use Rattle.definition.specs.Tree.{is_format, is_constant, is_byte_order, is_macro}
-use Rattle.definition.specs.Read.{text, definition}
+use Rattle.definition.specs.Read.{definition}
 use Rattle.read_book.proofs.name_list.Bind.{made, walked}
 use Rattle.read_book.proofs.body.Judge.{a_kind, no_such_kind}
 use Rattle.read_book.proofs.body.definition.Goals as goal

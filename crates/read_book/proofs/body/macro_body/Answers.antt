@@ -1,4 +1,4 @@
-use Rattle.definition.specs.Read.{name, combinator, definition}
+use Rattle.definition.specs.Read.{name, definition}
 use Rattle.read_book.proofs.name_list.Bind.{then, fails, made, walked, counts}
 use Rattle.read_book.proofs.body.macro_body.Goals as goal
 

@@ -1,7 +1,7 @@
 use native.Mathlib.Omega.{arith}
 use mathlib.Core.Path.{refl, ap}
 use Rattle.definition.specs.Tree.{no_field, no_case, no_inner}
-use Rattle.definition.specs.Read.{label, name, text, items, fields, cases, inners, combinator, arg}
+use Rattle.definition.specs.Read.{name, items, fields, cases, inners, combinator, arg}
 use Rattle.read_book.specs.cursor.Ends.{of_byte, of_number}
 use Rattle.read_book.specs.name_list.Rows.{counted}
 use Rattle.read_book.specs.combinator.Tags.{tag_of, case_kind_of}
@@ -9,7 +9,6 @@ use Rattle.read_book.proofs.name_list.Bind.{then, fails, made, then_got, fails_n
 use Rattle.read_book.proofs.combinator.Table.{tabled, untabled, of_cases}
 use Rattle.read_book.proofs.name_list.Rows.{one_more, no_more, none_left, an_inner}
 use Rattle.read_book.proofs.combinator.Laws.{some_level, no_tag, deep, tag, inner_refused, no_flag, unchained, chains, leaf, no_kind, no_label, a_const, a_field, no_case_label, a_case}
-use borrow.Fn.PlainCycle.{is}
 use Rattle.read_book.proofs.combinator.+combinator.Goals as goal
 
 pub arguments-loop-left-init : goal.arguments-loop-left-init

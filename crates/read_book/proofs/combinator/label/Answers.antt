@@ -1,4 +1,4 @@
-use Rattle.definition.specs.Read.{label, name, text}
+use Rattle.definition.specs.Read.{label, name}
 use Rattle.read_book.specs.combinator.Tags.{case_kind_of}
 use Rattle.read_book.proofs.name_list.Bind.{walked}
 use Rattle.read_book.proofs.combinator.Table.{case_text}

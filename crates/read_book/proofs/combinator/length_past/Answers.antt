@@ -1,4 +1,4 @@
-use Rattle.definition.specs.Read.{len, text}
+use Rattle.definition.specs.Read.{len}
 use Rattle.read_book.proofs.name_list.Bind.{then, fails, made, walked, counts}
 use Rattle.read_book.proofs.combinator.length_past.Goals as goal
 

@@ -1,5 +1,4 @@
 use mathlib.Core.Path.{ap}
-use Rattle.definition.specs.Read.{name}
 use Rattle.read_book.specs.cursor.Ends.{of_byte}
 use Rattle.read_book.proofs.name_list.Bind.{walked}
 use Rattle.read_book.proofs.combinator.Laws.{no_selector, unselected, selected}

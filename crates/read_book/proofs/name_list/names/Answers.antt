@@ -1,6 +1,6 @@
 use mathlib.Core.Path.{refl, ap}
 use mathlib.Core.List.{[]}
-use Rattle.definition.specs.Read.{names_by, name}
+use Rattle.definition.specs.Read.{names_by}
 use Rattle.read_book.specs.cursor.Ends.{of_number}
 use Rattle.read_book.specs.utf8.Tested.{tested}
 use Rattle.read_book.specs.name_list.Rows.{counted}

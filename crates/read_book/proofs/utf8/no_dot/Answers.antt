@@ -1,5 +1,4 @@
 use borrow.Author.Rules.{rules}
-use Prim.Native.Nat.{◌-◌}
 use mathlib.Core.Path.{refl, sym, ◌∙◌}
 use Rattle.read_book.proofs.utf8.Dots.{d_end, d_dot, d_next}
 use Rattle.read_book.proofs.utf8.no_dot.Goals as goal
