@@ -18,7 +18,13 @@ fn text_buffer() -> [u8; 65536]
 }
 
 fn list(rt: &HostRuntime, nested: bool, name: &str) -> io::Result<()> {
-    let mut file = fs::open(rt, name)?;
+    let mut file = match fs::open(rt, name) {
+        Ok(file) => file,
+        Err(e) => {
+            eprintln!(rt; "{name}: {e}")?;
+            return Ok(());
+        }
+    };
     println!(rt; "{name}")?;
     let mut book = [0u8; 16385];
     let mut text = text_buffer();
