@@ -1,7 +1,6 @@
 // The book under construction: its buffer and its next free byte kept together, and an entry of its contents written with them. Each
-// function over a `Writer` takes it apart and calls a function of `writes` on the slice and the number. The loops that write a book hold one:
-// each turn takes it apart and calls a function on the slice and the number (`expand_macros::pass::book::expand_each`,
-// `write_result::result::add_all`).
+// function over a `Writer` calls a function of `writes` on the slice and the number. The loops that write a book hold one: each turn calls a
+// function on the slice and the number (`expand_macros::pass::book::expand_each`, `write_result::result::add_all`).
 ghost use Rattle.std.specs.Prelude.{◌≡◌, [], ◌∷◌, ◌-◌};
 ghost use Rattle.definition.specs.Write.{w_u16};
 ghost use Rattle.buffer.specs.writes.Buf.{Wrote};
