@@ -1,6 +1,6 @@
 use Prim.Native.Nat.{ℕ}
 use native.Mathlib.Omega.{arith}
-use lib.ListN.{length-replicate, length-take}
+use lib.ListN.{length-replicate}
 use Rattle.elaborate.proofs.Answering.{opened_book, reports_code, reports_lifts}
 use Rattle.elaborate.proofs.expand_fully.Goals as goal
 

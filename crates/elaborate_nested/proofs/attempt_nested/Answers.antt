@@ -1,6 +1,6 @@
 use Prim.Native.Nat.{ℕ}
 use native.Mathlib.Omega.{arith}
-use lib.ListN.{length-replicate, length-take}
+use lib.ListN.{length-replicate}
 use Rattle.elaborate_nested.proofs.Nesting.{work_long, opened_book, reports_code, reports_lifts}
 use Rattle.elaborate_nested.proofs.attempt_nested.Goals as goal
 

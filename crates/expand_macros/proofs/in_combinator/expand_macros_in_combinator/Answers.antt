@@ -1,5 +1,5 @@
 use mathlib.Core.Path.{refl, ◌∙◌}
-use Prim.Native.Nat.{◌+◌, ◌-◌}
+use Prim.Native.Nat.{◌+◌}
 use native.Mathlib.Omega.{arith}
 use Rattle.expand_macros.proofs.in_combinator.Expanding.{expanding_all, expanding_on, expanding_call, expanding_stop}
 use Rattle.expand_macros.proofs.in_combinator.expand_macros_in_combinator.Goals as goal

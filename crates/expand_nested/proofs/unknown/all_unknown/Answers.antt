@@ -1,5 +1,4 @@
 use Rattle.expand_nested.proofs.unknown.Calls.{marked_all, marked_stop, marked_next, marked_end}
-use Prim.Native.Nat.{◌-◌}
 use native.Mathlib.Omega.{arith}
 use Rattle.expand_nested.proofs.unknown.all_unknown.Goals as goal
 

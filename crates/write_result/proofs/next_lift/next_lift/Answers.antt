@@ -1,5 +1,4 @@
 use mathlib.Core.Path.{sym, ◌∙◌}
-use Prim.Native.Nat.{◌-◌}
 use Rattle.write_result.proofs.next_lift.Next.{next_on, next_here, next_end, past_empty_lem}
 use Rattle.write_result.proofs.next_lift.next_lift.Goals as goal
 

@@ -1,5 +1,4 @@
 use mathlib.Core.Path.{sym, ◌∙◌}
-use Prim.Native.Nat.{◌-◌}
 use native.Mathlib.Omega.{arith}
 use Rattle.write_result.proofs.next_lift.Next.{block_start, block_last, block_on}
 use Rattle.write_result.proofs.next_lift.past_empty.Goals as goal

@@ -1,6 +1,4 @@
 use mathlib.Core.Path.{sym, ◌∙◌}
-use mathlib.Core.Bool.{true}
-use Prim.Native.Nat.{◌-◌}
 use Rattle.buffer.proofs.zeroing.Some.{some_on, some_end}
 use borrow.Author.Tests.{eq-eqb, ne_eqb}
 use Rattle.write_result.proofs.next_lift.some_in.Goals as goal

@@ -1,5 +1,4 @@
 use mathlib.Core.Path.{◌≡◌, refl, sym, ◌∙◌}
-use Prim.Native.Nat.{◌-◌}
 use native.Mathlib.Omega.{arith}
 use Rattle.buffer.proofs.writes.Wrote.{same_length as wrote-long}
 use Rattle.buffer.proofs.writes.Rest.{wrote_as, rest_all, rest_on, rest_same}
