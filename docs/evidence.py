@@ -8,6 +8,7 @@ import os
 import re
 
 USERS = ['elab', 'listing']  # the exports, and the program
+INPUT = 'read_full'  # reads from outside, of which no contract can name the bytes
 
 
 def read(path):
@@ -21,11 +22,19 @@ def deps():
         line = line.split('#')[0]
         if ':' in line:
             name, rest = line.split(':', 1)
-            found[name.strip()] = rest.split()
+            found[name.split()[0]] = rest.split()
     return found
 
 
 CRATES = deps()
+
+
+def used_in(text):
+    """What the `use` lines of a file bring, each as a whole path."""
+    found = []
+    for head, group, one in re.findall(r'(?m)^use ([\w:]+::)(?:\{([^}]*)\}|(\w+));', text):
+        found += [head + name.strip() for name in (group or one).split(',') if name.strip()]
+    return found
 
 
 def functions(text):
@@ -73,7 +82,7 @@ def handed_to(key):
         m = re.search(rf'(?m)^(?:pub(?:\(crate\))? )?(?:extern "C" )?fn {name}\b', text)
         if m and f'{module(crate, path)}::{name}' == key:
             body = text[text.find('\n{', m.end()):text.find('\n}', m.end())]
-            for used in re.findall(r'(?m)^use ([\w:]+);', text):
+            for used in used_in(text):
                 if used.split('::')[0] in CRATES and re.search(rf'\b{used.split("::")[-1]}\(', body):
                     yield used.split('::')[0], used.split('::')[-1]
 
@@ -84,7 +93,7 @@ def user_calls():
     for crate in USERS:
         for path in sources(crate):
             text = read(path)
-            named |= {u for u in re.findall(r'(?m)^use ([\w:]+);', text) if u.split('::')[0] in CRATES}
+            named |= {u for u in used_in(text) if u.split('::')[0] in CRATES and u.split('::')[0] != INPUT}
     rows = {}
     for crate in CRATES:
         for path in sources(crate) if os.path.isdir(f'crates/{crate}/src') else []:
@@ -103,7 +112,7 @@ def border():
             for name, _, _, contract in functions(text):
                 asks = [c[len('requires'):].strip() for c in contract if c.startswith('requires')]
                 if asks and re.search(rf'(?m)^pub fn {name}\b', text):
-                    clauses = [re.sub(r'^(\w+ )?\{ ⌜ | ⌝ \}$', '', a) for a in asks]
+                    clauses = [re.sub(r'^(\w+ )?\{ | \}$', '', a) for a in asks]
                     yield f'{module(crate, path)}::{name}', ' × '.join(clauses).replace('|', '\\|')
 
 
@@ -114,7 +123,8 @@ def callers(key):
         for path in sources(crate):
             text = read(path)
             inside = module(crate, path) == '::'.join(key.split('::')[:-1])
-            named = re.search(rf'(?m)^use {key};', text) or re.search(rf'(?m)^use crate::{"::".join(key.split("::")[1:])};', text) and crate == key.split('::')[0]
+            brought = used_in(text)
+            named = key in brought or 'crate::' + '::'.join(key.split('::')[1:]) in brought and crate == key.split('::')[0]
             for m in re.finditer(r'(?m)^(?:pub(?:\(crate\))? )?(?:extern "C" )?fn (\w+)', text) if inside or named else []:
                 body = text[text.find('\n{', m.end()):text.find('\n}', m.end())]
                 if m[1] != name and re.search(rf'\b{name}\(', body):
@@ -135,7 +145,8 @@ def changed(crate, edit):
             before = text[:text.index(line[5:]) + 1]
             pattern = r'(?m)^(?:pub(?:\(crate\))? )?(?:extern "C" )?fn (\w+)' if where.endswith('.rt') else r'(?m)^(?:\w+ )*?(?:pub )?(?:record |data )?([^\s:()]+) (?:\([^\n]*)?: '
             names = re.findall(pattern, before)
-            place.append((where, names[-1] if names else ''))
+            if names:
+                place.append((where, names[-1]))
     return ' '.join(comment), sorted(set(place))
 
 

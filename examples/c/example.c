@@ -1,7 +1,7 @@
 /* Reads a book from standard input and tells what samulsto answers; the result goes to standard output.
  *
- *     rt staticlib elab
- *     cc -Wall -Wextra -std=c99 -pedantic -Iinclude examples/c/example.c target/staticlib/libelab.a -o example
+ *     (cd crates/elab && rt lib)
+ *     cc -Wall -Wextra -std=c99 -pedantic -Iinclude examples/c/example.c crates/elab/out/libelab.a -o example
  *     ./example < examples/p03.book > p03.result
  */
 #include "samulsto.h"

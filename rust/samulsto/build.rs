@@ -7,7 +7,7 @@ use std::{env, fs};
 const NO_RT: &str = "\
 the command `rt` was not found. It proves the code and builds the archive that this crate links.
 Install the Rattle toolchain and put its bin/ folder into PATH; or build the archive where it is
-(`rt staticlib elab` in the repository writes target/staticlib/libelab.a) and name the file in the
+(`rt lib` in crates/elab of the repository writes out/libelab.a there) and name the file in the
 environment variable SAMULSTO_ARCHIVE.";
 
 const NOT_X86_64: &str = "\
@@ -44,17 +44,23 @@ fn given(archive: PathBuf) -> PathBuf {
 fn built() -> PathBuf {
     let own = PathBuf::from(env::var_os("CARGO_MANIFEST_DIR").unwrap_or_default());
     let root = own.ancestors().nth(2).unwrap_or(Path::new("/"));
-    for source in ["crates", "crates.txt"] {
-        println!("cargo:rerun-if-changed={}", root.join(source).display());
+    println!("cargo:rerun-if-changed={}", root.join("crates.txt").display());
+    for crates in fs::read_dir(root.join("crates")).into_iter().flatten().flatten() {
+        for part in ["src", "specs", "proofs"].map(|part| crates.path().join(part)) {
+            if part.exists() {
+                println!("cargo:rerun-if-changed={}", part.display());
+            }
+        }
     }
+    let elab = root.join("crates/elab");
     match Command::new("rt")
-        .args(["staticlib", "elab"])
-        .current_dir(root)
+        .arg("lib")
+        .current_dir(&elab)
         .output()
     {
-        Ok(output) if output.status.success() => root.join("target/staticlib/libelab.a"),
+        Ok(output) if output.status.success() => elab.join("out/libelab.a"),
         Ok(output) => stop(&format!(
-            "`rt staticlib elab` failed:\n{}{}",
+            "`rt lib` in crates/elab failed:\n{}{}",
             String::from_utf8_lossy(&output.stdout),
             String::from_utf8_lossy(&output.stderr)
         )),

@@ -13,6 +13,7 @@ use layout::lookup::name_at;
 use lift_tables::enter_lift::Counts;
 
 // The definition at a place: only a format has a body to walk, with its own parameters in force.
+#[tactic(auto, using(crate::proofs::format::Formats::defined_none))]
 pub(crate) fn expand_definition(
     s: &[u8],
     ends: &[u16],

@@ -6,9 +6,8 @@ ghost use Rattle.std.specs.Prelude.{◌≡◌, length};
 
 use listing_lines::lines::put_lines;
 use read_full::read_full;
-use std::fs;
-use std::io;
 use std::io::Write;
+use std::{fs, io};
 
 // The `ensures` gives only the length: so no proof ever looks at the list.
 fn text_buffer() -> [u8; 65536]

@@ -15,6 +15,7 @@ pub enum Mode {
 }
 
 // So many words, the program's own name the first of them; the second is given.
+#[tactic(auto, using(crate::proofs::Modes::few, crate::proofs::Modes::many, crate::proofs::Modes::asked, crate::proofs::Modes::other))]
 pub fn mode_of(count: usize, word: &[u8]) -> Mode
     ensures { result ≡ mode_of count word.now }
 {

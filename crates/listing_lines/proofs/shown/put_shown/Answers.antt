@@ -1,7 +1,6 @@
 use Rattle.buffer.proofs.writes.Wrote.{same_length as kept-length}
 use native.Mathlib.Omega.{arith}
 use mathlib.Core.Path.{refl, sym, ◌∙◌}
-use Prim.Native.Nat.{◌-◌}
 use Rattle.listing_lines.proofs.shown.Shown.{shown_none, shown_dash, goes_start, goes_on, goes_whole}
 use Rattle.listing_lines.proofs.shown.put_shown.Goals as goal
 

@@ -3,19 +3,19 @@ use Rattle.open_book.proofs.begin.Beginning.{all_bytes, begins_1, begins_2, begi
 use Rattle.open_book.proofs.begin.begin.Goals as goal
 
 pub returns-then-work-lt65536 : goal.returns-then-work-lt65536
-returns-then-work-lt65536 c = begins_1 _ _ c.if-work-lt65536.true
+returns-then-work-lt65536 c = begins_1 c.args.book.now c.args.work (omega arith)
 
 pub returns-then-book-gt16384 : goal.returns-then-book-gt16384
-returns-then-book-gt16384 c = begins_2 _ _ c.if-work-lt65536.false c.if-book-gt16384.true
+returns-then-book-gt16384 c = begins_2 c.args.book.now c.args.work (omega arith) (omega arith)
 
 pub overflow_cast-result : goal.overflow_cast-result
-overflow_cast-result c = omega (arith, verdict_inside c.args.book.now _ c.if-work-lt65536.false c.if-book-gt16384.false c.read-verdict.ensures c.in-Refused.is)
+overflow_cast-result c = omega (arith, verdict_inside c.args.book.now c.args.work (omega arith) (omega arith) c.read-verdict.ensures c.in-Refused.is)
 
 pub returns-then-has_no_macros : goal.returns-then-has_no_macros
-returns-then-has_no_macros c = begins_plain _ _ c.if-work-lt65536.false c.if-book-gt16384.false (begins_sound _ _ c.if-work-lt65536.false c.if-book-gt16384.false c.read-verdict.ensures c.in-Sound.is (all_bytes c.args.book.now (λ i. omega (arith, c.type_inv.book i)))) c.has_no_macros.ensures c.if-has_no_macros.true
+returns-then-has_no_macros c = begins_plain c.args.book.now c.args.work (omega arith) (omega arith) (begins_sound c.args.book.now c.args.work (omega arith) (omega arith) c.read-verdict.ensures c.in-Sound.is (all_bytes c.args.book.now (λ i. omega (arith, c.type_inv.book i)))) c.has_no_macros.ensures c.if-has_no_macros.true
 
 pub returns-in-Refused : goal.returns-in-Refused
-returns-in-Refused c = begins_bad _ _ c.if-work-lt65536.false c.if-book-gt16384.false c.read-verdict.ensures c.in-Refused.is
+returns-in-Refused c = begins_bad c.args.book.now c.args.work (omega arith) (omega arith) c.read-verdict.ensures c.in-Refused.is
 
 pub returns-else-has_no_macros : goal.returns-else-has_no_macros
-returns-else-has_no_macros c = begins_sound _ _ c.if-work-lt65536.false c.if-book-gt16384.false c.read-verdict.ensures c.in-Sound.is (all_bytes c.args.book.now (λ i. omega (arith, c.type_inv.book i)))
+returns-else-has_no_macros c = begins_sound c.args.book.now c.args.work (omega arith) (omega arith) c.read-verdict.ensures c.in-Sound.is (all_bytes c.args.book.now (λ i. omega (arith, c.type_inv.book i)))
