@@ -1,6 +1,6 @@
 /* Samulsto: `elaborate` of the Vest format compiler, proved.
  *
- * Link with target/staticlib/libelab.a, which `rt staticlib elab` writes for x86-64 Linux. The archive takes memcpy,
+ * Link with crates/elab/out/libelab.a, which `rt lib` in crates/elab writes for x86-64 Linux. The archive takes memcpy,
  * memmove and memset from the C library and nothing else; it keeps no state and calls nobody back, so any number of
  * threads may call it, each with buffers of its own.
  *

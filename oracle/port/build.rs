@@ -10,7 +10,8 @@ fn main() {
     // libraries with code; `elab` is the last one that has what is called from outside
     let mut names: Vec<&str> = Vec::new();
     for line in list.lines().filter(|line| !line.starts_with('#')) {
-        let name = line.split(':').next().unwrap_or("").trim();
+        let head = line.split(':').next().unwrap_or("");
+        let name = head.split_whitespace().next().unwrap_or("");
         let source = source(&root, name);
         if fs::metadata(&source).is_ok_and(|file| file.len() > 0) {
             names.push(name);
@@ -34,8 +35,7 @@ fn read(path: &Path) -> String {
     fs::read_to_string(path).unwrap_or_else(|e| panic!("{} can't be read: {e}", path.display()))
 }
 
-/// A file of crate `name` without ghost lines and contracts, its modules inside it, the crates as modules beside each other, and plain data
-/// copied as in Rattle.
+/// A file of crate `name` without ghost lines, contracts and words to the prover, its modules inside it, the crates as modules beside each other.
 fn rust(path: &Path, name: &str, crates: &[&str]) -> String {
     let rattle = read(path);
     let modules: Vec<&str> = rattle.lines().filter_map(module).collect();
@@ -43,12 +43,18 @@ fn rust(path: &Path, name: &str, crates: &[&str]) -> String {
     let mut depth = 0;
     for line in rattle.lines() {
         let word = line.trim_start();
-        let clause = word.starts_with("requires {") || word.starts_with("ensures {");
-        if depth > 0 || clause {
+        if depth > 0 || is_clause(word) {
             depth += braces(line);
             continue;
         }
-        if word.starts_with("ghost use") || word.starts_with("#[no_mangle]") {
+        let to_prover = [
+            "ghost use",
+            "#![tactic(",
+            "#[tactic(",
+            "#[cycle(",
+            "#[unsafe(no_mangle)]",
+        ];
+        if to_prover.iter().any(|it| word.starts_with(it)) {
             continue;
         }
         if let Some(inside) = module(line) {
@@ -56,11 +62,9 @@ fn rust(path: &Path, name: &str, crates: &[&str]) -> String {
             text += &format!("pub mod {inside} {{\n{}}}\n", rust(&file, name, crates));
             continue;
         }
-        let word = without_pub(word);
-        if (word.starts_with("struct") || word.starts_with("enum")) && !holds_mut(&rattle, line) {
-            text += "#[derive(Clone, Copy)]\n";
-        }
-        text += &paths(line, name, crates, &modules);
+        // Rattle drops a value, and Rust what a reference points to
+        let line = line.replace("fn drop(self)", "fn drop(&mut self)");
+        text += &paths(&line, name, crates, &modules);
         text += "\n";
     }
     text
@@ -74,13 +78,15 @@ fn folder(path: &Path) -> PathBuf {
     }
 }
 
-/// Whether the type that `line` begins holds a `&mut`: such a type is not copied.
-fn holds_mut(text: &str, line: &str) -> bool {
-    let fields = text
-        .lines()
-        .skip_while(|l| *l != line)
-        .take_while(|l| *l != "}");
-    fields.skip(1).any(|l| l.contains(" mut "))
+/// Whether a line begins a clause, with a name or without one.
+fn is_clause(word: &str) -> bool {
+    let kind = word
+        .strip_prefix("requires ")
+        .or(word.strip_prefix("ensures "));
+    kind.is_some_and(|rest| {
+        let name = rest.split('{').next().unwrap_or("").trim();
+        rest.contains('{') && name.chars().all(|c| c.is_alphanumeric() || c == '_')
+    })
 }
 
 /// The name in a line `mod name;`.
@@ -97,6 +103,9 @@ fn without_pub(word: &str) -> &str {
 
 /// Paths from a Rattle crate as paths from this one. A module of the file itself hides a crate of its name.
 fn paths(line: &str, name: &str, crates: &[&str], modules: &[&str]) -> String {
+    if line.starts_with("use std::") {
+        return line.to_string();
+    }
     if let Some(used) = line.strip_prefix("use ") {
         let used = used
             .strip_prefix("crate::")
