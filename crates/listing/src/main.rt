@@ -1,21 +1,14 @@
 // Prints the listing of the book on standard input. With the word --nested macros that call macros are expanded too (document 02 b).
 #![tactic(auto)]
 
-ghost use Rattle.std.specs.Prelude.{◌≡◌, ◌≤◌, length};
+ghost use Rattle.std.specs.Prelude.{◌≤◌, length};
 
-use listing_lines::lines::put_lines;
+use listing_lines::lines::{put_lines, text_buffer};
 use read_full::read_full;
 use std::env::{Env, FillError};
 use std::io;
 use std::io::Write;
 use words::{Mode, mode_of};
-
-// The `ensures` gives only the length: so no proof ever looks at the list.
-fn text_buffer() -> [u8; 65536]
-    ensures { 65536 ≡ length result }
-{
-    [0; 65536]
-}
 
 // One byte more than the longest book has: so a longer one is refused with no more of it read.
 fn list(rt: &HostRuntime, nested: bool) -> io::Result<()> {

@@ -1,9 +1,17 @@
 // The listing of a book, written into a buffer.
+ghost use Rattle.std.specs.Prelude.{◌≡◌, length};
 ghost use Rattle.listing_lines.specs.lines.Lines.{Tells, TellsNested, TellsIn};
 
 use crate::answers::put_answer;
 use elaborate::elaborate;
 use elaborate_nested::elaborate_nested;
+
+// A text that holds every listing. The `ensures` gives only the length: so no proof of a caller looks at the list.
+pub fn text_buffer() -> [u8; 65536]
+    ensures { 65536 ≡ length result }
+{
+    [0; 65536]
+}
 
 // The listing of a book, cut where the text ends. A text of 65,536 bytes holds every listing.
 fn put_listing(book: &[u8], text: &mut [u8]) -> usize

@@ -2,19 +2,10 @@
 // each mode.
 #![tactic(auto)]
 
-ghost use Rattle.std.specs.Prelude.{◌≡◌, length};
-
-use listing_lines::lines::put_lines;
+use listing_lines::lines::{put_lines, text_buffer};
 use read_full::read_full;
 use std::io::Write;
 use std::{fs, io};
-
-// The `ensures` gives only the length: so no proof ever looks at the list.
-fn text_buffer() -> [u8; 65536]
-    ensures { 65536 ≡ length result }
-{
-    [0; 65536]
-}
 
 fn list(rt: &HostRuntime, nested: bool, name: &str) -> io::Result<()> {
     let mut file = match fs::open(rt, name) {
