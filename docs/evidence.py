@@ -8,7 +8,7 @@ import os
 import re
 
 USERS = ['elab', 'listing']  # the exports, and the program
-INPUT = 'read_full'  # promises only how many bytes at most: those of standard input are unknown to the logic
+INPUT = 'read_full'  # says what it reads of an input whose bytes are known; those of standard input are not
 
 
 def read(path):
@@ -161,7 +161,7 @@ def main():
             comment, place = changed(crate, read(f'{folder}/{f}'))
             edits[crate, f[:-5]] = comment, place
     out += ['## What a user can call', '',
-            'No function here asks anything of its caller. Each contract fixes every number that comes back and every byte of every lent buffer. Left out is `read_full`, which promises only how many bytes at most: those of standard input are unknown to the logic.', '']
+            'No function here asks anything of its caller. Each contract fixes every number that comes back and every byte of every lent buffer. Left out is `read_full`, which says what it reads of any input whose bytes are known; those of standard input are unknown to the logic.', '']
     for key, (comment, contract) in sorted(user_calls().items()):
         crate, name = key.split('::')[0], key.split('::')[-1]
         own = [e for (c, e), (_, place) in edits.items() if c == crate and any(w.endswith('.rt') and n == name for w, n in place)]

@@ -7,7 +7,8 @@ usage: python3 tools/respell.py               turns the names by tools/respelled
 A name that specs/ or proofs/ declare is in snake case. A dash stays where it joins two names, each of which the
 declaration itself speaks of (`length-put` says something of `length` and of `put`); every other dash is `_`. Types keep
 their capitals. Functions of src/, strings and comments' prose keep their words; a comment's code span turns. A name that
-would meet another one in a file gets `_lem` where it is a lemma's; what meets all the same is printed and stays.
+would meet another one in a file gets `_lem` where it is a lemma's and `_of` where it is a definition's; what meets all the
+same is printed and stays.
 Names that only a Proof.antt declares are left: those files were written for the older check.
 """
 import collections, glob, os, re, sys
