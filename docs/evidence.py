@@ -8,6 +8,7 @@ import os
 import re
 
 USERS = ['elab', 'listing']  # the exports, and the program
+CLAUSES = ('requires', 'ensures')
 INPUT = 'read_full'  # says what it reads of an input whose bytes are known; those of standard input are not
 
 
@@ -38,12 +39,46 @@ def used_in(text):
 
 
 def functions(text):
-    """(name, exported, comment above, contract) of each function of a file."""
-    for m in re.finditer(r'(?m)^((?://[^\n]*\n)*)((?:#\[[^\n]*\n)*)(?:pub(?:\(crate\))? )?(extern "C" )?fn (\w+)', text):
-        end = text.find('\n{', m.end())
-        comment = ' '.join(l[2:].strip() for l in m[1].split('\n') if l)
-        contract = [l.strip() for l in text[m.end():end].split('\n') if l.strip().startswith(('requires', 'ensures'))]
-        yield m[4], bool(m[3]), comment, contract
+    """Each function of a file: name, a method's behind its type's; pub or not; exported or not; comment above; contract; first and last line."""
+    lines = text.split('\n')
+    owner, above, facts = '', '', []
+    for i, line in enumerate(lines):
+        impl = re.match(r'impl(?:<.*?>)? (.*) \{$', line)
+        if impl:
+            owner, above, facts = re.match(r'\w+', impl[1].split(' for ')[-1])[0] + '::', comment_above(lines, i), []
+        if line == '}':
+            owner, above, facts = '', '', []
+        if owner and re.match(r' +ghost \w+ = ', line):
+            facts.append(line.strip())
+        m = re.match(r'( *)(pub(?:\(crate\))? )?(extern "C" )?fn (\w+)', line)
+        if not m:
+            continue
+        head = i
+        while head < len(lines) and lines[head] != m[1] + '{' and not (lines[head].endswith(' {') and not lines[head].strip().startswith(CLAUSES)):
+            head += 1
+        end = head
+        while end < len(lines) and lines[end] != m[1] + '}':
+            end += 1
+        contract = [l.strip() for l in lines[i:head] if l.strip().startswith(CLAUSES)]
+        yield owner + m[4], m[2] == 'pub ', bool(m[3]), comment_above(lines, i) or above, contract or facts, i, end
+
+
+def comment_above(lines, i):
+    while i and lines[i - 1].strip().startswith('#['):
+        i -= 1
+    found = []
+    while i and lines[i - 1].strip().startswith('//'):
+        i -= 1
+        found.insert(0, lines[i].strip()[2:].strip())
+    return ' '.join(found)
+
+
+def calls(name, body):
+    """Whether a body calls a function; a method is told by its own name behind a dot, or by its type's."""
+    owner, _, own = name.rpartition('::')
+    if not owner:
+        return re.search(rf'(?<![.:\w]){name}(?:::<[^()]*>)?\(', body) is not None
+    return re.search(rf'\.{own}\(|\b(?:{owner}|Self)::{own}\(', body) is not None
 
 
 def sources(crate):
@@ -57,18 +92,23 @@ def module(crate, path):
     return crate if inside in ('lib', 'main') else f'{crate}::{inside}'
 
 
+def bodies_of(path):
+    text = read(path)
+    lines = text.split('\n')
+    return {name: '\n'.join(lines[first:end]) for name, _, _, _, _, first, end in functions(text)}
+
+
 def called(crate, name):
     """The functions of a crate that one of them calls, directly or not."""
     bodies = {}
     for path in sources(crate):
-        text = read(path)
-        for m in re.finditer(r'(?m)^(?:pub(?:\(crate\))? )?(?:extern "C" )?fn (\w+)', text):
-            bodies[m[1]] = bodies.get(m[1], '') + text[text.find('\n{', m.end()):text.find('\n}', m.end())]
+        for own, body in bodies_of(path).items():
+            bodies[own] = bodies.get(own, '') + body
     seen, todo = set(), [name]
     while todo:
         body = bodies.get(todo.pop(), '')
         for other in bodies:
-            if other not in seen and other != name and re.search(rf'\b{other}\(', body):
+            if other not in seen and other != name and calls(other, body):
                 seen.add(other)
                 todo.append(other)
     return seen
@@ -76,15 +116,16 @@ def called(crate, name):
 
 def handed_to(key):
     """The functions of other crates that the one at KEY calls, as CRATE and FUNCTION."""
-    crate, name = key.split('::')[0], key.split('::')[-1]
+    crate = key.split('::')[0]
     for path in sources(crate):
-        text = read(path)
-        m = re.search(rf'(?m)^(?:pub(?:\(crate\))? )?(?:extern "C" )?fn {name}\b', text)
-        if m and f'{module(crate, path)}::{name}' == key:
-            body = text[text.find('\n{', m.end()):text.find('\n}', m.end())]
-            for used in used_in(text):
-                if used.split('::')[0] in CRATES and re.search(rf'\b{used.split("::")[-1]}\(', body):
-                    yield used.split('::')[0], used.split('::')[-1]
+        for name, body in bodies_of(path).items():
+            if f'{module(crate, path)}::{name}' == key:
+                for used in used_in(read(path)):
+                    other, own = used.split('::')[0], used.split('::')[-1]
+                    if other in CRATES and calls(own, body):
+                        yield other, own
+                    if other in CRATES and '.into()' in body and re.search(rf'-> {own}\n', body):
+                        yield other, own + '::from'
 
 
 def user_calls():
@@ -97,9 +138,10 @@ def user_calls():
     rows = {}
     for crate in CRATES:
         for path in sources(crate) if os.path.isdir(f'crates/{crate}/src') else []:
-            for name, exported, comment, contract in functions(read(path)):
+            for name, _, exported, comment, contract, _, _ in functions(read(path)):
                 key = f'{module(crate, path)}::{name}'
-                if exported or key in named:
+                # a type that is named brings what makes it of another
+                if exported or key in named or key.endswith('::from') and key[: -len('::from')] in named:
                     rows[key] = comment, contract
     return rows
 
@@ -109,26 +151,30 @@ def border():
     for crate in CRATES:
         for path in sources(crate):
             text = read(path)
-            for name, _, _, contract in functions(text):
+            for name, public, _, _, contract, _, _ in functions(text):
                 asks = [c[len('requires'):].strip() for c in contract if c.startswith('requires')]
-                if asks and re.search(rf'(?m)^pub fn {name}\b', text):
+                if asks and public:
                     clauses = [re.sub(r'^(\w+ )?\{ | \}$', '', a) for a in asks]
                     yield f'{module(crate, path)}::{name}', ' × '.join(clauses).replace('|', '\\|')
 
 
 def callers(key):
     """The functions that call the one at KEY."""
-    found, name = [], key.split('::')[-1]
-    for crate in CRATES:
-        for path in sources(crate):
-            text = read(path)
-            inside = module(crate, path) == '::'.join(key.split('::')[:-1])
-            brought = used_in(text)
-            named = key in brought or 'crate::' + '::'.join(key.split('::')[1:]) in brought and crate == key.split('::')[0]
-            for m in re.finditer(r'(?m)^(?:pub(?:\(crate\))? )?(?:extern "C" )?fn (\w+)', text) if inside or named else []:
-                body = text[text.find('\n{', m.end()):text.find('\n}', m.end())]
-                if m[1] != name and re.search(rf'\b{name}\(', body):
-                    found.append(f'{module(crate, path)}::{m[1]}')
+    found = []
+    crate = key.split('::')[0]
+    for other in CRATES:
+        if other != crate and crate not in CRATES[other]:
+            continue
+        for path in sources(other):
+            # a method is called where its type, or what hands it out, is known: in its crate and those that use it
+            at = module(other, path)
+            name = key.split('::')[-2] + '::' + key.split('::')[-1] if key.split('::')[-2][0].isupper() else key.split('::')[-1]
+            inside = at == key[: -len(name) - 2]
+            brought = used_in(read(path))
+            named = '::' in name or key in brought or 'crate::' + '::'.join(key.split('::')[1:]) in brought and other == crate
+            for own, body in bodies_of(path).items() if inside or named else []:
+                if own != name and calls(name, body):
+                    found.append(f'{at}::{own}')
     return found
 
 
@@ -143,8 +189,11 @@ def changed(crate, edit):
         elif line.startswith('old: '):
             text = read(f'crates/{crate}/{where}')
             before = text[:text.index(line[5:]) + 1]
-            pattern = r'(?m)^(?:pub(?:\(crate\))? )?(?:extern "C" )?fn (\w+)' if where.endswith('.rt') else r'(?m)^(?:\w+ )*?(?:pub )?(?:record |data )?([^\s:()]+) (?:\([^\n]*)?: '
-            names = re.findall(pattern, before)
+            at = before.count('\n')
+            if where.endswith('.rt'):
+                names = [name for name, _, _, _, _, _, end in functions(text) if end >= at][:1]
+            else:
+                names = re.findall(r'(?m)^(?:\w+ )*?(?:pub )?(?:record |data )?([^\s:()]+) (?:\([^\n]*)?: ', before)
             if names:
                 place.append((where, names[-1]))
     return ' '.join(comment), sorted(set(place))

@@ -43,16 +43,17 @@ fn rust(path: &Path, name: &str, crates: &[&str]) -> String {
     let mut depth = 0;
     for line in rattle.lines() {
         let word = line.trim_start();
-        if depth > 0 || is_clause(word) {
+        if depth > 0 || is_clause(word) || is_ghost(word) {
             depth += braces(line);
             continue;
         }
         let to_prover = [
-            "ghost use",
+            "ghost use ",
             "#![tactic(",
             "#[tactic(",
             "#[cycle(",
             "#[unsafe(no_mangle)]",
+            "#[derive(Drop)]",
         ];
         if to_prover.iter().any(|it| word.starts_with(it)) {
             continue;
@@ -87,6 +88,11 @@ fn is_clause(word: &str) -> bool {
         let name = rest.split('{').next().unwrap_or("").trim();
         rest.contains('{') && name.chars().all(|c| c.is_alphanumeric() || c == '_')
     })
+}
+
+/// Whether a line begins a ghost member of an impl or a ghost field: `ghost name = {` or `ghost name: {`.
+fn is_ghost(word: &str) -> bool {
+    word.starts_with("ghost ") && word.contains('{')
 }
 
 /// The name in a line `mod name;`.

@@ -1,13 +1,15 @@
 // The book under construction, on a slice and the number of its next free byte. Every function writes as far as the slice reaches, and
-// answers the place after, or one past the slice's end where not all was written. So a caller tests the last answer alone.
-ghost use Rattle.std.specs.Prelude.{◌≡◌, ◌+◌, ◌%◌, ◌/◌, ◌≤◌, [], ◌∷◌, length, take};
+// answers the place after, or one past the slice's end where not all was written. So a caller tests the last answer alone. They are functions
+// on a slice and a place as document 01's forms ask: "few thin functions that call covered ones on slice and number" (`writer` has the thin ones).
+ghost use Rattle.std.specs.Prelude.{◌+◌, ◌<◌, ◌^◌, [], ◌∷◌, length};
 ghost use Rattle.definition.specs.Write.{w_u16};
-ghost use Rattle.buffer.specs.writes.Buf.{put, part, Wrote, name_bytes};
+ghost use Rattle.buffer.specs.writes.Buf.{part, Wrote, name_bytes};
 
-use crate::numbers::least;
+use crate::parts;
 
-// One byte.
-pub fn put_byte(x: u8, dst: &mut [u8], at: usize) -> usize
+// One item.
+pub fn put_item<T: Copy>(x: T, dst: &mut [T], at: usize) -> usize
+    requires { length dst.old + 1 < 2 ^ 64 }
     ensures { Wrote dst.old at (x ∷ []) dst.new result }
 {
     if dst.len() <= at {
@@ -17,24 +19,18 @@ pub fn put_byte(x: u8, dst: &mut [u8], at: usize) -> usize
     at + 1
 }
 
+// One byte. It asks nothing, where `put_item` asks that one may be added to the length.
+pub fn put_byte(x: u8, dst: &mut [u8], at: usize) -> usize
+    ensures { Wrote dst.old at (x ∷ []) dst.new result }
+{
+    put_item(x, dst, at)
+}
+
 // A number in two bytes, the lower first.
 pub fn put_u16(n: u16, dst: &mut [u8], at: usize) -> usize
     ensures { Wrote dst.old at (w_u16 n []) dst.new result }
 {
-    let low = put_byte((n % 256) as u8, dst, at);
-    put_byte((n / 256) as u8, dst, low)
-}
-
-// The first n bytes of src. Its loop is the only one that copies.
-fn copy_first(src: &[u8], n: usize, dst: &mut [u8], at: usize)
-    requires { (n ≤ length src.now) × (at + n ≤ length dst.old) }
-    ensures { dst.new ≡ put dst.old at (take n src.now) }
-{
-    let mut i = 0;
-    while i < n {
-        dst[at + i] = src[i];
-        i += 1;
-    }
+    put_bytes(&n.to_le_bytes(), dst, at)
 }
 
 // All bytes of src.
@@ -46,22 +42,19 @@ pub fn put_bytes(src: &[u8], dst: &mut [u8], at: usize) -> usize
     }
     let room = dst.len() - at;
     if room < src.len() {
-        copy_first(src, room, dst, at);
+        dst[at..].copy_from_slice(&src[..room]);
         return dst.len() + 1;
     }
-    copy_first(src, src.len(), dst, at);
-    at + src.len()
+    let end = at + src.len();
+    dst[at..end].copy_from_slice(src);
+    end
 }
 
 // The bytes of src from place a up to place e, as far as src reaches.
 pub fn put_part(src: &[u8], a: usize, e: usize, dst: &mut [u8], at: usize) -> usize
     ensures { Wrote dst.old at (part a e src.now) dst.new result }
 {
-    let end = least(e, src.len());
-    if end <= a {
-        return put_bytes(&src[..0], dst, at);
-    }
-    put_bytes(&src[a..end], dst, at)
+    put_bytes(parts::part(src, a, e), dst, at)
 }
 
 // A name: its length in one byte, then its bytes.
@@ -69,6 +62,6 @@ pub fn put_name(name: &[u8], dst: &mut [u8], at: usize) -> usize
     ensures { Wrote dst.old at (name_bytes name.now) dst.new result }
 {
     let n = name.len();
-    let first = put_byte((n % 256) as u8, dst, at);
+    let first = put_item((n % 256) as u8, dst, at);
     put_bytes(name, dst, first)
 }

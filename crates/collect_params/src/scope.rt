@@ -4,7 +4,8 @@ ghost use Rattle.collect_params.specs.scope.Steps.{moved, counted, unbound, bind
 
 use crate::labels::bind_label;
 
-// Where the walk stands: its place, how many uses are recorded and how many labels bound, and whether a macro call was met.
+// Where the walk stands: its place, how many uses are recorded and how many labels bound, and whether a macro call was met. That is a flag, and
+// no Result, since the walk goes on behind such a call: a chain on Enum, say, forgets what it met.
 #[derive(Clone, Copy)]
 pub(crate) struct Walk {
     pub at: usize,
@@ -13,52 +14,34 @@ pub(crate) struct Walk {
     pub leftover: bool,
 }
 
-// The same walk at another place.
-pub(crate) fn moved(w: Walk, at: usize) -> Walk
-    ensures { result ≡ moved w at }
-{
-    Walk {
-        at,
-        n: w.n,
-        b: w.b,
-        leftover: w.leftover,
+impl Walk {
+    // The same walk at another place.
+    pub(crate) fn moved(self, at: usize) -> Walk
+        ensures { result ≡ moved self at }
+    {
+        Walk { at, ..self }
     }
-}
 
-// At another place and with another count of uses.
-pub(crate) fn counted(w: Walk, at: usize, n: usize) -> Walk
-    ensures { result ≡ counted w at n }
-{
-    Walk {
-        at,
-        n,
-        b: w.b,
-        leftover: w.leftover,
+    // At another place and with another count of uses.
+    pub(crate) fn counted(self, at: usize, n: usize) -> Walk
+        ensures { result ≡ counted self at n }
+    {
+        Walk { at, n, ..self }
     }
-}
 
-// The walk u with the labels that were bound at w.
-pub(crate) fn unbound(w: Walk, u: Walk) -> Walk
-    ensures { result ≡ unbound w u }
-{
-    Walk {
-        at: u.at,
-        n: u.n,
-        b: w.b,
-        leftover: u.leftover,
+    // With the labels that were bound at w.
+    pub(crate) fn unbound(self, w: Walk) -> Walk
+        ensures { result ≡ unbound w self }
+    {
+        Walk { b: w.b, ..self }
     }
-}
 
-// The label whose length byte stands at a place is bound from here on.
-pub(crate) fn bind(s: &[u8], w: Walk, at: usize, bound: &mut [u32]) -> Walk
-    ensures { (result ≡ (bind_by s.now at w bound.old).0) × (bound.new ≡ (bind_by s.now at w bound.old).1) }
-{
-    let b = w.b;
-    let next = bind_label(s, at, bound, b);
-    Walk {
-        at: w.at,
-        n: w.n,
-        b: next,
-        leftover: w.leftover,
+    // The label whose length byte stands at a place is bound from here on.
+    #[tactic(auto, unfolding(crate::specs::scope::Steps::bind_by))]
+    pub(crate) fn bind(self, s: &[u8], at: usize, bound: &mut [u32]) -> Walk
+        ensures { (result ≡ (bind_by s.now at self bound.old).0) × (bound.new ≡ (bind_by s.now at self bound.old).1) }
+    {
+        let b = bind_label(s, at, bound, self.b);
+        Walk { b, ..self }
     }
 }

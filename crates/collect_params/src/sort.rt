@@ -1,110 +1,61 @@
-// Uses in the byte order of their names: a merge sort by halves.
-ghost use Rattle.std.specs.Prelude.{◌≡◌, ◌-◌, ◌≤◌, eqb, length};
+// Uses in the byte order of their names: a merge sort by halves. It is written out since the project has no heap, which the library's stable
+// sort takes, and since the order of uses of one name counts: `ordered` says of each which one it is.
+ghost use Rattle.std.specs.Prelude.{◌≡◌, ◌+◌, eqb, length};
 ghost use Rattle.definition.specs.Names.{before};
-ghost use Rattle.buffer.specs.writes.Buf.{put, part};
+ghost use Rattle.buffer.specs.writes.Buf.{put};
 ghost use Rattle.collect_params.specs.uses.Uses.{name_in};
 ghost use Rattle.collect_params.specs.sort.Sort.{left_first, merged, ordered, spared};
 
 use crate::uses::name_of_use;
 
-// Whether one name comes before another in byte order.
-fn name_before(a: &[u8], b: &[u8]) -> bool
-    ensures { result ≡ before a.now b.now }
-{
-    let mut i = 0;
-    while i < a.len() {
-        if b.len() <= i {
-            return false;
-        }
-        if a[i] != b[i] {
-            return a[i] < b[i];
-        }
-        i += 1;
-    }
-    a.len() < b.len()
-}
-
+// Whether the name of x comes before that of y in byte order.
+#[tactic(auto, using(crate::proofs::sort::Tables::before_is))]
 fn use_before(s: &[u8], x: u32, y: u32) -> bool
     ensures { result ≡ before (name_in s.now x) (name_in s.now y) }
 {
-    let a = name_of_use(s, x);
-    let b = name_of_use(s, y);
-    name_before(a, b)
+    name_of_use(s, x) < name_of_use(s, y)
 }
 
-// Whether the next use is the one at i, of those up to mid, and not the one at j, of those up to hi.
-fn takes_left(s: &[u8], src: &[u32], i: usize, mid: usize, j: usize, hi: usize) -> bool
-    requires { (mid ≤ length src.now) × (hi ≤ length src.now) }
-    ensures { result ≡ left_first s.now (part i mid src.now) (part j hi src.now) }
+// Whether the next use is the left list's: it has one, and the right list's first is not before it.
+fn takes_left(s: &[u8], left: &[u32], right: &[u32]) -> bool
+    ensures { result ≡ left_first s.now left.now right.now }
 {
-    if mid <= i {
+    if left.is_empty() {
         return false;
     }
-    if hi <= j {
-        return true;
-    }
-    let x = src[i];
-    let y = src[j];
-    if use_before(s, y, x) {
-        return false;
-    }
-    true
+    right.is_empty() || !use_before(s, right[0], left[0])
 }
 
-// The uses from lo up to mid and those from mid up to hi, both in order, as one list in dst.
-fn merge(s: &[u8], src: &[u32], lo: usize, mid: usize, hi: usize, dst: &mut [u32])
-    requires { (lo ≤ mid) × (mid ≤ hi) × (hi ≤ length src.now) × (hi ≤ length dst.old) }
-    ensures { dst.new ≡ put dst.old lo (merged s.now (hi - lo) (part lo mid src.now) (part mid hi src.now)) }
+// Two lists of uses, both in order, as one in dst.
+fn merge(s: &[u8], left: &[u32], right: &[u32], dst: &mut [u32])
+    requires { length dst.old ≡ length left.now + length right.now }
+    ensures { dst.new ≡ merged s.now (length dst.old) left.now right.now }
 {
-    let mut i = lo;
-    let mut j = mid;
-    let mut k = lo;
-    while k < hi {
-        if takes_left(s, src, i, mid, j, hi) {
-            dst[k] = src[i];
-            i += 1;
-            k += 1;
-            continue;
+    let mut l = left;
+    let mut r = right;
+    for slot in dst.iter_mut() {
+        if takes_left(s, l, r) {
+            *slot = l[0];
+            l = &l[1..];
+        } else {
+            *slot = r[0];
+            r = &r[1..];
         }
-        dst[k] = src[j];
-        j += 1;
-        k += 1;
     }
 }
 
-fn copy(src: &[u32], lo: usize, hi: usize, dst: &mut [u32])
-    requires { (lo ≤ hi) × (hi ≤ length src.now) × (hi ≤ length dst.old) }
-    ensures { dst.new ≡ put dst.old lo (part lo hi src.now) }
+// The uses in the byte order of their names, halved so often at most. Halves are merged in the other table.
+pub(crate) fn sort(s: &[u8], uses: &mut [u32], halvings: usize, spare: &mut [u32])
+    requires { length spare.old ≡ length uses.old }
+    ensures { (uses.new ≡ ordered halvings s.now uses.old) × (spare.new ≡ put spare.old 0 (spared (eqb halvings 0) uses.old (ordered halvings s.now uses.old))) }
 {
-    let mut i = lo;
-    while i < hi {
-        dst[i] = src[i];
-        i += 1;
-    }
-}
-
-// The uses from lo up to hi in the byte order of their names, halved so often at most. Halves are merged in the other table.
-pub(crate) fn sort(
-    s: &[u8],
-    uses: &mut [u32],
-    lo: usize,
-    hi: usize,
-    halvings: usize,
-    spare: &mut [u32],
-)
-    requires { (lo ≤ hi) × (hi ≤ length uses.old) × (hi ≤ length spare.old) }
-    ensures { (uses.new ≡ put uses.old lo (ordered halvings s.now (part lo hi uses.old))) × (spare.new ≡ put spare.old lo (spared (eqb halvings 0) (part lo hi uses.old) (ordered halvings s.now (part lo hi uses.old)))) }
-{
-    if halvings == 0 {
+    if halvings == 0 || uses.len() < 2 {
         return;
     }
-    let n = hi - lo;
-    if n < 2 {
-        return;
-    }
-    let mid = lo + n / 2;
-    sort(s, uses, lo, mid, halvings - 1, spare);
-    sort(s, uses, mid, hi, halvings - 1, spare);
-    merge(s, &uses[..], lo, mid, hi, spare);
-    copy(&spare[..], lo, hi, uses);
+    let mid = uses.len() / 2;
+    sort(s, &mut uses[..mid], halvings - 1, &mut spare[..mid]);
+    sort(s, &mut uses[mid..], halvings - 1, &mut spare[mid..]);
+    let (left, right) = uses.split_at(mid);
+    merge(s, left, right, spare);
+    uses.copy_from_slice(&spare[..]);
 }

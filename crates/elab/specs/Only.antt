@@ -1,10 +1,10 @@
 -- "That no second answer fits is proved": whatever meets what a contract says of an answer is that one answer.
-use Rattle.std.specs.Prelude.{◌≡◌, List, ℕ}
+use Rattle.std.specs.Prelude.{◌≡◌, List, ℕ, Bool, Result}
 use Rattle.definition.specs.Answer.{attempt, fault_at, Answer}
 use Rattle.definition.specs.Premise.{tested, PremiseAnswer}
 use Rattle.nested.specs.Nested.{attempt_nested_of}
 use Rattle.what_comes_back.specs.declared.Elaborated.{Elaborated}
-use Rattle.what_comes_back.specs.declared.Tested.{Tested}
+use Rattle.what_comes_back.specs.declared.Refusal.{Refusal}
 use Rattle.what_comes_back.specs.declared.Report.{Report}
 use Rattle.what_comes_back.specs.declared.Numbers.{Numbers}
 use Rattle.what_comes_back.specs.Elaborates.{elaborated_as}
@@ -12,15 +12,15 @@ use Rattle.what_comes_back.specs.Tells.{tested_as}
 
 -- of `elaborate`
 abbrev pub OneElaborated : Type 0
-OneElaborated = (book : List ℕ) (out work : ℕ) (r q : Elaborated) → r ≡ elaborated_as (fault_at book work) (attempt book out work) → q ≡ elaborated_as (fault_at book work) (attempt book out work) → r ≡ q
+OneElaborated = (book : List ℕ) (out work : ℕ) (r q : Result Elaborated Refusal) → r ≡ elaborated_as (fault_at book work) (attempt book out work) → q ≡ elaborated_as (fault_at book work) (attempt book out work) → r ≡ q
 
 -- of `elaborate_nested`
 abbrev pub OneNested : Type 0
-OneNested = (book : List ℕ) (out work : ℕ) (r q : Elaborated) → r ≡ elaborated_as (fault_at book work) (attempt_nested_of book out work) → q ≡ elaborated_as (fault_at book work) (attempt_nested_of book out work) → r ≡ q
+OneNested = (book : List ℕ) (out work : ℕ) (r q : Result Elaborated Refusal) → r ≡ elaborated_as (fault_at book work) (attempt_nested_of book out work) → q ≡ elaborated_as (fault_at book work) (attempt_nested_of book out work) → r ≡ q
 
 -- of `premise`
 abbrev pub OneTested : Type 0
-OneTested = (book : List ℕ) (work : ℕ) (r q : Tested) → r ≡ tested_as (fault_at book work) (tested book work) → q ≡ tested_as (fault_at book work) (tested book work) → r ≡ q
+OneTested = (book : List ℕ) (work : ℕ) (r q : Result Bool Refusal) → r ≡ tested_as (fault_at book work) (tested book work) → q ≡ tested_as (fault_at book work) (tested book work) → r ≡ q
 
 -- of the exports that elaborate, whichever answer it is
 abbrev pub Says : Report → Answer → Type 0

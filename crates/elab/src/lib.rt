@@ -9,7 +9,7 @@ ghost use Rattle.nested.specs.Nested.{answer_nested, output_nested};
 use elaborate::elaborate;
 use elaborate_nested::elaborate_nested;
 use premise::test::premise;
-use what_comes_back::{Numbers, Report, elaborated_in_numbers, tested_in_numbers};
+use what_comes_back::{Numbers, Report};
 
 // The premise test.
 #[unsafe(no_mangle)]
@@ -17,8 +17,7 @@ pub extern "C" fn samulsto_premise(book: &[u8], work: &mut [u8]) -> Numbers
     ensures code_value { (result.code ≡ (premise book.now (length work.old)).code) × (result.holds ≡ (premise book.now (length work.old)).holds) × (result.at ≡ (premise book.now (length work.old)).at) }
     ensures work_after { work.new ≡ zeroed work.old }
 {
-    let answer = premise(book, work);
-    tested_in_numbers(answer)
+    premise(book, work).into()
 }
 
 // `elaborate` of document 01.
@@ -28,8 +27,7 @@ pub extern "C" fn samulsto_elaborate(book: &[u8], out: &mut [u8], work: &mut [u8
     ensures out_after { out.new ≡ output book.now out.old (length work.old) }
     ensures work_after { work.new ≡ zeroed work.old }
 {
-    let e = elaborate(book, out, work);
-    elaborated_in_numbers(e)
+    elaborate(book, out, work).into()
 }
 
 // The nested mode, of document 02 b.
@@ -39,6 +37,5 @@ pub extern "C" fn samulsto_elaborate_nested(book: &[u8], out: &mut [u8], work: &
     ensures out_after { out.new ≡ output_nested book.now out.old (length work.old) }
     ensures work_after { work.new ≡ zeroed work.old }
 {
-    let e = elaborate_nested(book, out, work);
-    elaborated_in_numbers(e)
+    elaborate_nested(book, out, work).into()
 }

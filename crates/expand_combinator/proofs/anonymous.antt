@@ -1,2 +1,2 @@
-mod Level
+pub mod Level
 pub mod Anonymous

@@ -1,3 +1,4 @@
 pub mod anonymous
 pub mod open_child
+pub mod waiters
 pub mod body

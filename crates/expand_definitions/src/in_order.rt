@@ -7,12 +7,14 @@ ghost use Rattle.expand_definitions.specs.format.Formats.{Space};
 ghost use Rattle.expand_definitions.specs.in_order.InOrder.{InOrder};
 
 use crate::format::expand_definition;
-use expand_combinator::body::Body;
-use layout::items::byte;
+use crate::taken::Taken;
+use expand_combinator::body::Named;
 use lift_tables::enter_lift::Counts;
-use walker::definitions::{all_definitions, next_definition};
+use walker::definitions::each_definition;
+use what_comes_back::Code;
 
 // "Definitions in order", as the contents list them.
+// Each table but those of names is a parameter of its own for the reason at `expand_combinator`.
 pub(crate) fn expand_in_order(
     s: &[u8],
     ends: &[u16],
@@ -22,34 +24,21 @@ pub(crate) fn expand_in_order(
     uses: &mut [u32],
     spare: &mut [u32],
     sheet: &mut [u8],
-    places: &mut [u16],
-    ways: &mut [u32],
-    hints: &mut [u16],
+    taken: &mut Taken,
     number: &mut [u16],
     start: Counts,
-) -> Body
-    requires { Good s.now (made_in sheet.old) places.old ways.old hints.old (rows_in_of sheet.old) (params_in sheet.old) number.old (order_in sheet.old) start 0 × Space s.now path.old binders.old bound.old uses.old spare.old × Expanded s.now × Right s.now ends.now }
-    ensures { InOrder s.now (made_in sheet.old) places.old (rows_in_of sheet.old) (params_in sheet.old) (order_in sheet.old) start (made_in sheet.new) places.new ways.new hints.new (rows_in_of sheet.new) (params_in sheet.new) number.new (order_in sheet.new) result }
+) -> Result<Named, Code>
+    requires { Good s.now (made_in sheet.old) taken.old.places taken.old.ways taken.old.hints (rows_in_of sheet.old) (params_in sheet.old) number.old (order_in sheet.old) start 0 × Space s.now path.old binders.old bound.old uses.old spare.old × Expanded s.now × Right s.now ends.now }
+    ensures { InOrder s.now (made_in sheet.old) taken.old.places (rows_in_of sheet.old) (params_in sheet.old) (order_in sheet.old) start (made_in sheet.new) taken.new.places taken.new.ways taken.new.hints (rows_in_of sheet.new) (params_in sheet.new) number.new (order_in sheet.new) result }
 {
-    let mut d = all_definitions(s);
-    let mut w = start;
-    let mut n = 0;
-    while 0 < d.left {
-        let kind = byte(s, d.entry);
-        let here = d.at;
-        d = next_definition(s, d);
-        match expand_definition(
-            s, ends, kind, here, path, binders, bound, uses, spare, sheet, places, ways, hints,
-            number, w, n,
-        ) {
-            Body::Refused(c) => {
-                return Body::Refused(c);
-            }
-            Body::Named(v, m) => {
-                w = v;
-                n = m;
-            }
-        }
+    let mut named = Named {
+        counts: start,
+        finished: 0,
+    };
+    for d in each_definition(s) {
+        named = expand_definition(
+            s, ends, d.kind, d.at, path, binders, bound, uses, spare, sheet, taken, number, named,
+        )?;
     }
-    Body::Named(w, n)
+    Ok(named)
 }

@@ -11,15 +11,13 @@ pub(crate) fn own_params(s: &[u8], at: usize, binders: &mut [u16]) -> usize
     requires { Params s.now at × (length s.now ≤ 16384) × (length s.now ≤ length binders.old) }
     ensures { Own s.now at binders.new result }
 {
-    let count = number(s, at) as usize;
+    let count = usize::from(number(s, at));
     let mut here = past(s, at, 2);
-    let mut b = 0;
-    while b < count {
+    for b in 0..count {
         let inner = name_past(s, here);
         let end = inner_end(s, inner);
-        put_binder(binders, b, here, inner, 1, end - inner);
+        put_binder(binders, b, here, inner, true, end - inner);
         here = end;
-        b += 1;
     }
     here
 }

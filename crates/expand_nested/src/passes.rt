@@ -1,80 +1,50 @@
 // Macros that call macros, on validated bytes: document 02 b. The pass of document 01 is run again on its result, with the same macros.
-ghost use Rattle.std.specs.Prelude.{◌≡◌, length, take};
+ghost use Rattle.std.specs.Prelude.{length};
 ghost use Rattle.expand_nested.specs.passes.Repeats.{PassedBack, Again};
 
 use crate::settled::settled;
-use buffer::numbers::least;
+use buffer::parts::first;
 use buffer::writes::put_part;
-use expand_macros::pass::{Expanded, expand_macros};
+use expand_macros::pass::expand_macros;
+use what_comes_back::Code;
 
-// The length of the book after the last pass, growth past a limit (code 6), or a known call left after it (code 12).
-#[derive(Clone, Copy)]
-pub enum Passes {
-    Book { len: usize },
-    Grown,
-    Left,
-}
-
-// The first n bytes, as far as s reaches.
-fn first_bytes(s: &[u8], n: usize) -> &[u8]
-    ensures { result.now ≡ take n s.now }
-{
-    let end = least(n, s.len());
-    &s[..end]
-}
-
-// One pass over the book that stands in the first bytes; what it makes in next goes back there.
+// One pass over the book that stands in the first bytes; what it makes in next goes back there. Its length, or code 6.
 fn pass_back(
     macros: &[u8],
     book: &mut [u8],
     len: usize,
     areas: &mut [u8],
     next: &mut [u8],
-) -> Expanded
+) -> Result<usize, Code>
     ensures { PassedBack macros.now book.old len (length areas.old) (length next.old) book.new result }
 {
-    let here = first_bytes(&book[..], len);
-    let got = expand_macros(macros, here, areas, next);
-    match got {
-        Expanded::Grown => Expanded::Grown,
-        Expanded::Book { len } => {
-            put_part(&next[..], 0, len, book, 0);
-            Expanded::Book { len }
-        }
-    }
+    let made = expand_macros(macros, first(&book[..], len), areas, next)?;
+    put_part(&next[..], 0, made, book, 0);
+    Ok(made)
 }
 
-// Passes with the macros of the other book, until none of these is called where a pass reaches: at most 15, after the first.
+// Passes with the macros of the other book, until none of these is called where a pass reaches: at most 15, after the first. The length of the
+// book after the last pass; growth past a limit is code 6, a known call left after it code 12.
 pub fn expand_again(
     macros: &[u8],
     book: &mut [u8],
     len: usize,
     areas: &mut [u8],
     next: &mut [u8],
-) -> Passes
+) -> Result<usize, Code>
     ensures { Again macros.now book.old len 15 (length areas.old) (length next.old) book.new result }
 {
     let mut n = len;
-    let mut left: usize = 15;
-    while 0 < left {
-        let here = first_bytes(&book[..], n);
+    for _ in 0..15u8 {
+        let here = first(&book[..], n);
         if settled(macros, here) {
-            return Passes::Book { len: n };
+            return Ok(n);
         }
-        let got = pass_back(macros, book, n, areas, next);
-        left -= 1;
-        match got {
-            Expanded::Grown => {
-                return Passes::Grown;
-            }
-            Expanded::Book { len } => {
-                n = len;
-            }
-        }
+        n = pass_back(macros, book, n, areas, next)?;
     }
-    let last = first_bytes(&book[..], n);
+    let last = first(&book[..], n);
     if settled(macros, last) {
-        return Passes::Book { len: n };
+        return Ok(n);
     }
-    Passes::Left
+    Err(Code::MacroLeft)
 }

@@ -2,67 +2,47 @@
 ghost use Rattle.expand_nested.specs.settled.Settles.{FormatSettles, DefinitionSettles, BodiesSettle, Settles};
 
 use crate::unknown::all_unknown;
-use expand_macros::known_macros::table;
-use layout::items::{byte, name_past};
-use walker::definitions::{all_definitions, next_definition, params_past};
-use walker::marks::first_marks;
+use buffer::parts::first;
+use expand_macros::known_macros::{Macros, table};
+use layout::items::name_past;
+use layout::kinds::FORMAT;
+use walker::definitions::{each_definition, params_past};
 use walker::skip::walk_over;
 
 // The format at a place: its body, behind its name and its parameters.
-fn format_settled(
-    macros: &[u8],
-    places: &[u16],
-    ways: &[u32],
-    rows: usize,
-    book: &[u8],
-    at: usize,
-    marks: &mut [u16],
-) -> bool
-    ensures { FormatSettles macros.now places.now ways.now rows book.now at marks.old result }
+fn format_settled(macros: Macros<'_>, book: &[u8], at: usize, marks: &mut [u16]) -> bool
+    ensures { FormatSettles macros.entry book.now at marks.old result }
 {
     let params = name_past(book, at);
     let body = params_past(book, params, marks);
     let w = walk_over(book, body, 64, marks);
-    let n = w.n;
-    all_unknown(macros, places, ways, rows, book, first_marks(&marks[..], n))
+    all_unknown(macros, book, first(&marks[..], w.n))
 }
 
 // The definition at a place: the pass reaches only into formats.
+#[tactic(auto, using(crate::proofs::settled::Settling::definition_settles, crate::proofs::settled::Settling::other_settles))]
 fn definition_settled(
-    macros: &[u8],
-    places: &[u16],
-    ways: &[u32],
-    rows: usize,
+    macros: Macros<'_>,
     book: &[u8],
     kind: u8,
     at: usize,
     marks: &mut [u16],
 ) -> bool
-    ensures { DefinitionSettles macros.now places.now ways.now rows book.now kind at marks.old result }
+    ensures { DefinitionSettles macros.entry book.now kind at marks.old result }
 {
-    if kind == 1 {
-        return format_settled(macros, places, ways, rows, book, at, marks);
+    if kind == FORMAT {
+        return format_settled(macros, book, at, marks);
     }
     true
 }
 
-// Every format's body, with the macros in a table.
-fn bodies_settled(
-    macros: &[u8],
-    places: &[u16],
-    ways: &[u32],
-    rows: usize,
-    book: &[u8],
-    marks: &mut [u16],
-) -> bool
-    ensures { BodiesSettle macros.now places.now ways.now rows book.now marks.old result }
+// Every format's body, with the macros in a table. (`premise::holds` and `lift_book::flat` go over the bodies in these lines too: with the test as
+// a closure the contract of one loop would speak of every test and of what its closure ensures, and each caller would name both.)
+fn bodies_settled(macros: Macros<'_>, book: &[u8], marks: &mut [u16]) -> bool
+    ensures { BodiesSettle macros.entry book.now marks.old result }
 {
-    let mut d = all_definitions(book);
-    while 0 < d.left {
-        let kind = byte(book, d.entry);
-        let here = d.at;
-        d = next_definition(book, d);
-        if !definition_settled(macros, places, ways, rows, book, kind, here, marks) {
+    for d in each_definition(book) {
+        if !definition_settled(macros, book, d.kind, d.at, marks) {
             return false;
         }
     }
@@ -77,5 +57,11 @@ pub(crate) fn settled(macros: &[u8], book: &[u8]) -> bool
     let mut ways = [0u32; 1280];
     let mut marks = [0u16; 8192];
     let rows = table(macros, &mut places, &mut ways);
-    bodies_settled(macros, &places, &ways, rows, book, &mut marks)
+    let known = Macros {
+        book: macros,
+        places: &places,
+        ways: &ways,
+        rows,
+    };
+    bodies_settled(known, book, &mut marks)
 }

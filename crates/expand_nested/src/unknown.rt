@@ -1,53 +1,32 @@
 // The test that the calls that are marked are none of a known macro, with the macros in a table.
 ghost use Rattle.expand_nested.specs.unknown.Calls.{UnknownAt, AllUnknown};
 
-use expand_macros::known_macros::{Found, find_macro};
+use expand_macros::known_macros::Macros;
 use layout::items::{byte, past};
 use layout::lookup::name_at;
+use layout::tags::MACRO_INVOCATION;
 
-// Whether the call at a place is none of a known macro.
-fn is_unknown(
-    macros: &[u8],
-    places: &[u16],
-    ways: &[u32],
-    rows: usize,
-    book: &[u8],
-    call: usize,
-) -> bool
-    ensures { UnknownAt macros.now places.now ways.now rows book.now call result }
+// Whether the call at a place is none of a known macro. `expand_macros`' `macro_of` reads it the same way, but `MacroOf` tells only of a call that
+// stands there, and allows None for a macro whose call becomes itself: `UnknownAt`, which holds of any bytes, stays open from it.
+#[tactic(auto, using(crate::proofs::unknown::Calls::macro_tested, crate::proofs::unknown::Calls::other_unknown))]
+fn is_unknown(macros: Macros<'_>, book: &[u8], call: usize) -> bool
+    ensures { UnknownAt macros.entry book.now call result }
 {
     let tag = byte(book, call);
     let a = past(book, call, 1);
-    if tag == 16 {
-        let found = find_macro(name_at(book, a), macros, places, ways, rows);
-        match found {
-            Found::At { at } => {
-                return false;
-            }
-            Found::Unknown => {
-                return true;
-            }
-        }
+    if tag == MACRO_INVOCATION {
+        return macros.find(name_at(book, a)).is_none();
     }
     true
 }
 
-// The same of every call that is marked.
-pub(crate) fn all_unknown(
-    macros: &[u8],
-    places: &[u16],
-    ways: &[u32],
-    rows: usize,
-    book: &[u8],
-    marks: &[u16],
-) -> bool
-    ensures { AllUnknown macros.now places.now ways.now rows book.now marks.now result }
+// The same of every call that is marked. premise's `all_known` is this loop with another test of a call: one function over a closure would need
+// the closure's promise for every call as a clause, which is longer than the loop.
+pub(crate) fn all_unknown(macros: Macros<'_>, book: &[u8], marks: &[u16]) -> bool
+    ensures { AllUnknown macros.entry book.now marks.now result }
 {
-    let mut i = 0;
-    while i + 1 < marks.len() {
-        let call = marks[i] as usize;
-        i += 2;
-        if !is_unknown(macros, places, ways, rows, book, call) {
+    for pair in marks.chunks_exact(2) {
+        if !is_unknown(macros, book, usize::from(pair[0])) {
             return false;
         }
     }

@@ -6,17 +6,17 @@ ghost use Rattle.definition.specs.Names.{segment, decimal, case_segment, shell_s
 ghost use Rattle.generated_name.specs.child_name.Name.{Child};
 
 use crate::segment::{generated_segment, put_decimal};
-use buffer::writes::{put_byte, put_bytes};
+use buffer::writes::{put_bytes, put_item};
 
 // The name of a node's child by its label: dst holds the node's name in its first `at` bytes.
 pub fn child_generated_name(label: &[u8], dst: &mut [u8], at: usize) -> usize
     ensures { Child dst.old at (segment label.now) dst.new result }
 {
-    let first = put_byte(b'_', dst, at);
+    let first = put_item(b'_', dst, at);
     generated_segment(label, dst, first)
 }
 
-// The child of a Wrap.
+// The child of a Wrap. Like the next it is a function of its own, since it says whose child it names: one for both would take the bytes themselves.
 pub fn wrap_generated_name(dst: &mut [u8], at: usize) -> usize
     ensures { Child dst.old at (shell_segment (wrap [] [])) dst.new result }
 {
@@ -42,6 +42,6 @@ pub fn choice_generated_name(i: usize, dst: &mut [u8], at: usize) -> usize
 pub(crate) fn numbered_name(i: usize, dst: &mut [u8], at: usize) -> usize
     ensures { Child dst.old at (decimal i) dst.new result }
 {
-    let o = put_byte(b'_', dst, at);
+    let o = put_item(b'_', dst, at);
     put_decimal(i, dst, o)
 }

@@ -4,7 +4,7 @@ mod letters;
 ghost use Rattle.definition.specs.Names.{segment, decimal};
 ghost use Rattle.buffer.specs.writes.Buf.{Wrote};
 
-use buffer::writes::{put_byte, put_bytes};
+use buffer::writes::{put_bytes, put_item};
 
 // The segment of a label.
 pub(crate) fn generated_segment(label: &[u8], dst: &mut [u8], at: usize) -> usize
@@ -13,17 +13,15 @@ pub(crate) fn generated_segment(label: &[u8], dst: &mut [u8], at: usize) -> usiz
     if dst.len() < at {
         return dst.len() + 1;
     }
-    if label.len() == 0 {
+    if label.is_empty() {
         return put_bytes(b"anon", dst, at);
     }
     let table = letters::TABLE;
     let mut o = at;
-    let mut i = 0;
-    while i < label.len() {
-        let x = table[label[i] as usize];
-        i += 1;
+    for b in label {
+        let x = table[usize::from(*b)];
         if x != 0 {
-            o = put_byte(x, dst, o);
+            o = put_item(x, dst, o);
         }
     }
     o
@@ -34,8 +32,8 @@ pub fn put_decimal(n: usize, dst: &mut [u8], at: usize) -> usize
     ensures { Wrote dst.old at (decimal n) dst.new result }
 {
     if n < 10 {
-        return put_byte((48 + n) as u8, dst, at);
+        return put_item((48 + n) as u8, dst, at);
     }
     let o = put_decimal(n / 10, dst, at);
-    put_byte((48 + n % 10) as u8, dst, o)
+    put_item((48 + n % 10) as u8, dst, o)
 }

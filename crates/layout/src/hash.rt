@@ -13,57 +13,53 @@ fn mix(hash: usize, word: usize) -> usize
     (p + p / 4294967296) % 4294967296
 }
 
-// Two bytes of a name, as a number.
-fn pair(name: &[u8], i: usize) -> usize
-    requires { i + 2 ≤ length name.now }
-    ensures { (result ≡ get_or name.now i 0 + 256 * get_or name.now (i + 1) 0) × (result < 65536) }
-{
-    let low = name[i] as usize;
-    let high = name[i + 1] as usize;
-    low + 256 * high
-}
-
-// The hash of a name but for the last bytes, fewer than four.
-fn words_hash(name: &[u8]) -> usize
-    ensures { (hash_of name.now ≡ bytes_from result (drop (fours name.now) name.now)) × (result < 4294967296) }
-{
-    let mut g: usize = 0;
-    let mut h: usize = 0;
-    let mut i = 0;
-    while name.len() - i >= 4 {
-        let low = pair(name, i);
-        let high = pair(name, i + 2);
-        let word = low + 65536 * high;
-        g = mix(g, word);
-        h = (h + word + 1) % 4294967296 * 2654435761 % 4294967296;
-        i += 4;
-    }
-    mix(g, h)
-}
-
-// The hash of a name.
+// The hash of a name: four bytes at a time, and the last ones, fewer than four, one by one.
 pub fn name_hash(name: &[u8]) -> u32
     ensures { result ≡ hash_of name.now }
 {
-    let mut h = words_hash(name);
-    let mut i = name.len() / 4 * 4;
-    while i < name.len() {
-        h = mix(h, name[i] as usize);
-        i += 1;
+    let (fours, rest) = name.as_chunks::<4>();
+    let mut g: usize = 0;
+    let mut h: usize = 0;
+    for four in fours {
+        let word = u32::from_le_bytes(*four) as usize;
+        g = mix(g, word);
+        h = (h + word + 1) % 4294967296 * 2654435761 % 4294967296;
+    }
+    h = mix(g, h);
+    for b in rest {
+        h = mix(h, *b as usize);
     }
     h as u32
 }
 
-// A bit of a name whose hash is given: one of the hash, or one of its own behind these; 0 behind its end.
-pub fn bit(name: &[u8], hash: u32, d: usize) -> usize
-    requires { hash ≡ hash_of name.now }
-    ensures { (result ≡ bit_at name.now d) × (result ≤ 1) }
-{
-    if d < 32 {
-        let h = hash as usize;
-        return (h >> (31 - d)) % 2;
+// A name and its hash.
+#[derive(Clone, Copy)]
+pub struct Hashed<'a> {
+    pub name: &'a [u8],
+    pub hash: u32,
+    ghost is: { hash ≡ hash_of name.now },
+}
+
+impl<'a> Hashed<'a> {
+    pub fn of(name: &'a [u8]) -> Hashed<'a>
+        ensures { result.name.now ≡ name.now }
+    {
+        Hashed {
+            name,
+            hash: name_hash(name),
+        }
     }
-    let own = d - 32;
-    let x = byte(name, own / 8) as usize;
-    (x >> (own % 8)) % 2
+
+    // A bit of the name: one of the hash, or one of its own behind these; 0 behind its end.
+    pub fn bit(self, d: usize) -> usize
+        ensures { (result ≡ bit_at self.entry.name.now d) × (result ≤ 1) }
+    {
+        if d < 32 {
+            let h = self.hash as usize;
+            return (h >> (31 - d)) % 2;
+        }
+        let own = d - 32;
+        let x = byte(self.name, own / 8) as usize;
+        (x >> (own % 8)) % 2
+    }
 }

@@ -12,14 +12,18 @@ pub enum Place {
 }
 
 // A place in 16 bits, as a table keeps it: places in the book are below 32,768, and those among the generated names follow from there.
-pub fn place_of(code: u16) -> Place
-    ensures { result ≡ place_of code }
-{
-    if code < 32768 {
-        return Place::Source { at: code as usize };
-    }
-    Place::Made {
-        at: (code - 32768) as usize,
+impl From<u16> for Place {
+    ghost from_gives = { λ code place. place ≡ place_of code };
+
+    #[tactic(auto, unfolding(crate::specs::lookup::Name::place_of))]
+    fn from(code: u16) -> Place {
+        if code < 32768 {
+            Place::Source { at: code as usize }
+        } else {
+            Place::Made {
+                at: (code - 32768) as usize,
+            }
+        }
     }
 }
 
@@ -27,18 +31,17 @@ pub fn place_of(code: u16) -> Place
 pub fn name_at(s: &[u8], at: usize) -> &[u8]
     ensures { result.now ≡ name_at s.now at }
 {
-    if s.len() <= at {
-        return &s[..0];
+    match s.get(at) {
+        Some(&n) => {
+            let rest = &s[at + 1..];
+            &rest[..(n as usize).min(rest.len())]
+        }
+        None => &s[..0],
     }
-    let n = s[at] as usize;
-    let first = at + 1;
-    if s.len() - first <= n {
-        return &s[first..];
-    }
-    &s[first..first + n]
 }
 
 // A name's bytes: a part of the book, or of the generated names.
+#[tactic(auto, unfolding(crate::specs::lookup::Name::name_of))]
 pub fn name_of<'a>(book: &'a [u8], made: &'a [u8], place: Place) -> &'a [u8]
     ensures { result.now ≡ name_of place book.now made.now }
 {
@@ -48,19 +51,9 @@ pub fn name_of<'a>(book: &'a [u8], made: &'a [u8], place: Place) -> &'a [u8]
     }
 }
 
-// "Identifiers are equal when their names are."
+// "Identifiers are equal when their names are." It is `==`, under the name by which the definition's `eq_name` is stated of it.
 pub fn same_name(a: &[u8], b: &[u8]) -> bool
     ensures { result ≡ eq_name a.now b.now }
 {
-    if a.len() != b.len() {
-        return false;
-    }
-    let mut i = 0;
-    while i < a.len() {
-        if a[i] != b[i] {
-            return false;
-        }
-        i += 1;
-    }
-    true
+    a == b
 }

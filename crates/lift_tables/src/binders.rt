@@ -1,14 +1,14 @@
-// Binders as a row of records, and the first of a name. They stand in a table of numbers, four for each, which is lent from function to
-// function; a search takes eight of them at a time into records, and lends these as a row.
+// Binders as a row of records, and the first of a name: document 01 asks that their list is lent so, and that a thin function finds the first.
+// They stand in a table of numbers, four for each, which is lent from function to function (what may not change: `bound_from`, `Sized` and
+// `with_param` speak of that table, and past its end of zeros); a search takes eight of them at a time into records, and lends these as a row.
 ghost use Rattle.std.specs.Prelude.{◌≡◌, ◌≤◌};
-ghost use Rattle.definition.specs.Names.{eq_name};
-ghost use Rattle.layout.specs.lookup.Name.{name_at};
-ghost use Rattle.lift_tables.specs.binders.Row.{binder_at_of, binders_from, first_in, found_in, Window};
+ghost use Rattle.lift_tables.specs.binders.Row.{binder_at_of, binders_from, found_in};
 
-use crate::tables::entry;
+use buffer::table::item;
 use layout::lookup::{name_at, same_name};
 
 // A binder: the place of its name's length byte, the place of its type, 1 where that is a parameter's own type, and the type's size after lifting.
+// Each is a number as its table has it, and goes on to the sheet as it stands.
 #[derive(Clone, Copy)]
 pub(crate) struct Binder {
     pub name: u16,
@@ -17,103 +17,63 @@ pub(crate) struct Binder {
     pub size: u16,
 }
 
-// The first binder of a name, or that there is none.
-#[derive(Clone, Copy)]
-pub(crate) enum Found {
-    Bound(Binder),
-    Missing,
-}
+const NONE: Binder = Binder {
+    name: 0,
+    at: 0,
+    own: 0,
+    size: 0,
+};
 
 // The record of binder number j.
+#[tactic(auto, unfolding(crate::specs::binders::Row::binder_at_of))]
 fn binder_at(binders: &[u16], j: usize) -> Binder
-    requires { j ≤ 65536 }
+    requires { j ≤ 131072 }
     ensures { result ≡ binder_at_of binders.now j }
 {
-    let name = entry(binders, 4 * j);
-    let at = entry(binders, 4 * j + 1);
-    let own = entry(binders, 4 * j + 2);
-    let size = entry(binders, 4 * j + 3);
     Binder {
-        name,
-        at,
-        own,
-        size,
+        name: item(binders, 4 * j, 0),
+        at: item(binders, 4 * j + 1, 0),
+        own: item(binders, 4 * j + 2, 0),
+        size: item(binders, 4 * j + 3, 0),
     }
 }
 
-// The records from number j on, as far as the first b binders reach.
-fn window_from(binders: &[u16], j: usize, b: usize) -> [Binder; 8]
-    requires { (j ≤ b) × (b ≤ 65536) }
-    ensures { Window binders.now j b result }
+// Eight records from number j on, as a row. `array::from_fn` was tried: its clause doesn't tie each call to the first closure, and the proof did
+// not close.
+fn row_from(binders: &[u16], j: usize) -> [Binder; 8]
+    requires { j ≤ 65536 }
+    ensures { result ≡ binders_from binders.now j 8 }
 {
-    let none = Binder {
-        name: 0,
-        at: 0,
-        own: 0,
-        size: 0,
-    };
-    let mut w = [none; 8];
-    let mut k = 0;
-    while k < 8 {
-        if b <= j + k {
-            return w;
-        }
-        let x = binder_at(binders, j + k);
-        w[k] = x;
-        k += 1;
+    let mut row = [NONE; 8];
+    for k in 0..8 {
+        row[k] = binder_at(binders, j + k);
     }
-    w
+    row
 }
 
-// Whether the name at a place is this one.
-fn is_named(s: &[u8], name: &[u8], at: u16) -> bool
-    ensures { result ≡ eq_name (name_at s.now at) name.now }
+// The first of a row that has this name.
+fn first_named(s: &[u8], name: &[u8], row: &[Binder]) -> Option<Binder>
+    ensures { result ≡ found_in s.now name.now row.now }
 {
-    let label = name_at(s, at as usize);
-    same_name(label, name)
-}
-
-// The number of the first binder of a name in a row, or how many there are.
-fn first_named(s: &[u8], name: &[u8], row: &[Binder]) -> usize
-    ensures { result ≡ first_in s.now name.now row.now }
-{
-    let mut i = 0;
-    loop {
-        if row.len() <= i {
-            break;
+    for &binder in row {
+        if same_name(name_at(s, usize::from(binder.name)), name) {
+            return Some(binder);
         }
-        if is_named(s, name, row[i].name) {
-            break;
-        }
-        i += 1;
     }
-    i
+    None
 }
 
-// The same of an array, which is lent as a row.
-fn first_in_window(s: &[u8], name: &[u8], window: [Binder; 8]) -> usize
-    ensures { result ≡ first_in s.now name.now window }
-{
-    first_named(s, name, &window)
-}
-
-// The first binder of a name among the first b: "A parameter's type is that of the first binder of that name".
-pub(crate) fn find_binder(s: &[u8], name: &[u8], binders: &[u16], b: usize) -> Found
+// The first binder of a name among the first b: "A parameter's type is that of the first binder of that name". Eight at a time are lent as a row.
+pub(crate) fn find_binder(s: &[u8], name: &[u8], binders: &[u16], b: usize) -> Option<Binder>
     requires { b ≤ 65536 }
     ensures { result ≡ found_in s.now name.now (binders_from binders.now 0 b) }
 {
-    let mut j = 0;
-    while j < b {
-        let w = window_from(binders, j, b);
-        let i = first_in_window(s, name, w);
-        if i < 8 {
-            if b <= j + i {
-                return Found::Missing;
-            }
-            let x = w[i];
-            return Found::Bound(x);
+    for k in 0..b / 8 + 1 {
+        let row = row_from(binders, 8 * k);
+        let n = (b - 8 * k).min(8);
+        if let Some(binder) = first_named(s, name, &row[..n]) {
+            return Some(binder);
         }
-        j += 8;
     }
-    Found::Missing
+    None
 }

@@ -35,10 +35,7 @@ fn word_count(rt: &HostRuntime) -> usize {
 fn first_word(rt: &HostRuntime, buf: &mut [u8]) -> usize
     ensures { result ≤ length buf.new }
 {
-    match rt.arg(1, buf) {
-        Ok(n) => n,
-        Err(_) => 0,
-    }
+    rt.arg(1, buf).unwrap_or(0)
 }
 
 fn main(rt: HostRuntime) -> io::Result<()> {
@@ -46,8 +43,8 @@ fn main(rt: HostRuntime) -> io::Result<()> {
     let n = first_word(&rt, &mut word);
     let count = word_count(&rt);
     match mode_of(count, &word[..n]) {
-        Mode::Plain => list(&rt, false),
-        Mode::Nested => list(&rt, true),
-        Mode::Unknown => io::writer(&rt).write_all(b"the words are: none, or --nested\n"),
+        Some(Mode::Plain) => list(&rt, false),
+        Some(Mode::Nested) => list(&rt, true),
+        None => io::writer(&rt).write_all(b"the words are: none, or --nested\n"),
     }
 }

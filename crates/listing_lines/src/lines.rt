@@ -1,6 +1,6 @@
 // The listing of a book, written into a buffer.
 ghost use Rattle.std.specs.Prelude.{◌≡◌, length};
-ghost use Rattle.listing_lines.specs.lines.Lines.{Tells, TellsNested, TellsIn};
+ghost use Rattle.listing_lines.specs.lines.Lines.{TellsIn};
 
 use crate::answers::put_answer;
 use elaborate::elaborate;
@@ -13,32 +13,16 @@ pub fn text_buffer() -> [u8; 65536]
     [0; 65536]
 }
 
-// The listing of a book, cut where the text ends. A text of 65,536 bytes holds every listing.
-fn put_listing(book: &[u8], text: &mut [u8]) -> usize
-    ensures { Tells book.now text.old text.new result }
-{
-    let mut out = [0u8; 16384];
-    let mut work = [0u8; 65536];
-    let answer = elaborate(book, &mut out, &mut work);
-    put_answer(answer, &out, text)
-}
-
-// The listing of the nested mode.
-fn put_nested_listing(book: &[u8], text: &mut [u8]) -> usize
-    ensures { TellsNested book.now text.old text.new result }
-{
-    let mut result = [0u8; 16384];
-    let mut area = [0u8; 65536];
-    let answer = elaborate_nested(book, &mut result, &mut area);
-    put_answer(answer, &result, text)
-}
-
-// The listing of either mode.
+// The listing of a book, in either mode, cut where the text ends. A text of 65,536 bytes holds every listing.
 pub fn put_lines(nested: bool, book: &[u8], text: &mut [u8]) -> usize
     ensures { TellsIn nested book.now text.old text.new result }
 {
-    if nested {
-        return put_nested_listing(book, text);
-    }
-    put_listing(book, text)
+    let mut out = [0u8; 16384];
+    let mut work = [0u8; 65536];
+    let answer = if nested {
+        elaborate_nested(book, &mut out, &mut work)
+    } else {
+        elaborate(book, &mut out, &mut work)
+    };
+    put_answer(answer, &out, text)
 }

@@ -7,6 +7,8 @@ use read_full::read_full;
 use std::io::Write;
 use std::{fs, io};
 
+// The lines that are those of `listing` too stay in both: a function for these five would have to say what a reader and a writer do of which
+// neither program knows more.
 fn list(rt: &HostRuntime, nested: bool, name: &str) -> io::Result<()> {
     let mut file = match fs::open(rt, name) {
         Ok(file) => file,
@@ -24,16 +26,20 @@ fn list(rt: &HostRuntime, nested: bool, name: &str) -> io::Result<()> {
 }
 
 fn main(rt: HostRuntime) -> io::Result<()> {
-    list(&rt, false, "p05.book")?;
-    list(&rt, false, "p06.book")?;
-    list(&rt, false, "p07-chain.book")?;
-    list(&rt, false, "p09-both.book")?;
-    list(&rt, false, "p10.book")?;
-    list(&rt, false, "asset-map.book")?;
-    list(&rt, false, "disk-label.book")?;
-    list(&rt, false, "index-record.book")?;
-    list(&rt, false, "key-message.book")?;
-    list(&rt, false, "packing-list.book")?;
-    list(&rt, false, "nested-packing-list.book")?;
+    for name in [
+        "p05.book",
+        "p06.book",
+        "p07-chain.book",
+        "p09-both.book",
+        "p10.book",
+        "asset-map.book",
+        "disk-label.book",
+        "index-record.book",
+        "key-message.book",
+        "packing-list.book",
+        "nested-packing-list.book",
+    ] {
+        list(&rt, false, name)?;
+    }
     list(&rt, true, "nested-packing-list.book")
 }

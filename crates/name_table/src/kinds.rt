@@ -4,7 +4,8 @@ ghost use Rattle.name_table.specs.kinds.Rows.{Takes, OfKinds};
 use crate::taken::list_name;
 use layout::items::{byte, number, past};
 
-// The definition whose entry stands at a place of the contents gets row n if its kind is one of these; the number of rows then.
+// The definition whose entry stands at a place of the contents gets row n if its kind is one of these; the number of rows then. Where there is
+// no room the number stays as it is: the tables are made for the largest book, and `Takes` is total on any.
 fn take_entry(
     s: &[u8],
     entry: usize,
@@ -17,39 +18,27 @@ fn take_entry(
     ensures { Takes s.now entry low high places.old ways.old n places.new ways.new result }
 {
     let kind = byte(s, entry);
-    if kind < low {
-        return n;
-    }
-    if high < kind {
+    if kind < low || high < kind {
         return n;
     }
     let offset = past(s, entry, 2);
-    let at = number(s, offset) as usize;
-    if 32768 <= at {
-        return n;
-    }
-    if 512 <= n {
-        return n;
-    }
-    if places.len() <= n {
-        return n;
-    }
-    if ways.len() < 258 + 2 * n {
+    let at = usize::from(number(s, offset));
+    if 32768 <= at || 512 <= n || places.len() <= n || ways.len() < 258 + 2 * n {
         return n;
     }
     list_name(s, at, places, ways, n);
     n + 1
 }
 
-// A row for each definition of these kinds, that of the last first; the number of rows.
+// A row for each definition of these kinds; the number of rows. From the last to the first, since `taken` lists the names with the last taken in
+// front, which is then the order of the book.
 pub fn take_kinds(s: &[u8], low: u8, high: u8, places: &mut [u16], ways: &mut [u32]) -> usize
     ensures { OfKinds s.now low high places.old ways.old places.new ways.new result }
 {
-    let mut left = number(s, 0) as usize;
+    let count = usize::from(number(s, 0));
     let mut n = 0;
-    while 0 < left {
-        left -= 1;
-        let entry = past(s, 2, 6 * left);
+    for i in (0..count).rev() {
+        let entry = past(s, 2, 6 * i);
         n = take_entry(s, entry, low, high, places, ways, n);
     }
     n

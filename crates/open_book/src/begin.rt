@@ -2,38 +2,36 @@
 ghost use Rattle.open_book.specs.begin.Begins.{Begins};
 
 use expand_macros::kept::has_no_macros;
-use read_book::body::Verdict;
 use read_book::book::read;
+use read_book::cursor::Fault;
+use what_comes_back::{Code, Refusal};
 
-// A book that passes codes 1 to 5, without macros or with some; or a code, and the place of the item at fault where it has one.
-#[derive(Clone, Copy)]
+// A book that passes codes 1 to 5: without macros, or with some.
+#[derive(Clone, Copy, Debug, PartialEq, Eq)]
 pub enum Begun {
     Plain,
     Macros,
-    Refused { code: u8, at: u16 },
 }
 
 // Codes 1 to 5, with a work area of so many bytes.
-pub fn begin(book: &[u8], work: usize) -> Begun
+pub fn begin(book: &[u8], work: usize) -> Result<Begun, Refusal>
     ensures { Begins book.now work result }
 {
     if work < 65536 {
-        return Begun::Refused { code: 1, at: 0 };
+        return Err(Refusal::from(Code::WorkShort));
     }
     if 16384 < book.len() {
-        return Begun::Refused { code: 2, at: 0 };
+        return Err(Refusal::from(Code::BookLong));
     }
-    let verdict = read(book);
-    match verdict {
-        Verdict::Refused(f) => Begun::Refused {
-            code: f.code,
-            at: f.at as u16,
-        },
-        Verdict::Sound => {
-            if has_no_macros(book) {
-                return Begun::Plain;
-            }
-            Begun::Macros
-        }
+    // In a book this short every place fits, which a From could not ask for.
+    if let Err(Fault { code, at }) = read(book) {
+        return Err(Refusal {
+            code,
+            at: at as u16,
+        });
     }
+    if has_no_macros(book) {
+        return Ok(Begun::Plain);
+    }
+    Ok(Begun::Macros)
 }

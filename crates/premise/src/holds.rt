@@ -1,69 +1,44 @@
 // The premise test over an expanded book, on validated bytes: document 01's "Premise test and listing".
 ghost use Rattle.std.specs.Prelude.{length};
 ghost use Rattle.walker.specs.bodies.Tested.{FormatTested, DefinitionTested, BodiesTested};
-ghost use Rattle.name_table.specs.kinds.Rows.{Rows, row_names};
+ghost use Rattle.name_table.specs.kinds.Rows.{row_names};
 ghost use Rattle.premise.specs.holds.Holds.{passes, Holds};
 
-use crate::called::all_known;
-use layout::items::{byte, name_past};
+use crate::called::Callable;
+use buffer::parts::first;
+use layout::items::name_past;
+use layout::kinds::{CONSTANT, FORMAT};
 use name_table::kinds::take_kinds;
-use walker::definitions::{all_definitions, next_definition, params_past};
-use walker::marks::first_marks;
+use walker::definitions::{each_definition, params_past};
 use walker::skip::walk_over;
 
 // The format at a place: its body, behind its name and its parameters.
-fn format_holds(
-    s: &[u8],
-    at: usize,
-    places: &[u16],
-    ways: &[u32],
-    n: usize,
-    marks: &mut [u16],
-) -> bool
-    requires { Rows s.now places.now ways.now n }
-    ensures { FormatTested s.now at (passes (row_names s.now places.now n)) (length marks.old) result }
+fn format_holds(t: Callable<'_>, at: usize, marks: &mut [u16]) -> bool
+    ensures { FormatTested t.entry.book.now at (passes (row_names t.entry.book.now t.entry.places.now t.entry.n)) (length marks.old) result }
 {
-    let params = name_past(s, at);
-    let body = params_past(s, params, marks);
-    let w = walk_over(s, body, 64, marks);
-    let plain = w.plain;
-    let count = w.n;
-    if plain {
-        return all_known(s, first_marks(&marks[..], count), places, ways, n);
-    }
-    false
+    let params = name_past(t.book, at);
+    let body = params_past(t.book, params, marks);
+    let w = walk_over(t.book, body, 64, marks);
+    w.plain && t.all_known(first(&marks[..], w.n))
 }
 
 // The definition at a place: only of a format is anything asked.
-fn definition_holds(
-    s: &[u8],
-    kind: u8,
-    at: usize,
-    places: &[u16],
-    ways: &[u32],
-    n: usize,
-    marks: &mut [u16],
-) -> bool
-    requires { Rows s.now places.now ways.now n }
-    ensures { DefinitionTested s.now kind at (passes (row_names s.now places.now n)) (length marks.old) result }
+#[tactic(auto, using(walker::proofs::bodies::Tested::definition_format, walker::proofs::bodies::Tested::definition_other))]
+fn definition_holds(t: Callable<'_>, kind: u8, at: usize, marks: &mut [u16]) -> bool
+    ensures { DefinitionTested t.entry.book.now kind at (passes (row_names t.entry.book.now t.entry.places.now t.entry.n)) (length marks.old) result }
 {
-    if kind == 1 {
-        return format_holds(s, at, places, ways, n, marks);
+    if kind == FORMAT {
+        return format_holds(t, at, marks);
     }
     true
 }
 
-// Every format's body, with the names that may be called in a table.
-fn bodies_hold(s: &[u8], places: &[u16], ways: &[u32], n: usize, marks: &mut [u16]) -> bool
-    requires { Rows s.now places.now ways.now n }
-    ensures { BodiesTested s.now (passes (row_names s.now places.now n)) (length marks.old) result }
+// Every format's body, with the names that may be called in a table. (Why this loop stands in `expand_nested::settled` too is said there.)
+fn bodies_hold(t: Callable<'_>, marks: &mut [u16]) -> bool
+    ensures { BodiesTested t.entry.book.now (passes (row_names t.entry.book.now t.entry.places.now t.entry.n)) (length marks.old) result }
 {
-    let mut d = all_definitions(s);
-    while 0 < d.left {
-        let kind = byte(s, d.entry);
-        let here = d.at;
-        d = next_definition(s, d);
-        if !definition_holds(s, kind, here, places, ways, n, marks) {
+    for d in each_definition(t.book) {
+        if !definition_holds(t, d.kind, d.at, marks) {
             return false;
         }
     }
@@ -77,6 +52,12 @@ pub(crate) fn holds(s: &[u8]) -> bool
     let mut places = [0u16; 512];
     let mut ways = [0u32; 1280];
     let mut marks = [0u16; 8192];
-    let n = take_kinds(s, 1, 2, &mut places, &mut ways);
-    bodies_hold(s, &places, &ways, n, &mut marks)
+    let n = take_kinds(s, FORMAT, CONSTANT, &mut places, &mut ways);
+    let t = Callable {
+        book: s,
+        places: &places,
+        ways: &ways,
+        n,
+    };
+    bodies_hold(t, &mut marks)
 }

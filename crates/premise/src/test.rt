@@ -6,28 +6,20 @@ ghost use Rattle.what_comes_back.specs.Tells.{tested_as};
 
 use crate::holds::holds;
 use buffer::zeroing::zero_range;
-use open_book::opened::{Opened, open_book};
-use what_comes_back::Tested;
+use open_book::opened::open_book;
+use what_comes_back::Refusal;
 
 // The premise test, with the work area left as it is then.
-fn test(book: &[u8], work: &mut [u8]) -> Tested
+fn test(book: &[u8], work: &mut [u8]) -> Result<bool, Refusal>
     ensures { result ≡ tested_as (fault_at book.now (length work.old)) (tested book.now (length work.old)) }
 {
     let mut expanded = [0u8; 16384];
-    let opened = open_book(book, work, &mut expanded);
-    match opened {
-        Opened::Refused { code, at } => Tested::Refused { code, at },
-        Opened::Book { len } => {
-            if holds(&expanded[..len]) {
-                return Tested::Holds;
-            }
-            Tested::Fails
-        }
-    }
+    let len = open_book(book, work, &mut expanded)?;
+    Ok(holds(&expanded[..len]))
 }
 
 // "takes a book and a work area, gives 1 to 6 as above, else yes or no"; "The work area is all zero afterwards."
-pub fn premise(book: &[u8], work: &mut [u8]) -> Tested
+pub fn premise(book: &[u8], work: &mut [u8]) -> Result<bool, Refusal>
     ensures value { result ≡ tested_as (fault_at book.now (length work.old)) (tested book.now (length work.old)) }
     ensures work_after { work.new ≡ zeroed work.old }
 {

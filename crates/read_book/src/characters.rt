@@ -1,5 +1,5 @@
 // Characters in UTF-8, one byte after the other: what may follow. Document 01, "The definition book".
-ghost use Rattle.std.specs.Prelude.{◌≡◌, List, ◌∷◌, ℕ, ◌≤◌, ◌<◌};
+ghost use Rattle.std.specs.Prelude.{◌≡◌, List, ◌∷◌, ℕ};
 ghost use Rattle.definition.specs.Utf8.{range, behind, characters};
 ghost use Rattle.read_book.specs.characters.Ranges.{ranges, ranges_by};
 
@@ -17,79 +17,32 @@ fn wants(left: u8, low: u8, high: u8) -> Awaits
     Awaits { left, low, high }
 }
 
-fn lead_of_four(b: u8) -> Awaits
-    requires { 0xF0 ≤ b }
-    ensures { behind b ≡ ranges result }
-{
-    if b == 0xF0 {
-        return wants(3, 0x90, 0xBF);
-    }
-    if b < 0xF4 {
-        return wants(3, 0x80, 0xBF);
-    }
-    if b == 0xF4 {
-        return wants(3, 0x80, 0x8F);
-    }
-    wants(1, 1, 0)
-}
-
-fn lead_of_three(b: u8) -> Awaits
-    requires { (0xE0 ≤ b) × (b < 0xF0) }
-    ensures { behind b ≡ ranges result }
-{
-    if b == 0xE0 {
-        return wants(2, 0xA0, 0xBF);
-    }
-    if b == 0xED {
-        return wants(2, 0x80, 0x9F);
-    }
-    wants(2, 0x80, 0xBF)
-}
-
 // What the first byte of a character wants behind it; of a byte that starts no character, what no byte meets.
 fn lead(b: u8) -> Awaits
     ensures { behind b ≡ ranges result }
 {
-    if b < 0x80 {
-        return wants(0, 0x80, 0xBF);
+    match b {
+        0x00..=0x7F => wants(0, 0x80, 0xBF),
+        0xC2..=0xDF => wants(1, 0x80, 0xBF),
+        0xE0 => wants(2, 0xA0, 0xBF),
+        0xED => wants(2, 0x80, 0x9F),
+        0xE1..=0xEF => wants(2, 0x80, 0xBF),
+        0xF0 => wants(3, 0x90, 0xBF),
+        0xF1..=0xF3 => wants(3, 0x80, 0xBF),
+        0xF4 => wants(3, 0x80, 0x8F),
+        _ => wants(1, 1, 0),
     }
-    if b < 0xC2 {
-        return wants(1, 1, 0);
-    }
-    if b < 0xE0 {
-        return wants(1, 0x80, 0xBF);
-    }
-    if b < 0xF0 {
-        return lead_of_three(b);
-    }
-    lead_of_four(b)
 }
 
 // One byte further: the first of a character, or one that the character wants.
 pub(crate) fn next(a: Awaits, b: u8) -> Awaits
     ensures { (t : List ℕ) → characters (ranges a) (b ∷ t) ≡ characters (ranges result) t }
 {
-    let left = a.left;
-    if left == 0 {
+    if a.left == 0 {
         return lead(b);
     }
-    if b < a.low {
-        return Awaits {
-            left: 1,
-            low: 1,
-            high: 0,
-        };
+    if b < a.low || a.high < b {
+        return wants(1, 1, 0);
     }
-    if a.high < b {
-        return Awaits {
-            left: 1,
-            low: 1,
-            high: 0,
-        };
-    }
-    Awaits {
-        left: left - 1,
-        low: 0x80,
-        high: 0xBF,
-    }
+    wants(a.left - 1, 0x80, 0xBF)
 }

@@ -1,133 +1,90 @@
 // Reading at a place of the book: a byte, a number, a name, a text. Document 01, "The definition book".
-ghost use Rattle.std.specs.Prelude.{◌≡◌, ◌+◌, ◌<◌};
-ghost use Rattle.definition.specs.Read.{byte as byte_of, u16 as u16Of, text as text_of, name_by};
+ghost use Rattle.std.specs.Prelude.{◌+◌};
+ghost use Rattle.definition.specs.Read.{byte as byte_of, u16 as u16_of, text as text_of, name_by};
 ghost use Rattle.read_book.specs.utf8.Tested.{tested};
-ghost use Rattle.read_book.specs.cursor.Ends.{Takes, Cuts, of_byte, of_number};
-ghost use Rattle.read_book.specs.cursor.Item.{among as amongOf};
+ghost use Rattle.read_book.specs.cursor.Ends.{Takes, Cuts};
+ghost use Rattle.read_book.specs.cursor.Item.{among as among_of};
 
 use crate::utf8::is_name;
+use what_comes_back::Code;
+use what_comes_back::Code::{BadName, NotABook};
 
-// A place in the book.
+// A place in the book. The book's bytes go along beside it: with them inside (tried), reading a book takes a fifth longer than before, which is
+// over what it took of the Rust's time.
 #[derive(Clone, Copy)]
 pub(crate) struct Cursor {
     pub at: usize,
 }
 
-// A refusal: its code, and the place of the item at fault.
-#[derive(Clone, Copy)]
+// A refusal: the place of the item at fault, and its code. It is no Refusal: a place of any slice may need more than 16 bits.
+#[derive(Clone, Copy, Debug, PartialEq, Eq)]
 pub struct Fault {
-    pub code: u8,
     pub at: usize,
-}
-
-#[derive(Clone, Copy)]
-pub(crate) enum ByteStep {
-    Byte(u8, Cursor),
-    NoByte(Fault),
-}
-
-#[derive(Clone, Copy)]
-pub(crate) enum NumberStep {
-    Number(usize, Cursor),
-    NoNumber(Fault),
-}
-
-// What was walked past holds no number: the next place is all there is to say.
-#[derive(Clone, Copy)]
-pub(crate) enum Walked {
-    Past(Cursor),
-    Refused(Fault),
-}
-
-fn wide(b: u8) -> usize
-    ensures { (result ≡ b) × (result < 256) }
-{
-    b as usize
+    pub code: Code,
 }
 
 impl Cursor {
-    fn byte(self, s: &[u8]) -> ByteStep
-        ensures { Takes s.now self.at (of_byte result) byte_of }
+    fn byte(self, s: &[u8]) -> Result<(u8, Cursor), Fault>
+        ensures { Takes s.now self.at result byte_of }
     {
         let at = self.at;
         if s.len() <= at {
-            return ByteStep::NoByte(Fault { code: 3, at: at });
+            return Err(Fault { at, code: NotABook });
         }
-        ByteStep::Byte(s[at], Cursor { at: at + 1 })
+        Ok((s[at], Cursor { at: at + 1 }))
     }
 
     // A byte from low to high: a kind, a tag or a flag.
-    pub fn among(self, s: &[u8], low: u8, high: u8) -> ByteStep
-        ensures { Takes s.now self.at (of_byte result) (amongOf low high) }
+    pub fn among(self, s: &[u8], low: u8, high: u8) -> Result<(u8, Cursor), Fault>
+        ensures { Takes s.now self.at result (among_of low high) }
     {
         let at = self.at;
-        match self.byte(s) {
-            ByteStep::NoByte(f) => ByteStep::NoByte(f),
-            ByteStep::Byte(b, c) => {
-                if b < low {
-                    return ByteStep::NoByte(Fault { code: 3, at: at });
-                }
-                if high < b {
-                    return ByteStep::NoByte(Fault { code: 3, at: at });
-                }
-                ByteStep::Byte(b, c)
-            }
+        let (b, c) = self.byte(s)?;
+        if b < low || high < b {
+            return Err(Fault { at, code: NotABook });
         }
+        Ok((b, c))
     }
 
-    pub fn u16(self, s: &[u8]) -> NumberStep
-        ensures { Takes s.now self.at (of_number result) u16Of }
+    pub fn u16(self, s: &[u8]) -> Result<(usize, Cursor), Fault>
+        ensures { Takes s.now self.at result u16_of }
     {
         let at = self.at;
-        if s.len() <= at {
-            return NumberStep::NoNumber(Fault { code: 3, at: at });
+        if s.len() <= at || s.len() <= at + 1 {
+            return Err(Fault { at, code: NotABook });
         }
-        let second = at + 1;
-        if s.len() <= second {
-            return NumberStep::NoNumber(Fault { code: 3, at: at });
-        }
-        let low = wide(s[at]);
-        let high = wide(s[second]);
-        let next = second + 1;
-        let number = low + 256 * high;
-        NumberStep::Number(number, Cursor { at: next })
+        let number = u16::from_le_bytes([s[at], s[at + 1]]);
+        Ok((usize::from(number), Cursor { at: at + 2 }))
     }
 
     // A text; its bytes are those from two behind the cursor up to the next one.
-    pub fn text(self, s: &[u8]) -> Walked
+    pub fn text(self, s: &[u8]) -> Result<Cursor, Fault>
         ensures { Cuts s.now self.at (self.at + 2) result text_of }
     {
         let at = self.at;
-        match self.u16(s) {
-            NumberStep::NoNumber(f) => Walked::Refused(f),
-            NumberStep::Number(n, c) => {
-                let from = c.at;
-                if s.len() - from < n {
-                    return Walked::Refused(Fault { code: 3, at: at });
-                }
-                let to = from + n;
-                Walked::Past(Cursor { at: to })
-            }
+        let (n, c) = self.u16(s)?;
+        let from = c.at;
+        if s.len() - from < n {
+            return Err(Fault { at, code: NotABook });
         }
+        Ok(Cursor { at: from + n })
     }
 
-    // A name; its bytes are those from one behind the cursor up to the next one.
-    pub fn name(self, s: &[u8], dots: bool) -> Walked
+    // A name; its bytes are those from one behind the cursor up to the next one. `dots` is a bool: the definition's `name_by` takes the test so.
+    pub fn name(self, s: &[u8], dots: bool) -> Result<Cursor, Fault>
         ensures { Cuts s.now self.at (self.at + 1) result (name_by (tested dots)) }
     {
         let at = self.at;
-        if s.len() <= at {
-            return Walked::Refused(Fault { code: 3, at: at });
-        }
-        let n = wide(s[at]);
-        let from = at + 1;
+        let (b, c) = self.byte(s)?;
+        let n = usize::from(b);
+        let from = c.at;
         if s.len() - from < n {
-            return Walked::Refused(Fault { code: 3, at: at });
+            return Err(Fault { at, code: NotABook });
         }
         let to = from + n;
-        if is_name(&s[from..to], dots) {
-            return Walked::Past(Cursor { at: to });
+        if !is_name(&s[from..to], dots) {
+            return Err(Fault { at, code: BadName });
         }
-        Walked::Refused(Fault { code: 4, at: at })
+        Ok(Cursor { at: to })
     }
 }

@@ -1,28 +1,24 @@
 // Substitution of one parameter on validated bytes: document 01's "Macro rules", 4.
-ghost use Rattle.std.specs.Prelude.{◌≡◌, false};
-ghost use Rattle.buffer.specs.writes.Buf.{part, Wrote};
+ghost use Rattle.std.specs.Prelude.{◌≡◌};
+ghost use Rattle.buffer.specs.writes.Buf.{Wrote};
 ghost use Rattle.buffer.specs.areas.First.{first};
 ghost use Rattle.substitute.specs.substitution.Turned.{Turned};
 ghost use Rattle.substitute.specs.substitution.Substituted.{calls_name_of, substituted};
 
 use buffer::areas::{first_area, put_across, put_back};
-use buffer::numbers::least;
+use buffer::parts::{first, part};
 use buffer::writes::put_bytes;
 use layout::items::{byte, name_past, past};
 use layout::lookup::{name_at, same_name};
-use walker::marks::first_marks;
+use layout::tags::INVOCATION;
 use walker::skip::{skip_over, walk_over};
 
 // Whether what stands at a place is an Invocation of this name.
+#[tactic(auto, unfolding(crate::specs::substitution::Substituted::calls_name_of))]
 fn calls_name(s: &[u8], at: usize, name: &[u8]) -> bool
     ensures { result ≡ calls_name_of s.now at name.now }
 {
-    let tag = byte(s, at);
-    let a = past(s, at, 1);
-    if tag == 15 {
-        return same_name(name_at(s, a), name);
-    }
-    false
+    byte(s, at) == INVOCATION && same_name(name_at(s, past(s, at, 1)), name)
 }
 
 // The combinator that stands in the first area up to `to` is made anew in the second, with the argument for each call of the parameter. The marks
@@ -38,94 +34,59 @@ fn substitute_in_combinator(
 {
     let mut at = 0;
     let mut o = 16384;
-    let mut i = 0;
-    while i + 1 < marks.len() {
-        let call = marks[i] as usize;
-        let end = marks[i + 1] as usize;
-        i += 2;
-        if calls_name(first_area(&areas[..]), call, param) {
-            let q = put_across(areas, at, call, o);
+    let (calls, _) = marks.as_chunks::<2>();
+    for call in calls {
+        let place = usize::from(call[0]);
+        if calls_name(first_area(&areas[..]), place, param) {
+            let q = put_across(areas, at, place, o);
             o = put_bytes(arg, areas, q);
-            at = end;
+            at = usize::from(call[1]);
         }
     }
     put_across(areas, at, to, o)
 }
 
 // Where the making of an instance stands: the places of the next parameter and of the next argument, the length of the combinator made so far and
-// the number of its marks, and whether it is within the limits.
+// the number of its marks. The bytes go beside it, the macros' and the book's: two areas of them are written meanwhile.
 #[derive(Clone, Copy)]
 pub struct Turn {
     pub param: usize,
     pub arg: usize,
     pub len: usize,
     pub n: usize,
-    pub good: bool,
 }
 
-// The bytes from place a up to place e, as far as s reaches.
-fn between(s: &[u8], a: usize, e: usize) -> &[u8]
-    ensures { result.now ≡ part a e s.now }
-{
-    let end = least(e, s.len());
-    if end <= a {
-        return &s[..0];
-    }
-    &s[a..end]
-}
-
-fn stopped(t: Turn) -> Turn
-    ensures { result.good ≡ false }
-{
-    Turn {
-        param: t.param,
-        arg: t.arg,
-        len: t.len,
-        n: t.n,
-        good: false,
-    }
-}
-
-// One parameter's turn: the combinator in the first area is made anew in the second, and goes back to the first. Over 16,384 bytes or 64 levels,
-// or with more calls than the marks have room for, it is not good.
+// One parameter's turn: the combinator in the first area is made anew in the second, and goes back to the first. None over 16,384 bytes or 64
+// levels, or with more calls than the marks have room for.
 pub(crate) fn substitute_next(
     macros: &[u8],
     book: &[u8],
     t: Turn,
     areas: &mut [u8],
     marks: &mut [u16],
-) -> Turn
+) -> Option<Turn>
     ensures { Turned macros.now book.now areas.old marks.old t areas.new marks.new result }
 {
-    let param = t.param;
-    let arg = t.arg;
-    let len = t.len;
-    let n = t.n;
-    let u = skip_over(book, arg, marks);
-    let end = u.at;
+    let end = skip_over(book, t.arg, marks).at;
     let o = substitute_in_combinator(
         areas,
-        len,
-        first_marks(&marks[..], n),
-        name_at(macros, param),
-        between(book, arg, end),
+        t.len,
+        first(&marks[..], t.n),
+        name_at(macros, t.param),
+        part(book, t.arg, end),
     );
     if areas.len() < o {
-        return stopped(t);
+        return None;
     }
     put_back(areas, o);
     let w = walk_over(first_area(&areas[..]), 0, 129, marks);
-    let left = w.left;
-    let count = w.n;
-    if marks.len() < count {
-        return stopped(t);
+    if marks.len() < w.n || w.left < 65 {
+        return None;
     }
-    let next = name_past(macros, param);
-    Turn {
-        param: next,
+    Some(Turn {
+        param: name_past(macros, t.param),
         arg: end,
         len: w.at,
-        n: count,
-        good: 65 <= left,
-    }
+        n: w.n,
+    })
 }

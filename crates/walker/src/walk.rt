@@ -1,9 +1,9 @@
 // The walk over a combinator: where it stands, and its single steps that record nothing.
-ghost use Rattle.std.specs.Prelude.{◌≡◌};
-ghost use Rattle.walker.specs.walk.Steps.{moved, entered, chained_to_of, silent, back, text_or_length_of};
+ghost use Rattle.std.specs.Prelude.{◌≡◌, true};
+ghost use Rattle.walker.specs.walk.Steps.{walk, moved, entered, chained_to_of, silent, back, text_or_length_of};
 
-use buffer::numbers::least;
 use layout::items::{length_past, stands_on, text_past};
+use layout::tags::BYTES;
 
 // Where the walk stands: its place, how many numbers are recorded, the fewest levels that were left on the way, and whether
 // every chain so far stands on Bytes or Tail.
@@ -15,78 +15,82 @@ pub struct Walk {
     pub plain: bool,
 }
 
-// The same walk at another place.
-pub(crate) fn moved(w: Walk, at: usize) -> Walk
-    ensures { result ≡ moved w at }
-{
-    Walk {
-        at,
-        n: w.n,
-        left: w.left,
-        plain: w.plain,
+impl Walk {
+    // A walk that begins at a place, with so many levels left.
+    pub(crate) fn begin(at: usize, left: usize) -> Walk
+        ensures { result ≡ walk at 0 left true }
+    {
+        Walk {
+            at,
+            n: 0,
+            left,
+            plain: true,
+        }
     }
-}
 
-// At another place, with so many levels left there.
-pub(crate) fn entered(w: Walk, at: usize, levels: usize) -> Walk
-    ensures { result ≡ entered w at levels }
-{
-    let left = w.left;
-    let fewest = least(left, levels);
-    Walk {
-        at,
-        n: w.n,
-        left: fewest,
-        plain: w.plain,
+    // The same walk at another place.
+    pub(crate) fn moved(self, at: usize) -> Walk
+        ensures { result ≡ moved self at }
+    {
+        Walk { at, ..self }
     }
-}
 
-// Behind the flag of a chain that stands on an inner with this tag.
-pub(crate) fn chained_to(w: Walk, tag: u8) -> Walk
-    ensures { result ≡ chained_to_of w tag }
-{
-    let good = stands_on(tag);
-    if good {
-        return w;
+    // At another place, with so many levels left there.
+    pub(crate) fn entered(self, at: usize, levels: usize) -> Walk
+        ensures { result ≡ entered self at levels }
+    {
+        Walk {
+            at,
+            left: self.left.min(levels),
+            ..self
+        }
     }
-    Walk {
-        at: w.at,
-        n: w.n,
-        left: w.left,
-        plain: false,
-    }
-}
 
-// At another place and with another count of recorded numbers.
-pub(crate) fn silent(w: Walk, at: usize, n: usize) -> Walk
-    ensures { result ≡ silent w at n }
-{
-    Walk {
-        at,
-        n,
-        left: w.left,
-        plain: w.plain,
+    // Behind the flag of a chain that stands on an inner with this tag.
+    // All fields by name: with `..self`, or with `&&` for the flag, the whole walk takes a fifth longer.
+    #[tactic(auto, unfolding(crate::specs::walk::Steps::chained_to_of))]
+    pub(crate) fn chained_to(self, tag: u8) -> Walk
+        ensures { result ≡ chained_to_of self tag }
+    {
+        if stands_on(tag) {
+            return self;
+        }
+        Walk {
+            at: self.at,
+            n: self.n,
+            left: self.left,
+            plain: false,
+        }
     }
-}
 
-// The walk w behind what u went over with nothing recorded: the place and the levels are u's.
-pub(crate) fn back(w: Walk, u: Walk) -> Walk
-    ensures { result ≡ back w u }
-{
-    Walk {
-        at: u.at,
-        n: w.n,
-        left: u.left,
-        plain: w.plain,
+    // At another place and with another count of recorded numbers. A count past the row's end stands in for a flag: `put_item` writes
+    // nothing then, so no step has to ask.
+    pub(crate) fn silent(self, at: usize, n: usize) -> Walk
+        ensures { result ≡ silent self at n }
+    {
+        Walk { at, n, ..self }
+    }
+
+    // This walk behind what `over` went over with nothing recorded: the place and the levels are those of `over`.
+    pub(crate) fn back(self, over: Walk) -> Walk
+        ensures { result ≡ back self over }
+    {
+        Walk {
+            at: over.at,
+            left: over.left,
+            ..self
+        }
     }
 }
 
 // What stands behind the tag of an inner that holds no combinator: a length in Bytes, else a text.
+#[tactic(auto, unfolding(crate::specs::walk::Steps::text_or_length_of))]
 pub fn text_or_length(s: &[u8], at: usize, tag: u8) -> usize
     ensures { result ≡ text_or_length_of s.now at tag }
 {
-    if tag == 10 {
-        return length_past(s, at);
+    if tag == BYTES {
+        length_past(s, at)
+    } else {
+        text_past(s, at)
     }
-    text_past(s, at)
 }

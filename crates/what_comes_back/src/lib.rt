@@ -2,29 +2,58 @@
 #![tactic(auto)]
 
 ghost use Rattle.std.specs.Prelude.{◌≡◌};
-ghost use Rattle.what_comes_back.specs.Elaborates.{reported};
-ghost use Rattle.what_comes_back.specs.Tells.{told};
+ghost use Rattle.what_comes_back.specs.Codes.{number_of};
+ghost use Rattle.what_comes_back.specs.Elaborates.{InNumbers};
+ghost use Rattle.what_comes_back.specs.Tells.{TestedInNumbers};
 
-// The result's length, its count of definitions and the count lifted; or a code, and the place of the item at fault where it has one.
-#[derive(Clone, Copy)]
-pub enum Elaborated {
-    Done {
-        length: u16,
-        definitions: u16,
-        lifted: u16,
-    },
-    Refused {
-        code: u8,
-        at: u16,
-    },
+// Why a book is refused: document 01's codes in the order of its table, and then those of document 02.
+#[derive(Clone, Copy, Debug, PartialEq, Eq)]
+pub enum Code {
+    WorkShort = 1,
+    BookLong = 2,
+    NotABook = 3,
+    BadName = 4,
+    TooDeep = 5,
+    MacroGrowth = 6,
+    LeftoverMacro = 7,
+    NoBinder = 8,
+    NameLong = 9,
+    ResultLong = 10,
+    OutputShort = 11,
+    MacroLeft = 12,
 }
 
-// The premise test's answer: yes, no, or a code and a place.
-#[derive(Clone, Copy)]
-pub enum Tested {
-    Holds,
-    Fails,
-    Refused { code: u8, at: u16 },
+// The code's number in the documents.
+impl From<Code> for u8 {
+    ghost from_gives = { λ code n. n ≡ number_of code };
+
+    fn from(code: Code) -> u8 {
+        code as u8
+    }
+}
+
+// A refusal: its code, and the place of the item at fault where it has one, else 0.
+#[derive(Clone, Copy, Debug, PartialEq, Eq)]
+pub struct Refusal {
+    pub code: Code,
+    pub at: u16,
+}
+
+// A code without a place.
+impl From<Code> for Refusal {
+    ghost from_gives = { λ code r. r ≡ record { code = code; at = 0 } };
+
+    fn from(code: Code) -> Refusal {
+        Refusal { code, at: 0 }
+    }
+}
+
+// A result: its length, its count of definitions and the count lifted.
+#[derive(Clone, Copy, Debug, PartialEq, Eq)]
+pub struct Elaborated {
+    pub length: u16,
+    pub definitions: u16,
+    pub lifted: u16,
 }
 
 // An elaboration's answer in numbers.
@@ -48,50 +77,53 @@ pub struct Numbers {
 }
 
 // An elaboration's answer in numbers: "On a refusal the three numbers are 0".
-pub fn elaborated_in_numbers(e: Elaborated) -> Report
-    ensures { (result.code ≡ (reported e).code) × (result.length ≡ (reported e).size) × (result.definitions ≡ (reported e).definitions) × (result.lifted ≡ (reported e).lifts) × (result.at ≡ (reported e).at) }
-{
-    match e {
-        Elaborated::Done {
-            length,
-            definitions,
-            lifted,
-        } => Report {
-            code: 0,
-            length: length as u32,
-            definitions: definitions as u32,
-            lifted: lifted as u32,
-            at: 0,
-        },
-        Elaborated::Refused { code, at } => Report {
-            code: code as u32,
-            length: 0,
-            definitions: 0,
-            lifted: 0,
-            at: at as u32,
-        },
+impl From<Result<Elaborated, Refusal>> for Report {
+    ghost from_gives = { InNumbers };
+
+    #[tactic(auto, unfolding(crate::specs::Elaborates::reported))]
+    fn from(answer: Result<Elaborated, Refusal>) -> Report {
+        match answer {
+            Ok(
+                Elaborated {
+                    length,
+                    definitions,
+                    lifted,
+                },
+            ) => Report {
+                code: 0,
+                length: length as u32,
+                definitions: definitions as u32,
+                lifted: lifted as u32,
+                at: 0,
+            },
+            Err(Refusal { code, at }) => Report {
+                code: u8::from(code) as u32,
+                length: 0,
+                definitions: 0,
+                lifted: 0,
+                at: at as u32,
+            },
+        }
     }
 }
 
-// The premise test's answer in numbers.
-pub fn tested_in_numbers(t: Tested) -> Numbers
-    ensures { (result.code ≡ (told t).code) × (result.holds ≡ (told t).holds) × (result.at ≡ (told t).at) }
-{
-    match t {
-        Tested::Holds => Numbers {
-            code: 0,
-            holds: 1,
-            at: 0,
-        },
-        Tested::Fails => Numbers {
-            code: 0,
-            holds: 0,
-            at: 0,
-        },
-        Tested::Refused { code, at } => Numbers {
-            code: code as u32,
-            holds: 0,
-            at: at as u32,
-        },
+// The premise test's answer, yes or no, in numbers.
+impl From<Result<bool, Refusal>> for Numbers {
+    ghost from_gives = { TestedInNumbers };
+
+    #[tactic(auto, unfolding(crate::specs::Tells::told))]
+    fn from(answer: Result<bool, Refusal>) -> Numbers {
+        match answer {
+            Ok(holds) => Numbers {
+                code: 0,
+                holds: holds as u32,
+                at: 0,
+            },
+            Err(Refusal { code, at }) => Numbers {
+                code: u8::from(code) as u32,
+                holds: 0,
+                at: at as u32,
+            },
+        }
     }
 }

@@ -4,29 +4,21 @@
 ghost use Rattle.std.specs.Prelude.{◌≡◌};
 ghost use Rattle.words.specs.Mode.{mode_of};
 
-use layout::lookup::same_name;
-
-// What it lists: in document 01's mode, in the nested one of document 02 b, or nothing, since the words are others.
-#[derive(Clone, Copy)]
+// In which mode it lists: document 01's, or the nested one of document 02 b.
+#[derive(Clone, Copy, Debug, PartialEq, Eq)]
 pub enum Mode {
     Plain,
     Nested,
-    Unknown,
 }
 
-// So many words, the program's own name the first of them; the second is given.
+// The mode that so many words ask for, the program's own name the first of them; the second is given. Other words ask for none.
 #[tactic(auto, using(crate::proofs::Modes::few, crate::proofs::Modes::many, crate::proofs::Modes::asked, crate::proofs::Modes::other))]
-pub fn mode_of(count: usize, word: &[u8]) -> Mode
+pub fn mode_of(count: usize, word: &[u8]) -> Option<Mode>
     ensures { result ≡ mode_of count word.now }
 {
-    if count < 2 {
-        return Mode::Plain;
+    match count {
+        0 | 1 => Some(Mode::Plain),
+        2 if word == b"--nested".as_slice() => Some(Mode::Nested),
+        _ => None,
     }
-    if 2 < count {
-        return Mode::Unknown;
-    }
-    if same_name(word, b"--nested") {
-        return Mode::Nested;
-    }
-    Mode::Unknown
 }

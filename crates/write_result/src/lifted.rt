@@ -4,111 +4,67 @@ ghost use Rattle.std.specs.Prelude.{◌≡◌, [], ◌++◌, ◌≤◌};
 ghost use Rattle.definition.specs.Write.{w_u16};
 ghost use Rattle.buffer.specs.writes.Buf.{Wrote, name_bytes};
 ghost use Rattle.lift_tables.specs.tables.Parts.{pairs};
-ghost use Rattle.lift_tables.specs.tables.Rows.{row_at, names_from, types_from};
+ghost use Rattle.lift_tables.specs.tables.Rows.{names_from, types_from};
 ghost use Rattle.write_result.specs.invocation.Invocation.{param_name_of};
-ghost use Rattle.write_result.specs.splice.Model.{tables};
+ghost use Rattle.write_result.specs.splice.Model.{row};
+ghost use Rattle.write_result.specs.tables.Lent.{tables_of};
 ghost use Rattle.write_result.specs.lifted.Model.{param_type, type_bytes, params_bytes, lifted_bytes};
 
 use crate::invocation::{param_name, put_called};
 use crate::splice::put_spliced;
+use crate::tables::{Param, Tables};
+use buffer::table::item;
 use buffer::writes::{put_name, put_part, put_u16};
 use layout::lookup::name_at;
-use lift_tables::tables::{entry, pair};
 use walker::ends::inner_end;
 
-// The type of parameter j: a parameter's own, copied; of a Dependent field its inner, or the Invocation where its combinator is lifted itself.
-fn put_type(
-    s: &[u8],
-    names: &[u8],
-    rows: &[u8],
-    params: &[u8],
-    number: &[u16],
-    j: usize,
-    out: &mut [u8],
-    at: usize,
-) -> usize
-    requires { j ≤ 131070 }
-    ensures { Wrote out.old at (type_bytes (tables s.now names.now (pairs rows.now) (pairs params.now) number.now) (param_type (pairs params.now) j)) out.new result }
+// The type of a parameter: a parameter's own, copied; of a Dependent field its inner, or the Invocation where its combinator is lifted itself.
+fn put_type(t: Tables<'_>, p: Param, out: &mut [u8], at: usize) -> usize
+    ensures { Wrote out.old at (type_bytes (tables_of t.entry) (record { own = p.own; at = p.at })) out.new result }
 {
-    let from = pair(params, 4 * j + 2);
-    let own = pair(params, 4 * j + 3);
-    if own == 1 {
-        let to = inner_end(s, from as usize);
-        return put_part(s, from as usize, to, out, at);
+    let from = usize::from(p.at);
+    if p.own {
+        let to = inner_end(t.book, from);
+        return put_part(t.book, from, to, out, at);
     }
-    let k = entry(number, from as usize);
-    if k == 0 {
-        let end = inner_end(s, from as usize);
-        return put_spliced(s, names, rows, params, number, from, end, out, at);
+    match item(t.number, from, 0) {
+        0 => {
+            let to = inner_end(t.book, from);
+            put_spliced(t, p.at, to, out, at)
+        }
+        k => put_called(t, k - 1, out, at),
     }
-    put_called(s, names, rows, params, k - 1, out, at)
 }
 
 // Parameter j: its name and its type.
-fn put_param(
-    s: &[u8],
-    names: &[u8],
-    rows: &[u8],
-    params: &[u8],
-    number: &[u16],
-    j: usize,
-    out: &mut [u8],
-    at: usize,
-) -> usize
+fn put_param(t: Tables<'_>, j: usize, out: &mut [u8], at: usize) -> usize
     requires { j ≤ 131070 }
-    ensures { Wrote out.old at (name_bytes (param_name_of s.now (pairs params.now) j) ++ type_bytes (tables s.now names.now (pairs rows.now) (pairs params.now) number.now) (param_type (pairs params.now) j)) out.new result }
+    ensures { Wrote out.old at (name_bytes (param_name_of t.entry.book.now (pairs t.entry.params.now) j) ++ type_bytes (tables_of t.entry) (param_type (pairs t.entry.params.now) j)) out.new result }
 {
-    let name = param_name(s, params, j);
-    let a = put_name(name, out, at);
-    put_type(s, names, rows, params, number, j, out, a)
+    let p = t.param(j);
+    let a = put_name(param_name(t.book, p), out, at);
+    put_type(t, p, out, a)
 }
 
 // A count, and as many parameters.
-fn put_params(
-    s: &[u8],
-    names: &[u8],
-    rows: &[u8],
-    params: &[u8],
-    number: &[u16],
-    first: u16,
-    count: u16,
-    out: &mut [u8],
-    at: usize,
-) -> usize
-    ensures { Wrote out.old at (w_u16 count [] ++ params_bytes (tables s.now names.now (pairs rows.now) (pairs params.now) number.now) (names_from s.now (pairs params.now) first count) (types_from (pairs params.now) first count)) out.new result }
+fn put_params(t: Tables<'_>, first: u16, count: u16, out: &mut [u8], at: usize) -> usize
+    ensures { Wrote out.old at (w_u16 count [] ++ params_bytes (tables_of t.entry) (names_from t.entry.book.now (pairs t.entry.params.now) first count) (types_from (pairs t.entry.params.now) first count)) out.new result }
 {
-    let mut left = count;
-    let mut j = first as usize;
+    let start = usize::from(first);
     let mut o = put_u16(count, out, at);
-    while 0 < left {
-        o = put_param(s, names, rows, params, number, j, out, o);
-        j += 1;
-        left -= 1;
+    for j in start..start + usize::from(count) {
+        o = put_param(t, j, out, o);
     }
     o
 }
 
 // The definition of lift i: its name, its parameters, and the combinator moved.
-pub(crate) fn put_lifted(
-    s: &[u8],
-    names: &[u8],
-    rows: &[u8],
-    params: &[u8],
-    number: &[u16],
-    i: u16,
-    out: &mut [u8],
-    at: usize,
-) -> usize
-    ensures { Wrote out.old at (lifted_bytes (tables s.now names.now (pairs rows.now) (pairs params.now) number.now) (row_at s.now names.now (pairs rows.now) (pairs params.now) i)) out.new result }
+pub(crate) fn put_lifted(t: Tables<'_>, i: u16, out: &mut [u8], at: usize) -> usize
+    ensures { Wrote out.old at (lifted_bytes (tables_of t.entry) (row (tables_of t.entry) i)) out.new result }
 {
-    let base = 5 * (i as usize);
-    let from = pair(rows, base);
-    let to = pair(rows, base + 1);
-    let place = pair(rows, base + 2);
-    let first = pair(rows, base + 3);
-    let count = pair(rows, base + 4);
-    let name = name_at(names, place as usize);
+    let r = t.row(i);
+    let name = name_at(t.names, usize::from(r.name));
     let a = put_name(name, out, at);
-    let b = put_params(s, names, rows, params, number, first, count, out, a);
-    put_spliced(s, names, rows, params, number, from, to as usize, out, b)
+    let b = put_params(t, r.first, r.count, out, a);
+    put_spliced(t, r.at, usize::from(r.end), out, b)
 }

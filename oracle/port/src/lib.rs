@@ -7,8 +7,8 @@ include!(concat!(env!("OUT_DIR"), "/port.rs"));
 /// The code and the place that reading gives a book: 0 and 0 if it reads without fault. Code 2 is not reading's.
 pub fn read(bytes: &[u8]) -> (u8, usize) {
     match read_book::book::read(bytes) {
-        read_book::body::Verdict::Sound => (0, 0),
-        read_book::body::Verdict::Refused(fault) => (fault.code, fault.at),
+        Ok(()) => (0, 0),
+        Err(fault) => (fault.code.into(), fault.at),
     }
 }
 

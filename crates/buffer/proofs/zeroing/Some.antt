@@ -2,7 +2,7 @@
 -- Assumes nothing.
 use mathlib.Core.Path.{◌≡◌, refl, ap}
 use mathlib.Core.Logic.{⊎_elim}
-use mathlib.Core.Bool.{Bool, true, false, cond}
+use mathlib.Core.Bool.{Bool, true, false, cond, not}
 use mathlib.Core.List.{List, [], ◌∷◌}
 use Prim.Native.Nat.{ℕ, zero, suc, ◌+◌, ◌≤◌, ◌<◌}
 use native.Mathlib.Numerals.{add-one}
@@ -28,9 +28,13 @@ some_on l i a h = rw (add-one, drop-cons l i 0 h, or_none) (of (eqb a 0) (eqb (g
     of true y = refl
     of false y = refl
 
-pub some_end : (l : List ℕ) (i a : ℕ) → length l ≤ i → cond (eqb a 0) (some_in_of (drop i l)) true ≡ cond (eqb a 0) false true
+pub some_end : (l : List ℕ) (i a : ℕ) → length l ≤ i → cond (eqb a 0) (some_in_of (drop i l)) true ≡ not (eqb a 0)
 unfolding some_in_of
-some_end l i a h = rw (drop_of_length-le l {i = i} h)
+some_end l i a h = rw (drop_of_length-le l {i = i} h) (other (eqb a 0))
+  where
+    other : (x : Bool) → cond x false true ≡ not x
+    other true = refl
+    other false = refl
 
 -- a list in which there is none is one of zeros
 pub all_zeros : (l : List ℕ) → some_in_of l ≡ false → l ≡ zeros (length l)

@@ -6,13 +6,14 @@ use mathlib.Core.Bool.{false}
 use mathlib.Core.List.{List, ◌++◌, append-nil, append_assoc}
 use Prim.Native.Nat.{ℕ, ◌+◌, ◌-◌, ◌≤◌, ◌<◌, min, max}
 use native.Mathlib.Omega.{arith}
-use lib.ListN.{length, set, take, drop, take-append-drop, length-take, length-drop, length-replicate, replicate-append-replicate, drop_of_length-le}
+use borrow.Rule.Slice.PartMut.{put_mid}
+use lib.ListN.{length, replicate, take, drop, take-append-drop, length-take, length-drop, length-replicate, replicate-append-replicate, drop_of_length-le}
 use lib.Seq.{drop-drop}
 use Rattle.definition.specs.Answer.{zeroed}
 use Rattle.buffer.specs.writes.Buf.{put, part}
 use Rattle.buffer.specs.zeroing.Zeros.{zeros, some_in_of}
 use Rattle.buffer.proofs.zeroing.Some.{all_zeros}
-use Rattle.buffer.proofs.writes.Put.{put-nil, put-put, put_push, put_cut, put_fits, within}
+use Rattle.buffer.proofs.writes.Put.{put-nil, put-put, put_mid_is, put_cut, put_fits, within}
 
 long : (n : ℕ) → length (zeros n) ≡ n
 long n = length-replicate {0} {A = ℕ} n 0
@@ -20,11 +21,12 @@ long n = length-replicate {0} {A = ℕ} n 0
 pub put-zeros_none : (d : List ℕ) (a : ℕ) → put d a (zeros (a - a)) ≡ d
 put-zeros_none d a = let z : a - a ≡ 0 = omega arith in rw z (put-nil d a)
 
-pub put_zero : (d : List ℕ) (a i : ℕ) → a ≤ i → i < length d → set (put d a (zeros (i - a))) i 0 ≡ put d a (zeros (i + 1 - a))
-put_zero d a i h k =
-    let e : i + 1 - a ≡ (i - a) + 1 = omega arith in
-    let o : i ≡ a + length (zeros (i - a)) = omega (arith, long (i - a)) in
-    put_push d a (zeros (i - a)) 0 i o k ∙ rw e (ap (put d a) (replicate-append-replicate (i - a) 1 0))
+-- zeros that the library filled in
+pub zeros_filled : (d : List ℕ) (p e : ℕ) → p ≤ e → e ≤ length d → {q : List ℕ} → q ≡ replicate (length (take (e - p) (drop p d))) 0 → put_mid p (e - p) d q ≡ put d p (zeros (e - p))
+zeros_filled d p e h k {q} w =
+    let l : length (take (e - p) (drop p d)) ≡ e - p = simp (length-take, length-drop) (omega arith) in
+    let z : q ≡ zeros (e - p) = w ∙ ap zeros l in
+    put_mid_is d p (e - p) q (omega arith) (ap length z ∙ long (e - p)) ∙ rw z
 
 -- zeros behind zeros
 pub zeros_more : (d : List ℕ) (a p e : ℕ) → a ≤ p → p ≤ e → put (put d a (zeros (p - a))) p (zeros (e - p)) ≡ put d a (zeros (e - a))
@@ -57,6 +59,10 @@ zeros_end d a e i h k = ⊎_elim
     let n : length d ≤ a + length (zeros (i - a)) = omega (arith, long (i - a)) in
     sym (rw m (ap (put d a) (sym (replicate-append-replicate (i - a) ((e - a) - (i - a)) 0)) ∙ put_cut d a (zeros (i - a)) (zeros ((e - a) - (i - a))) n)))
     (within e (length d))
+
+-- zeros behind zeros, up to the end
+pub zeros_whole : (d : List ℕ) (a p e i : ℕ) {d' : List ℕ} → d' ≡ put d a (zeros (p - a)) → a ≤ p → p ≤ i → i ≡ max a (min e (length d)) → put d' p (zeros (i - p)) ≡ put d a (zeros (e - a))
+zeros_whole d a p e i w h k m = rw w (zeros_more d a p i h k) ∙ zeros_end d a e i (omega arith) m
 
 -- "The work area, short or not, is all zero afterwards in each case."
 pub all_zero : (w w₁ z : List ℕ) (end : ℕ) → length w₁ ≡ length w → end ≡ length w₁ → z ≡ put w₁ 0 (zeros (end - 0)) → z ≡ zeroed w

@@ -16,7 +16,8 @@ use Rattle.buffer.proofs.writes.Wrote.{place_fits, same_length}
 use Rattle.layout.specs.items.At.{byte_at}
 use Rattle.layout.specs.items.Here.{Here}
 use Rattle.layout.proofs.items.Here.{here_length}
-use Rattle.collect_params.specs.declared.collect.Collected.TheVariants.{Uses, Leftover}
+use Rattle.what_comes_back.specs.declared.Code.TheVariants.{LeftoverMacro}
+use Rattle.std.specs.Prelude.{Ok, Err}
 use Rattle.collect_params.specs.labels.Labels.{labels_in}
 use Rattle.collect_params.proofs.labels.Found.{finds_none}
 use Rattle.collect_params.specs.uses.Uses.{names_in_of}
@@ -41,7 +42,7 @@ module _ (s : List ℕ) (p : ℕ) (c : Combinator) (z : List ℕ) (small : (i : 
     pub uses_long : length (collect_at s p bound uses).2 ≡ length uses
     uses_long = same_length gathered.wrote
 
-    pub collect_leftover : leftover c ≡ true → answer_of (collect_at s p bound uses).0 ≡ Leftover
+    pub collect_leftover : leftover c ≡ true → answer_of (collect_at s p bound uses).0 ≡ Err LeftoverMacro
     collect_leftover e = rw (gathered.left, e)
 
     named : names_in_of s gathered.used ≡ free c
@@ -58,7 +59,7 @@ module _ (s : List ℕ) (p : ℕ) (c : Combinator) (z : List ℕ) (small : (i : 
       counted : (collect_at s p bound uses).0.n ≡ length (free c)
       counted = place_fits gathered.wrote fits ∙ (let e : 0 + length gathered.used ≡ length (free c) = omega (arith, many) in e)
 
-      pub collect_uses : leftover c ≡ false → answer_of (collect_at s p bound uses).0 ≡ Uses (length (free c))
+      pub collect_uses : leftover c ≡ false → answer_of (collect_at s p bound uses).0 ≡ Ok (length (free c))
       collect_uses e = rw (gathered.left, e, counted)
 
       pub collect_names : names_in_of s (take (length (free c)) (collect_at s p bound uses).2) ≡ free c

@@ -2,7 +2,7 @@
 -- Assumes nothing.
 use mathlib.Core.List.{List}
 use mathlib.Core.Path.{◌≡◌, refl}
-use Prim.Native.Nat.{ℕ, zero, suc, ◌-◌, ◌≤◌, ◌<◌}
+use Prim.Native.Nat.{ℕ, zero, suc, ◌+◌, ◌-◌, ◌≤◌, ◌<◌}
 use lib.Dec.{eqb, eqb-suc-zero}
 use native.Mathlib.Numerals.{sub-one}
 use native.Mathlib.Omega.{arith}
@@ -19,13 +19,14 @@ unfolding argument_at argument_by
 argument_level zero s w b u = refl
 argument_level (suc k) s w b u = rw (eqb-suc-zero, sub-one)
 
-module _ (step : Step) where
-  pub more : (n : ℕ) (w : Walk) (b u : List ℕ) → 0 < n → times step n w b u ≡ times step (n - 1) (step w b u).0 (step w b u).1 (step w b u).2
-  unfolding times
-  more zero w b u h = absurd (omega arith)
-  more (suc n) w b u h = rw sub-one
+module _ (step : Step) (w : Walk) (b u : List ℕ) where
+  pub start : (n : ℕ) → times step n w b u ≡ times step (n - 0) w b u
+  start n = let e : n - 0 ≡ n = omega arith in rw e
 
-  pub done : (n : ℕ) (w : Walk) (b u : List ℕ) → n ≤ 0 → times step n w b u ≡ (w, b, u)
+  pub more : (n i : ℕ) → i < n → times step (n - i) w b u ≡ times step (n - (i + 1)) (step w b u).0 (step w b u).1 (step w b u).2
   unfolding times
-  done zero w b u h = refl
-  done (suc n) w b u h = absurd (omega arith)
+  more n i h = let e : n - i ≡ suc (n - (i + 1)) = omega arith in rw e
+
+  pub done : (n i : ℕ) → n ≤ i → times step (n - i) w b u ≡ (w, b, u)
+  unfolding times
+  done n i h = let e : n - i ≡ 0 = omega arith in rw e

@@ -121,13 +121,13 @@ module _ (s : List ℕ) (n : Name) (t : List ℕ) (b : ℕ) where
       (within (link_at t b x) 0)
 
   on_is : (k d x : ℕ) → 0 < link_at t b x → eq_name n (label_at s t (link_at t b x - 1)) ≡ false → way_of s n t b (suc k) d x ≡ way_of s n t b k (d + 1) (fork_at n d (link_at t b x - 1))
-  on_is k d x h e = way_on s n t b {v = link_at t b x} h {label = label_at s t (link_at t b x - 1)} refl {same = eq_name n (label_at s t (link_at t b x - 1))} refl (suc k) d x refl (omega arith) e refl ∙ rw sub-one
+  on_is k d x h e = way_on s n t b x (link_at t b x - 1) (omega arith) {label = label_at s t (link_at t b x - 1)} refl {same = eq_name n (label_at s t (link_at t b x - 1))} refl (suc k) d (omega arith) e refl ∙ rw sub-one
 
   here_is : (k d x : ℕ) → 0 < link_at t b x → eq_name n (label_at s t (link_at t b x - 1)) ≡ true → way_of s n t b k d x ≡ x
-  here_is k d x h e = way_same s n t b {v = link_at t b x} h {label = label_at s t (link_at t b x - 1)} refl {same = eq_name n (label_at s t (link_at t b x - 1))} refl k d x refl e
+  here_is k d x h e = way_same s n t b x (link_at t b x - 1) (omega arith) {label = label_at s t (link_at t b x - 1)} refl {same = eq_name n (label_at s t (link_at t b x - 1))} refl k d e
 
   none_is : (k d x : ℕ) → link_at t b x ≡ 0 → way_of s n t b k d x ≡ x
-  none_is k d x e = way_end s n t b k d x {v = link_at t b x} refl e
+  none_is k d x e = way_end s n t b k d x e
 
   way_slot : (k d x : ℕ) → Slot b x → Slot b (way_of s n t b k d x)
   way_slot zero d x h = rw (way_done s n t b 0 d x (omega arith)) h

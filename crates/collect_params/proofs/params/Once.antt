@@ -3,11 +3,11 @@
 use mathlib.Core.Path.{◌≡◌, refl, sym, ap, ◌∙◌}
 use mathlib.Core.List.{List, [], ◌∷◌}
 use mathlib.Core.Bool.{true, false}
-use Prim.Native.Nat.{ℕ, ◌+◌, ◌≤◌, ◌<◌}
+use Prim.Native.Nat.{ℕ, ◌+◌, ◌-◌, ◌≤◌, ◌<◌}
 use native.Mathlib.Omega.{arith}
 use native.Mathlib.Nat.{add-zero}
 use lib.ListN.{length, drop, get_or, set, length-set}
-use lib.Seq.{set-get_or, drop-set-lt, get_or-drop, drop-drop}
+use lib.Seq.{take_all, set-get_or, drop-set-lt, get_or-drop, drop-drop}
 use Rattle.definition.specs.Names.{eq_name}
 use Rattle.buffer.specs.writes.Buf.{put, part}
 use Rattle.buffer.proofs.writes.Put.{put-nil, part_back}
@@ -25,9 +25,14 @@ pub record Dropping (s : List ℕ) (n : ℕ) (uses₀ : List ℕ) (last m i : �
   pub rest : put uses m (once_after s last (part i n uses₀)) ≡ put uses₀ 0 (once s (part 0 n uses₀))
   pub count : m + length (once_after s last (part i n uses₀)) ≡ length (once s (part 0 n uses₀))
 
-pub once_none : (s uses : List ℕ) (n : ℕ) → n ≡ 0 → (0 ≡ length (once s (part 0 n uses))) × (uses ≡ put uses 0 (once s (part 0 n uses)))
+pub once_none : (s uses : List ℕ) → length uses ≡ 0 → (0 ≡ length (once s uses)) × (uses ≡ put uses 0 (once s uses))
 unfolding once
-once_none s uses n e = rw (e, part_back 0 0 uses (omega arith)) (refl, sym (put-nil uses 0))
+once_none s [] e = (refl, sym (put-nil [] 0))
+once_none s (x ∷ l) e = absurd (omega arith)
+
+whole : (u : List ℕ) → part 0 (length u) u ≡ u
+unfolding part
+whole u = let e : length u - 0 ≡ length u = omega arith in rw e (take_all (length u) u (omega arith))
 
 pub dropping_all : (s uses : List ℕ) (n : ℕ) → (n ≡ 0 → ⊥) → n ≤ length uses → Dropping s n uses (get_or uses 0 0) 1 1 uses
 unfolding once
@@ -44,11 +49,12 @@ dropping_all s uses n e h =
     }
 
 module _ {s : List ℕ} {n : ℕ} {uses₀ : List ℕ} {last m i : ℕ} {uses : List ℕ} (p : Dropping s n uses₀ last m i uses) where
-  pub dropping_done : n ≤ i → (m ≡ length (once s (part 0 n uses₀))) × (uses ≡ put uses₀ 0 (once s (part 0 n uses₀)))
+  pub dropping_done : n ≡ length uses₀ → n ≤ i → (m ≡ length (once s uses₀)) × (uses ≡ put uses₀ 0 (once s uses₀))
   unfolding once_after
-  dropping_done h =
+  dropping_done e h =
       let none : part i n uses₀ ≡ [] = part_back i n uses₀ h in
-      (let c = rw none at p.count in omega arith, sym (put-nil uses m) ∙ (rw none at p.rest))
+      let all : part 0 n uses₀ ≡ uses₀ = rw e (whole uses₀) in
+      (let c = rw (none, all) at p.count in omega arith, sym (put-nil uses m) ∙ (rw (none, all) at p.rest))
 
   module _ (h : i < n) (g : n ≤ length uses₀) where
     read : get_or uses i 0 ≡ get_or uses₀ i 0

@@ -21,7 +21,8 @@ use Rattle.collect_params.specs.uses.Uses.{names_in_of}
 use Rattle.collect_params.specs.collect.Walk.{collect_at}
 use Rattle.collect_params.proofs.collect.Room.{free_room}
 use Rattle.collect_params.proofs.collect.Free.{length_names, collect_leftover, collect_uses, collect_names, uses_long}
-use Rattle.collect_params.specs.declared.params.Params.TheVariants.{Sorted, Leftover}
+use Rattle.what_comes_back.specs.declared.Code.TheVariants.{LeftoverMacro}
+use Rattle.std.specs.Prelude.{Ok, Err}
 use Rattle.collect_params.specs.sort.Sort.{ordered}
 use Rattle.collect_params.specs.params.Once.{once, sorted_by}
 use Rattle.collect_params.specs.params.Params.{sorted_or, params_at}
@@ -49,7 +50,7 @@ module _ (s uses spare : List ℕ) (n : ℕ) (room : n ≤ length uses) (other :
 
 module _ (s : List ℕ) (p : ℕ) (c : Combinator) (z : List ℕ) (small : (i : ℕ) → byte_at s i < 256) (short : length s < 16777216) (deep : levels c ≤ 64) (h : Here s p (w_combinator c z)) where
   module _ (bound uses spare : List ℕ) (labels : length s + 64 ≤ length bound) where
-    pub params_leftover : leftover c ≡ true → (params_at s p bound uses spare).0 ≡ Leftover
+    pub params_leftover : leftover c ≡ true → (params_at s p bound uses spare).0 ≡ Err LeftoverMacro
     unfolding params_at sorted_or
     params_leftover e = rw (collect_leftover s p c z small short deep h bound uses labels e)
 
@@ -60,11 +61,11 @@ module _ (s : List ℕ) (p : ℕ) (c : Combinator) (z : List ℕ) (small : (i : 
       long : length (collect_at s p bound uses).2 ≡ length uses
       long = uses_long s p c z small short deep h bound uses labels
 
-      pub params_count : (params_at s p bound uses spare).0 ≡ Sorted (length (sorted (free c)))
+      pub params_count : (params_at s p bound uses spare).0 ≡ Ok (length (sorted (free c)))
       unfolding params_at sorted_or
       params_count =
           rw (collect_uses s p c z small short deep h bound uses labels room e)
-          (ap Sorted (sorted_count s (collect_at s p bound uses).2 spare (length (free c)) (omega (arith, some, long)) (omega (arith, some)) (omega (arith, some))
+          (ap Ok (sorted_count s (collect_at s p bound uses).2 spare (length (free c)) (omega (arith, some, long)) (omega (arith, some)) (omega (arith, some))
           ∙ ap (λ (l : List Name). length (sorted l)) (collect_names s p c z small short deep h bound uses labels room)))
 
       pub params_names : names_in_of s (take (length (sorted (free c))) (params_at s p bound uses spare).2) ≡ sorted (free c)

@@ -1,36 +1,44 @@
 -- Laws of uses, in the code's own terms.
 -- Assumes nothing.
-use mathlib.Core.Path.{◌≡◌}
-use mathlib.Core.List.{List, []}
-use Prim.Native.Nat.{ℕ, suc, ◌+◌, ◌-◌, ◌/◌, ◌%◌, ◌≤◌, ◌<◌}
+use mathlib.Core.Path.{◌≡◌, refl, ap, ◌∙◌}
+use mathlib.Core.Logic.{⊎_elim}
+use mathlib.Core.Bool.{true, false}
+use lib.Dec.{eqb, ltb}
+use mathlib.Core.List.{[], ◌∷◌}
+use Prim.Native.Nat.{ℕ, suc, ◌+◌, ◌≤◌}
 use native.Mathlib.Omega.{arith}
-use native.Mathlib.Numerals.{add-one}
-use lib.ListN.{length, drop, get_or, length-drop, drop_of_length-le}
-use lib.Seq.{drop-cons, take_all, take-nil}
-use borrow.Author.Tests.{eq-eqb, ne_eqb}
+use lib.ListN.{length}
+use borrow.Author.Tests.{ltb-false}
+use Rattle.std.specs.Prelude.{cond, Option, None, Some, unwrap_or}
+use Rattle.std.specs.List.{position_or_len}
+use Rattle.laws.proofs.Tests.{yes_no}
 use Rattle.definition.specs.Tree.{Name}
 use Rattle.definition.specs.Names.{root}
-use Rattle.collect_params.specs.uses.Uses.{name_in}
 
--- the three ways in which a use can lie
-pub name_none : (s : List ℕ) (x : ℕ) → length s ≤ x / 256 → name_in s x ≡ []
-unfolding name_in
-name_none s x h = rw (drop_of_length-le s {i = x / 256} h) (take-nil (x % 256))
+-- the part before the first '.' is no longer than the name
+pub root_short : (m : Name) → length (root m) ≤ length m
+unfolding root
+root_short [] = omega arith
+root_short (b ∷ m) = ⊎_elim
+    (λ (e : eqb b 46 ≡ true). rw e (omega arith))
+    (λ (e : eqb b 46 ≡ false). rw e (let h = root_short m in omega arith))
+    (yes_no (eqb b 46))
 
-pub name_cut : (s : List ℕ) (x : ℕ) → length s - x / 256 ≤ x % 256 → name_in s x ≡ drop (x / 256) s
-unfolding name_in
-name_cut s x h = take_all (x % 256) (drop (x / 256) s) (rw length-drop h)
+-- the part before the first '.' is as long as the place of that says
+pub root_is : (n : Name) → length (root n) ≡ position_or_len (λ b. eqb b 46) n
+unfolding root
+root_is [] = refl
+root_is (b ∷ n) = ⊎_elim
+    (λ (e : eqb b 46 ≡ true). rw e)
+    (λ (e : eqb b 46 ≡ false). rw e (ap suc (root_is n) ∙ (let z : suc (position_or_len (λ b. eqb b 46) n) ≡ 1 + position_or_len (λ b. eqb b 46) n = omega arith in z)))
+    (yes_no (eqb b 46))
 
--- byte by byte to the first '.'
-module _ (n : Name) (i : ℕ) where
-  pub root_on : i < length n → (get_or n i 0 ≡ 46 → ⊥) → length (root (drop i n)) ≡ 1 + length (root (drop (i + 1) n))
-  unfolding root
-  root_on h e = rw (drop-cons n i 0 h, add-one i, ne_eqb (get_or n i 0) 46 e) (let z : suc (length (root (drop (suc i) n))) ≡ 1 + length (root (drop (suc i) n)) = omega arith in z)
-
-  pub root_stop : i < length n → get_or n i 0 ≡ 46 → length (root (drop i n)) ≡ 0
-  unfolding root
-  root_stop h e = rw (drop-cons n i 0 h, eq-eqb (get_or n i 0) 46 e)
-
-  pub root_end : length n ≤ i → length (root (drop i n)) ≡ 0
-  unfolding root
-  root_end h = rw (drop_of_length-le n {i = i} h)
+pub root_found : (n : Name) (p : Option ℕ) → p ≡ cond (ltb (position_or_len (λ b. eqb b 46) n) (length n)) (Some (position_or_len (λ b. eqb b 46) n)) None → unwrap_or p (length n) ≡ length (root n)
+root_found n p e = ⊎_elim
+    (λ (q : ltb (position_or_len (λ b. eqb b 46) n) (length n) ≡ true). rw (e, q, root_is n))
+    (λ (q : ltb (position_or_len (λ b. eqb b 46) n) (length n) ≡ false).
+    let l = ltb-false _ _ q in
+    let m = root_is n in
+    let k = root_short n in
+    rw (e, q) (let z : length n ≡ length (root n) = omega arith in z))
+    (yes_no (ltb (position_or_len (λ b. eqb b 46) n) (length n)))

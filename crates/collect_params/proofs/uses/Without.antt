@@ -19,6 +19,7 @@ use Rattle.layout.proofs.lookup.Names.{stands}
 use Rattle.layout.specs.items.At.{byte_at, past_at, pick}
 use Rattle.layout.specs.items.Here.{Here}
 use Rattle.layout.proofs.items.Here.{byte_here, next_here}
+use Rattle.collect_params.proofs.uses.Uses.{root_short}
 use Rattle.collect_params.specs.uses.Uses.{use_of_of, name_in, names_in_of, use_at_of}
 
 -- the names that are not among the bound ones
@@ -68,14 +69,6 @@ names_append s [] b = refl
 names_append s (x ∷ a) b = ap (λ (l : List Name). name_in s x ∷ l) (names_append s a b)
 
 -- the part before the first '.'
-root_short : (m : Name) → length (root m) ≤ length m
-unfolding root
-root_short [] = omega arith
-root_short (b ∷ m) = ⊎_elim
-    (λ (e : eqb b 46 ≡ true). rw e (omega arith))
-    (λ (e : eqb b 46 ≡ false). rw e (let h = root_short m in omega arith))
-    (yes_no (eqb b 46))
-
 root-take : (m z : List ℕ) → take (length (root m)) (m ++ z) ≡ root m
 unfolding root
 root-take [] z = refl

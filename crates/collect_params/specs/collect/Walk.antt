@@ -1,13 +1,13 @@
 -- Collection by position, total on any bytes: what the walk answers and what its two tables hold then. It mirrors the code; that it collects
 -- the definition's `free` and tells `leftover` is shown in proofs/Link.antt and proofs/Free.antt.
 -- Assumes nothing.
-use Rattle.std.specs.Prelude.{List, Bool, true, false, ℕ, zero, suc, ◌+◌, eqb, length}
+use Rattle.std.specs.Prelude.{List, Bool, true, false, Result, Ok, Err, ℕ, zero, suc, ◌+◌, eqb, length}
 use Rattle.layout.specs.items.At.{byte_at, past_at, number_at, name_past_of, text_past_of, label_past_of, stands_on_of, pick}
 use Rattle.collect_params.specs.declared.scope.Walk.{Walk}
 use Rattle.collect_params.specs.scope.Steps.{walk, moved, counted, unbound, bind_by}
 use Rattle.collect_params.specs.roots.Recorded.{length_by, call_by, selector_by}
-use Rattle.collect_params.specs.declared.collect.Collected.{Collected}
-use Rattle.collect_params.specs.declared.collect.Collected.TheVariants.{Uses, Leftover}
+use Rattle.what_comes_back.specs.declared.Code.{Code}
+use Rattle.what_comes_back.specs.declared.Code.TheVariants.{LeftoverMacro}
 
 -- a walk and its two tables, the labels bound and the uses, to those after
 abbrev pub State : Type 0
@@ -152,5 +152,5 @@ macro_at k s w bound uses = macro_by (argument_at k s) s w bound uses
 unfoldable pub collect_at : List ℕ → ℕ → List ℕ → List ℕ → State
 collect_at s at bound uses = combinator_at 64 s (walk at 0 0 false) bound uses
 
-abbrev pub answer_of : Walk → Collected
-answer_of w = pick w.leftover Leftover (Uses w.n)
+abbrev pub answer_of : Walk → Result ℕ Code
+answer_of w = pick w.leftover (Err LeftoverMacro) (Ok w.n)

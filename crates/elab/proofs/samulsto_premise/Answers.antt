@@ -4,4 +4,8 @@ use mathlib.Core.Path.{ap, ◌∙◌}
 use Rattle.elab.proofs.samulsto_premise.Goals as goal
 
 pub returns : goal.returns
-returns c = record { code_value = (let e = premise_numbers _ _ c.premise-answer.ensures.value in (c.tested_in_numbers.ensures.0 ∙ ap (λ (a : PremiseAnswer). a.code) e, c.tested_in_numbers.ensures.1 ∙ ap (λ (a : PremiseAnswer). a.holds) e, c.tested_in_numbers.ensures.2 ∙ ap (λ (a : PremiseAnswer). a.at) e)); work_after = c.premise-answer.ensures.work_after }
+returns c =
+    let n = c.into.ensures in
+    let t = c.premise.ensures in
+    let a = premise_numbers _ _ t.value in
+    record { code_value = (n.0 ∙ ap (λ (x : PremiseAnswer). x.code) a, n.1 ∙ ap (λ (x : PremiseAnswer). x.holds) a, n.2 ∙ ap (λ (x : PremiseAnswer). x.at) a); work_after = t.work_after }

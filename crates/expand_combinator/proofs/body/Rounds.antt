@@ -1,12 +1,11 @@
 -- The loop over a body: for every tree that may stand there and every name that the path may hold.
 -- Assumes nothing.
-use mathlib.Core.Path.{◌≡◌, refl, sym, ap, ◌∙◌}
+use mathlib.Core.Path.{◌≡◌, refl, sym, ◌∙◌}
 use mathlib.Core.Logic.{⊎_elim}
-use mathlib.Core.Bool.{false}
-use mathlib.Core.List.{List, [], ◌∷◌, ◌++◌, map}
-use Prim.Native.Nat.{ℕ, zero, suc, ◌+◌, ◌-◌, ◌≤◌, ◌<◌}
+use mathlib.Core.List.{List, [], ◌∷◌, ◌++◌}
+use Prim.Native.Nat.{ℕ, ◌+◌, ◌-◌, ◌≤◌, ◌<◌}
 use native.Mathlib.Omega.{arith}
-use lib.ListN.{length, take, get_or, set, length-append, get_or-map}
+use lib.ListN.{length, take, set, length-append}
 use lib.Seq.{take_all, take-append-le}
 use Rattle.definition.specs.Tree.{Name, Combinator}
 use Rattle.definition.specs.Size.{levels}
@@ -14,8 +13,7 @@ use Rattle.buffer.proofs.writes.Put.{within}
 use Rattle.generated_name.specs.child_name.Name.{Held}
 use Rattle.walker.specs.ends.Ends.{inner_end_of, Right}
 use Rattle.lift_combinator.specs.declared.frames.Frame.{Frame}
-use Rattle.lift_combinator.specs.declared.frames.Waiting.{Waiting}
-use Rattle.lift_combinator.specs.frames.Frames.{combinator_past_of, Stands, Standing, frame_at, Narrow, narrowed, widened}
+use Rattle.lift_combinator.specs.frames.Frames.{combinator_past_of, Stands, Standing, frame_at, Narrow}
 use Rattle.lift_combinator.proofs.frames.Ends.{end_past}
 use Rattle.lift_combinator.specs.declared.children.Step.{Step}
 use Rattle.lift_combinator.specs.declared.children.Step.TheVariants as step
@@ -37,12 +35,13 @@ use Rattle.lift_combinator.proofs.naming.Opened.{frame_opens}
 use Rattle.expand_combinator.specs.open_child.Good.{Good}
 use Rattle.expand_combinator.specs.body.Walks.{Ready, Ends, Walks}
 use Rattle.expand_combinator.specs.open_child.Steps.{weight, Opened, ChildIs, Comes}
-use Rattle.expand_combinator.specs.declared.body.Body.TheVariants.{Named, Refused}
+use Rattle.std.specs.Prelude.{Result, Ok, Err}
+use Rattle.what_comes_back.specs.declared.Code.{Code}
+use Rattle.expand_combinator.specs.waiters.Waiters.{waiter}
 use Rattle.expand_combinator.specs.declared.open_child.Child.{Child}
-use Rattle.expand_combinator.specs.declared.open_child.Child.TheVariants as comes
 use Rattle.expand_combinator.proofs.open_child.Named.{Reached, StepIs, step_is}
 use Rattle.expand_combinator.proofs.open_child.Children.{whole_of, frame_sound}
-use Rattle.expand_combinator.proofs.body.Stack.{no_frame, waiter, Stack, waiting, lifting, Going}
+use Rattle.expand_combinator.proofs.body.Stack.{Stack, waiting, lifting, Going}
 use Rattle.expand_combinator.proofs.body.Turns.{less_pass, goes_pass, child-levels, child_few, goes_open, less_open, ends_refused, good_closed, ends_last, goes_back, less_back}
 
 -- a tree that stands there, and a name that the path holds
@@ -71,18 +70,18 @@ holds path len l h = ⊎_elim short long (within len 255)
         record { name = path ++ (0 ∷ []); held = record { place = omega arith; bytes = take_all len path (omega arith) ∙ sym (take-append-le (length path) path (0 ∷ []) (omega arith) ∙ take_all (length path) path (omega arith)) } }
 
 pub record Round (s : List ℕ) (at : ℕ) (path₀ : List ℕ) (len : ℕ) (binders₀ : List ℕ) (b : ℕ) (made₀ places₀ rows₀ params₀ order₀ : List ℕ) (w₀ : Counts) (n₀ : ℕ)
-    (path binders bound uses spare made places ways hints rows params number order : List ℕ) (frames : List Frame) (f : Frame) (d : ℕ) (w : Counts) (n : ℕ) : Type 0 where
+    (path binders bound uses spare made places ways hints rows params number order : List ℕ) (frames : List (Frame ℕ)) (f : Frame ℕ) (d : ℕ) (w : Counts) (n : ℕ) : Type 0 where
   pub root : Root s at path₀ len
   pub goes : (x : Root s at path₀ len) → Going s path binders bound uses spare made places ways hints rows params number order frames f d w n
       (walk x.tree at x.name (bound_from s binders₀ 0 b) (sheet_of s made₀ places₀ rows₀ params₀ (take n₀ order₀) w₀))
 
 -- what is left to walk
-abbrev pub left : List ℕ → List Frame → Frame → ℕ → ℕ
+abbrev pub left : List ℕ → List (Frame ℕ) → Frame ℕ → ℕ → ℕ
 left s frames f d = weight s f + waiting frames d f.last
 
 -- ---- the start
 module _ {s : List ℕ} {at : ℕ} {path : List ℕ} {len : ℕ} {binders : List ℕ} {b : ℕ} {bound uses spare made places ways hints rows params number order : List ℕ} {w : Counts} {n : ℕ} where
-  pub round_start : {frames : List Frame} {f : Frame} {end last : ℕ} → end ≡ inner_end_of s at → last ≡ combinator_past_of s end → len ≤ 256 → Good s made places ways hints rows params number order w n → Ready s at path binders b bound uses spare → f ≡ frame_at s at last len b 0 0 → length frames ≡ 64
+  pub round_start : {frames : List (Frame ℕ)} {f : Frame ℕ} {end last : ℕ} → end ≡ inner_end_of s at → last ≡ combinator_past_of s end → len ≤ 256 → Good s made places ways hints rows params number order w n → Ready s at path binders b bound uses spare → f ≡ frame_at s at last len b 0 0 → length frames ≡ 64
       → Round s at path len binders b made places rows params order w n path binders bound uses spare made places ways hints rows params number order frames f 0 w n
   unfolding frame_at OwnIs Stack lifting
   round_start {last = last} ee el h good r ef l = rw ef (record {
@@ -110,7 +109,7 @@ module _ {s : List ℕ} {at : ℕ} {path : List ℕ} {len : ℕ} {binders : List
   })
 
 module _ {s : List ℕ} {at : ℕ} {path₀ : List ℕ} {len : ℕ} {binders₀ : List ℕ} {b : ℕ} {made₀ places₀ rows₀ params₀ order₀ : List ℕ} {w₀ : Counts} {n₀ : ℕ}
-    {path binders bound uses spare made places ways hints rows params number order : List ℕ} {frames : List Frame} {f : Frame} {d : ℕ} {w : Counts} {n : ℕ}
+    {path binders bound uses spare made places ways hints rows params number order : List ℕ} {frames : List (Frame ℕ)} {f : Frame ℕ} {d : ℕ} {w : Counts} {n : ℕ}
     (R : Round s at path₀ len binders₀ b made₀ places₀ rows₀ params₀ order₀ w₀ n₀ path binders bound uses spare made places ways hints rows params number order frames f d w n) where
   source : length s ≤ 16384
   source = (R.goes R.root).good.tables.source
@@ -129,7 +128,7 @@ module _ {s : List ℕ} {at : ℕ} {path₀ : List ℕ} {len : ℕ} {binders₀ 
   resume_by [] h x = absurd (omega arith)
   resume_by (y ∷ ws) h x = let v = x.1 in let e = v.sound in let z = v.frame.ends in (omega (arith, v.frame.few, e.ends, source), omega (arith, e.child, e.ends, source))
 
-  pub resume_safe : {p : Frame} → p ≡ waiter frames d → 0 < d → (p.bound ≤ 65535) × (p.child ≤ 65536)
+  pub resume_safe : {p : Frame ℕ} → p ≡ waiter frames d → 0 < d → (p.bound ≤ 65535) × (p.child ≤ 65536)
   resume_safe e h = let g = R.goes R.root in rw e (resume_by g.waits h g.stack)
 
   pub away_safe : Narrow f
@@ -162,11 +161,11 @@ module _ {s : List ℕ} {at : ℕ} {path₀ : List ℕ} {len : ℕ} {binders₀ 
     unfolding StepIs
     passing q x = (rw q at (step_is s f path path' r st)).1 binders (63 - d) (R.goes x).node source (R.goes x).top
 
-    pub round_pass : {e : ℕ} {h : Frame} → r ≡ step.Pass e → h ≡ passed f e
+    pub round_pass : {e : ℕ} {h : Frame ℕ} → r ≡ step.Pass e → h ≡ passed f e
         → Round s at path₀ len binders₀ b made₀ places₀ rows₀ params₀ order₀ w₀ n₀ path' binders bound uses spare made places ways hints rows params number order frames h d w n
     round_pass q eh = rw (pass_path q, eh) (record { root = R.root; goes = λ x. goes_pass (R.goes x) (passing q x) })
 
-    pub round_less_pass : {e : ℕ} {h : Frame} → r ≡ step.Pass e → h ≡ passed f e → left s frames h d < left s frames f d
+    pub round_less_pass : {e : ℕ} {h : Frame ℕ} → r ≡ step.Pass e → h ≡ passed f e → left s frames h d < left s frames f d
     unfolding passed
     round_less_pass q eh = rw eh (omega (arith, less_pass (passing q R.root)))
 
@@ -180,7 +179,7 @@ module _ {s : List ℕ} {at : ℕ} {path₀ : List ℕ} {len : ℕ} {binders₀ 
       unfolding StepIs
       closing x = (rw q at (step_is s f path path' r st)).1 binders (63 - d) (R.goes x).node source (R.goes x).top
 
-      pub walks_last : d ≡ 0 → Walks s at path₀ len binders₀ b made₀ places₀ rows₀ params₀ order₀ w₀ n₀ (made_in sheet) places ways hints (rows_in_of sheet) (params_in sheet) number (order_in sheet) (Named w z.finished)
+      pub walks_last : d ≡ 0 → Walks s at path₀ len binders₀ b made₀ places₀ rows₀ params₀ order₀ w₀ n₀ (made_in sheet) places ways hints (rows_in_of sheet) (params_in sheet) number (order_in sheet) (Ok (record { counts = w; finished = z.finished }))
       unfolding Ends
       walks_last e = rw (ez, es.order, es.rows, es.params, es.made) (record {
         walks = λ c name st deep held.
@@ -188,7 +187,7 @@ module _ {s : List ℕ} {at : ℕ} {path₀ : List ℕ} {len : ℕ} {binders₀ 
             rw (← (ends_last (R.goes x) (closing x) e)) (refl, good_closed (R.goes x));
       })
 
-      module _ (some : 0 < d) {p h : Frame} {binders' : List ℕ} (ep : p ≡ waiter frames d) (eh : h ≡ delivered p f.place f.last z.whole (bound_after s p)) (eb : binders' ≡ bind_by s p f.place z.inner binders) where
+      module _ (some : 0 < d) {p h : Frame ℕ} {binders' : List ℕ} (ep : p ≡ waiter frames d) (eh : h ≡ delivered p f.place f.last z.whole (bound_after s p)) (eb : binders' ≡ bind_by s p f.place z.inner binders) where
         pub round_back : Round s at path₀ len binders₀ b made₀ places₀ rows₀ params₀ order₀ w₀ n₀ path' binders' bound uses spare (made_in sheet) places ways hints (rows_in_of sheet) (params_in sheet) number (order_in sheet) frames h (d - 1) w z.finished
         round_back = rw (done_path, eb, es.order, es.rows, es.params, es.made, eh, ep, ez) (record { root = R.root; goes = λ x. goes_back (R.goes x) (closing x) some })
 
@@ -218,7 +217,7 @@ module _ {s : List ℕ} {at : ℕ} {path₀ : List ℕ} {len : ℕ} {binders₀ 
             right,
           )
 
-      module _ {path₂ made' places' ways' hints' rows' params' number' : List ℕ} {t : Child} (come : Comes s place path' l binders f.bound made places ways hints rows params number w path₂ made' places' ways' hints' rows' params' number' t) where
+      module _ {path₂ made' places' ways' hints' rows' params' number' : List ℕ} {t : Result Child Code} (come : Comes s place path' l binders f.bound made places ways hints rows params number w path₂ made' places' ways' hints' rows' params' number' t) where
         child_is : (x : Root s at path₀ len) → ChildIs s path₂ binders (63 - (d + 1)) place l f.bound (reached x).opening.child (R.goes x).node (reached x).opening.wait (sheet_of s made places rows params (take n order) w) w.lifts
             (λ v. sheet_of s made' places' rows' params' (take n order) v) (λ v. Good s made' places' ways' hints' rows' params' number' order v n) t
         child_is x =
@@ -226,7 +225,7 @@ module _ {s : List ℕ} {at : ℕ} {path₀ : List ℕ} {len : ℕ} {binders₀ 
             let y = reached x in
             come.comes y.opening.child y.base (63 - (d + 1)) g.node y.opening.wait order n y.opening.stands (child-levels g y) (omega arith) y.held y.opening.opens g.top.env (child_few g y) g.good
 
-        pub walks_refused : {e : ℕ} → t ≡ comes.Refused e → {order' : List ℕ} → order' ≡ order → Walks s at path₀ len binders₀ b made₀ places₀ rows₀ params₀ order₀ w₀ n₀ made' places' ways' hints' rows' params' number' order' (Refused e)
+        pub walks_refused : {e : Code} → t ≡ Err e → {order' : List ℕ} → order' ≡ order → Walks s at path₀ len binders₀ b made₀ places₀ rows₀ params₀ order₀ w₀ n₀ made' places' ways' hints' rows' params' number' order' (Err e)
         unfolding ChildIs
         walks_refused et eo = rw eo (record {
           walks = λ c name st deep held.
@@ -234,7 +233,7 @@ module _ {s : List ℕ} {at : ℕ} {path₀ : List ℕ} {len : ℕ} {binders₀ 
               ends_refused (R.goes x) (reached x) _ _ ((rw et at (child_is x)) (R.goes x).waits);
         })
 
-        module _ {h : Frame} {v : Counts} (et : t ≡ comes.Opened h v) where
+        module _ {h : Frame ℕ} {v : Counts} (et : t ≡ Ok (record { frame = h; counts = v })) where
           opened : (x : Root s at path₀ len) → Opened s path₂ binders (63 - (d + 1)) place l f.bound (reached x).opening.child (R.goes x).node (reached x).opening.wait (sheet_of s made places rows params (take n order) w) (sheet_of s made' places' rows' params' (take n order) v) w.lifts h v
           unfolding ChildIs
           opened x = (rw et at (child_is x)).0
@@ -243,60 +242,9 @@ module _ {s : List ℕ} {at : ℕ} {path₀ : List ℕ} {len : ℕ} {binders₀ 
           unfolding ChildIs
           good_opened x = (rw et at (child_is x)).1
 
-          pub round_open : {order' : List ℕ} → order' ≡ order → {frames' : List Frame} → frames' ≡ set frames d f → {bound' uses' spare' : List ℕ} → length path₂ ≡ length path' → length bound' ≡ length bound → length uses' ≡ length uses → length spare' ≡ length spare
+          pub round_open : {order' : List ℕ} → order' ≡ order → {frames' : List (Frame ℕ)} → frames' ≡ set frames d f → {bound' uses' spare' : List ℕ} → length path₂ ≡ length path' → length bound' ≡ length bound → length uses' ≡ length uses → length spare' ≡ length spare
               → Round s at path₀ len binders₀ b made₀ places₀ rows₀ params₀ order₀ w₀ n₀ path₂ binders bound' uses' spare' made' places' ways' hints' rows' params' number' order' frames' h (d + 1) v n
           round_open eo ef l₂ lb lu ls = rw (eo, ef) (record { root = R.root; goes = λ x. goes_open (R.goes x) (reached x) (opened x) refl (good_opened x) long (l₂ ∙ long) step_kept come.kept lb lu ls })
 
-          pub round_less_open : {frames' : List Frame} → frames' ≡ set frames d f → left s frames' h (d + 1) < left s frames f d
+          pub round_less_open : {frames' : List (Frame ℕ)} → frames' ≡ set frames d f → left s frames' h (d + 1) < left s frames f d
           round_less_open ef = rw ef (less_open (R.goes R.root) (reached R.root) (opened R.root))
-
-pub some : (a : ℕ) → (a ≡ 0 → ⊥) → 0 < a
-some zero h = absurd (h refl)
-some (suc a) h = omega arith
-
--- ---- the frames as the array holds them
-abbrev none : Waiting
-none = record { place = 0; last = 0; here = 0; end = 0; left = 0; child = 0; len = 0; bound = 0; done = 0; link = 0; own = 0; call = 0; kind = 0; chained = false }
-
-unfoldable pub wide : List Waiting → List Frame
-wide l = map widened l
-
-pub taken_up : (l : List Waiting) (i : ℕ) {p : Frame} → p ≡ widened (get_or l i none) → p ≡ get_or (wide l) i no_frame
-unfolding wide widened
-taken_up l i e = e ∙ sym (get_or-map widened l i none)
-
-map-set : {A B : Type 0} (f : A → B) (l : List A) (i : ℕ) (x : A) → map f (set l i x) ≡ set (map f l) i (f x)
-map-set f [] i x = refl
-map-set f (y ∷ l) zero x = refl
-map-set {B = B} f (y ∷ l) (suc i) x = ap (λ (t : List B). f y ∷ t) (map-set f l i x)
-
-pub put_in : (l : List Waiting) (d : ℕ) (f : Frame) {w : Waiting} → w ≡ narrowed f → wide (set l d w) ≡ set (wide l) d f
-unfolding wide narrowed widened
-put_in l d f e = rw e (map-set widened l d (narrowed f))
-
--- ---- what is lent keeps its length
-pub record Lengths (path₀ binders₀ bound₀ uses₀ spare₀ sheet₀ places₀ ways₀ hints₀ number₀ path₁ binders₁ bound₁ uses₁ spare₁ sheet₁ places₁ ways₁ hints₁ number₁ : List ℕ) : Type 0 where
-  pub path : length path₁ ≡ length path₀
-  pub binders : length binders₁ ≡ length binders₀
-  pub bound : length bound₁ ≡ length bound₀
-  pub uses : length uses₁ ≡ length uses₀
-  pub spare : length spare₁ ≡ length spare₀
-  pub sheet : length sheet₁ ≡ length sheet₀
-  pub places : length places₁ ≡ length places₀
-  pub ways : length ways₁ ≡ length ways₀
-  pub hints : length hints₁ ≡ length hints₀
-  pub number : length number₁ ≡ length number₀
-
-pub lengths_on : {path₀ binders₀ bound₀ uses₀ spare₀ sheet₀ places₀ ways₀ hints₀ number₀ path binders bound uses spare sheet places ways hints number path' binders' bound' uses' spare' sheet' places' ways' hints' number' : List ℕ} → Lengths path₀ binders₀ bound₀ uses₀ spare₀ sheet₀ places₀ ways₀ hints₀ number₀ path binders bound uses spare sheet places ways hints number → Lengths path binders bound uses spare sheet places ways hints number path' binders' bound' uses' spare' sheet' places' ways' hints' number' → Lengths path₀ binders₀ bound₀ uses₀ spare₀ sheet₀ places₀ ways₀ hints₀ number₀ path' binders' bound' uses' spare' sheet' places' ways' hints' number'
-lengths_on x y = record {
-  path = y.path ∙ x.path;
-  binders = y.binders ∙ x.binders;
-  bound = y.bound ∙ x.bound;
-  uses = y.uses ∙ x.uses;
-  spare = y.spare ∙ x.spare;
-  sheet = y.sheet ∙ x.sheet;
-  places = y.places ∙ x.places;
-  ways = y.ways ∙ x.ways;
-  hints = y.hints ∙ x.hints;
-  number = y.number ∙ x.number;
-}

@@ -24,7 +24,7 @@ use Rattle.lift_tables.specs.tables.Rows.{with_param}
 use Rattle.lift_tables.proofs.tables.Params.{Same, param_before, param_length, param_own}
 use Rattle.lift_combinator.specs.declared.frames.Frame.{Frame}
 use Rattle.lift_combinator.proofs.frames.Ends.{combinator_end_lem}
-use Rattle.lift_combinator.specs.done.Done.{passed, binding, bind_by, bound_after, delivered, closed_of, order_of}
+use Rattle.lift_combinator.specs.done.Done.{passed, are_fields, binding, bind_by, bound_after, delivered, closed_of, order_of}
 use Rattle.lift_tables.specs.declared.enter_lift.Counts.{Counts}
 use Rattle.lift_tables.specs.enter_lift.Bound.{Sized}
 use Rattle.lift_tables.specs.enter_lift.Sheet.{Sheet, sheet_of}
@@ -35,13 +35,15 @@ use Rattle.lift_combinator.proofs.naming.Machine.{steps_back, steps_last}
 use Rattle.expand_combinator.specs.open_child.Good.{Good}
 use Rattle.expand_combinator.specs.body.Walks.{Ends}
 use Rattle.expand_combinator.specs.open_child.Steps.{Sound, weight, Refuses, Opened}
-use Rattle.expand_combinator.specs.declared.body.Body.TheVariants.{Refused}
+use Rattle.std.specs.Prelude.{Err}
+use Rattle.what_comes_back.specs.declared.Code.{Code}
+use Rattle.expand_combinator.specs.waiters.Waiters.{no_frame, waiter}
 use Rattle.expand_combinator.proofs.open_child.Named.{Reached}
 use Rattle.expand_combinator.proofs.open_child.Children.{size_least, levels_some}
-use Rattle.expand_combinator.proofs.body.Stack.{frame_kept, no_frame, waiter, Waits, Stack, stack_kept, stack_more, after, waiting, set_below, waiting_more, lifting_more, waiting_less, lifting_less, Going, closed_size, order-length, closed_is}
+use Rattle.expand_combinator.proofs.body.Stack.{frame_kept, Waits, Stack, stack_kept, stack_more, after, waiting, set_below, waiting_more, lifting_more, waiting_less, lifting_less, Going, closed_size, order-length, closed_is}
 
 -- ---- a Const field is passed
-pass_sound : {s path binders : List ℕ} {k : ℕ} {f : Frame} {n : Node} {e : ℕ} → Sound s f → Passing s path binders k f n e → Sound s (passed f e)
+pass_sound : {s path binders : List ℕ} {k : ℕ} {f : Frame ℕ} {n : Node} {e : ℕ} → Sound s f → Passing s path binders k f n e → Sound s (passed f e)
 unfolding passed plus
 pass_sound x p = record {
   least = omega (arith, x.least);
@@ -57,11 +59,11 @@ pass_sound x p = record {
   call_most = x.call_most;
 }
 
-pub less_pass : {s path binders : List ℕ} {k : ℕ} {f : Frame} {n : Node} {e : ℕ} → Passing s path binders k f n e → weight s (passed f e) < weight s f
+pub less_pass : {s path binders : List ℕ} {k : ℕ} {f : Frame ℕ} {n : Node} {e : ℕ} → Passing s path binders k f n e → weight s (passed f e) < weight s f
 unfolding passed weight
 less_pass p = omega (arith, p.ahead, p.frame.ends)
 
-module _ {s path binders bound uses spare made places ways hints rows params number order : List ℕ} {frames : List Frame} {f : Frame} {d : ℕ} {w : Counts} {n : ℕ} {whole : Res Sheet Extent}
+module _ {s path binders bound uses spare made places ways hints rows params number order : List ℕ} {frames : List (Frame ℕ)} {f : Frame ℕ} {d : ℕ} {w : Counts} {n : ℕ} {whole : Res Sheet Extent}
     (g : Going s path binders bound uses spare made places ways hints rows params number order frames f d w n whole) where
   pub goes_pass : {e : ℕ} → Passing s path binders (63 - d) f g.node e → Going s path binders bound uses spare made places ways hints rows params number order frames (passed f e) d w n whole
   unfolding passed
@@ -83,7 +85,7 @@ module _ {s path binders bound uses spare made places ways hints rows params num
   }
 
 -- ---- a child is opened
-stack_push : (s path binders : List ℕ) (frames : List Frame) (f : Frame) (d place last len bound : ℕ) (w : Wait) (ws : List Wait) → d < length frames → Waits s path binders (63 - d) f place last len bound w
+stack_push : (s path binders : List ℕ) (frames : List (Frame ℕ)) (f : Frame ℕ) (d place last len bound : ℕ) (w : Wait) (ws : List Wait) → d < length frames → Waits s path binders (63 - d) f place last len bound w
     → Stack s path binders (set frames d f) d f.place f.last f.len f.bound ws → Stack s path binders (set frames d f) (d + 1) place last len bound (w ∷ ws)
 unfolding Stack
 stack_push s path binders frames f d place last len bound w ws h x y =
@@ -91,7 +93,7 @@ stack_push s path binders frames f d place last len bound w ws h x y =
     let b : 64 - (d + 1) ≡ 63 - d = omega arith in
     rw (a, b, get_or-set_same frames d f no_frame h) (omega arith, x, y)
 
-module _ {s path binders bound uses spare made places ways hints rows params number order : List ℕ} {frames : List Frame} {f : Frame} {d : ℕ} {w : Counts} {n : ℕ} {whole : Res Sheet Extent}
+module _ {s path binders bound uses spare made places ways hints rows params number order : List ℕ} {frames : List (Frame ℕ)} {f : Frame ℕ} {d : ℕ} {w : Counts} {n : ℕ} {whole : Res Sheet Extent}
     (g : Going s path binders bound uses spare made places ways hints rows params number order frames f d w n whole) {path₁ : List ℕ} {at len : ℕ} (r : Reached s (63 - d) f g.node path₁ at len) where
   pub child_deep : d < 63
   child_deep = omega (arith, r.opening.deep, levels_some r.opening.child)
@@ -102,7 +104,7 @@ module _ {s path binders bound uses spare made places ways hints rows params num
   pub child_few : 4 * f.bound ≤ at
   child_few = omega (arith, g.top.few, r.opening.behind)
 
-  module _ {path₂ : List ℕ} {u : Sheet} {h : Frame} {v : Counts}
+  module _ {path₂ : List ℕ} {u : Sheet} {h : Frame ℕ} {v : Counts}
       (o : Opened s path₂ binders (63 - (d + 1)) at len f.bound r.opening.child g.node r.opening.wait (sheet_of s made places rows params (take n order) w) u w.lifts h v) where
     pub goes_open : {bound' uses' spare' made' places' ways' hints' rows' params' number' : List ℕ} → u ≡ sheet_of s made' places' rows' params' (take n order) v → Good s made' places' ways' hints' rows' params' number' order v n → length path₁ ≡ length path → length path₂ ≡ length path → take f.len path₁ ≡ take f.len path → take len path₂ ≡ take len path₁
         → length bound' ≡ length bound → length uses' ≡ length uses → length spare' ≡ length spare
@@ -162,35 +164,35 @@ module _ {s path binders bound uses spare made places ways hints rows params num
         let l = by_test f.chained less_chain less_child in
         omega arith
 
-  pub ends_refused : {x : ℕ} (sheet : Counts → ℕ → Sheet) (right : Counts → ℕ → Type 0) → Refuses (run g.node g.waits (sheet_of s made places rows params (take n order) w)) x → Ends whole (Refused x) sheet right
+  pub ends_refused : {x : Code} (sheet : Counts → ℕ → Sheet) (right : Counts → ℕ → Type 0) → Refuses (run g.node g.waits (sheet_of s made places rows params (take n order) w)) x → Ends whole (Err x) sheet right
   unfolding Ends
   ends_refused sheet right y = rw (sym g.same ∙ y.is) y.tells
 
 -- ---- a node is done, and the one that waits for it goes on
-record Keeps (p q : Frame) : Type 0 where
+record Keeps (p q : Frame ℕ) : Type 0 where
   place : q.place ≡ p.place
   last : q.last ≡ p.last
   len : q.len ≡ p.len
   own : q.own ≡ p.own
   bound : p.bound ≤ q.bound
 
-bound_on : (s : List ℕ) (p : Frame) → p.bound ≤ bound_after s p
+bound_on : (s : List ℕ) (p : Frame ℕ) → p.bound ≤ bound_after s p
 unfolding bound_after
 bound_on s p = by_test (binding s p) (λ (e : binding s p ≡ true). rw e (omega arith)) (λ (e : binding s p ≡ false). rw e (omega arith))
 
-delivered_keeps : (p : Frame) (at e whole b : ℕ) → p.bound ≤ b → Keeps p (delivered p at e whole b)
+delivered_keeps : (p : Frame ℕ) (at e whole b : ℕ) → p.bound ≤ b → Keeps p (delivered p at e whole b)
 unfolding delivered
 delivered_keeps p at e whole b h = by_test p.chained
     (λ (q : p.chained ≡ true). rw q (record { place = refl; last = refl; len = refl; own = refl; bound = omega arith }))
     (λ (q : p.chained ≡ false). rw q (record { place = refl; last = refl; len = refl; own = refl; bound = h }))
 
-delivered-weight : (s : List ℕ) (p : Frame) (at e whole b : ℕ) → weight s (delivered p at e whole b) ≡ after p e
+delivered-weight : (s : List ℕ) (p : Frame ℕ) (at e whole b : ℕ) → weight s (delivered p at e whole b) ≡ after p e
 unfolding delivered weight after
 delivered-weight s p at e whole b = by_test p.chained
     (λ (q : p.chained ≡ true). rw q (omega arith))
     (λ (q : p.chained ≡ false). rw q (omega arith))
 
-delivered_sound : (s : List ℕ) (p : Frame) (at e whole b : ℕ) → Sound s p → p.here ≤ at → at < e → 3 ≤ whole → whole ≤ 65535 → Sound s (delivered p at e whole b)
+delivered_sound : (s : List ℕ) (p : Frame ℕ) (at e whole b : ℕ) → Sound s p → p.here ≤ at → at < e → 3 ≤ whole → whole ≤ 65535 → Sound s (delivered p at e whole b)
 unfolding delivered plus
 delivered_sound s p at e whole b x h l k m = by_test p.chained
     (λ (q : p.chained ≡ true). rw q (record {
@@ -221,13 +223,13 @@ delivered_sound s p at e whole b x h l k m = by_test p.chained
     }))
 
 -- the binders then
-bind_length : (s : List ℕ) (p : Frame) (at inner : ℕ) (binders : List ℕ) → length (bind_by s p at inner binders) ≡ length binders
+bind_length : (s : List ℕ) (p : Frame ℕ) (at inner : ℕ) (binders : List ℕ) → length (bind_by s p at inner binders) ≡ length binders
 unfolding bind_by
 bind_length s p at inner binders = by_test (binding s p)
     (λ (e : binding s p ≡ true). rw e (param_length binders p.bound (min (past_at s p.here 1) 65535) (min at 65535) 0 (min inner 65535)))
     (λ (e : binding s p ≡ false). rw e refl)
 
-bind_before : (s : List ℕ) (p : Frame) (at inner : ℕ) (binders : List ℕ) → Same (4 * p.bound) (bind_by s p at inner binders) binders
+bind_before : (s : List ℕ) (p : Frame ℕ) (at inner : ℕ) (binders : List ℕ) → Same (4 * p.bound) (bind_by s p at inner binders) binders
 unfolding bind_by
 bind_before s p at inner binders i h = by_test (binding s p)
     (λ (e : binding s p ≡ true). rw e (param_before binders p.bound (min (past_at s p.here 1) 65535) (min at 65535) 0 (min inner 65535) i h))
@@ -239,18 +241,18 @@ sized_more binders b name at own size x room h j l = ⊎_elim
     (λ (m : j < b). rw (param_before binders b name at own size (4 * j + 3) (omega arith)) (x j m))
     (eq-or-lt_of_le {n = j} {m = b} (omega arith))
 
-delivered_sized : (s : List ℕ) (p : Frame) (at e whole inner : ℕ) (binders : List ℕ) → Sized binders p.bound → 4 * (p.bound + 1) ≤ length binders → 3 ≤ inner
+delivered_sized : (s : List ℕ) (p : Frame ℕ) (at e whole inner : ℕ) (binders : List ℕ) → Sized binders p.bound → 4 * (p.bound + 1) ≤ length binders → 3 ≤ inner
     → Sized (bind_by s p at inner binders) (delivered p at e whole (bound_after s p)).bound
 unfolding delivered bind_by bound_after binding
 delivered_sized s p at e whole inner binders x room h = by_test p.chained
     (λ (q : p.chained ≡ true). rw q x)
-    (λ (q : p.chained ≡ false). rw q (of (pick (eqb p.kind 1) (eqb (byte_at s p.here) 2) false)))
+    (λ (q : p.chained ≡ false). rw q (of (pick (are_fields p.kind) (eqb (byte_at s p.here) 2) false)))
   where
     of : (b : Bool) → Sized (pick b (with_param binders p.bound (min (past_at s p.here 1) 65535) (min at 65535) 0 (min inner 65535)) binders) (pick b (p.bound + 1) p.bound)
     of true = sized_more binders p.bound (min (past_at s p.here 1) 65535) (min at 65535) 0 (min inner 65535) x room (omega arith)
     of false = x
 
-module _ {s path binders bound uses spare made places ways hints rows params number order : List ℕ} {frames : List Frame} {f : Frame} {d : ℕ} {w : Counts} {n : ℕ} {whole : Res Sheet Extent}
+module _ {s path binders bound uses spare made places ways hints rows params number order : List ℕ} {frames : List (Frame ℕ)} {f : Frame ℕ} {d : ℕ} {w : Counts} {n : ℕ} {whole : Res Sheet Extent}
     (g : Going s path binders bound uses spare made places ways hints rows params number order frames f d w n whole) where
   abbrev z : Extent
   z = record { whole = (closed_of f n).whole; inner = (closed_of f n).inner }
@@ -281,10 +283,10 @@ module _ {s path binders bound uses spare made places ways hints rows params num
   pub ends_last : Closing f g.node → d ≡ 0 → ok z sheet ≡ whole
   ends_last c e = last_by g.waits c e g.stack g.same
 
-  abbrev p : Frame
+  abbrev p : Frame ℕ
   p = waiter frames d
 
-  abbrev q : Frame
+  abbrev q : Frame ℕ
   q = delivered p f.place f.last (closed_of f n).whole (bound_after s p)
 
   back_by : (ws : List Wait) → Closing f g.node → 0 < d → Stack s path binders frames d f.place f.last f.len f.bound ws → run g.node ws (sheet_of s made places rows params (take n order) w) ≡ whole

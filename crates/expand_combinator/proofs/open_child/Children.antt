@@ -6,7 +6,7 @@ use mathlib.Core.List.{List, [], ◌∷◌, ◌++◌}
 use Prim.Native.Nat.{ℕ, ◌+◌, ◌*◌, ◌≤◌, ◌<◌}
 use native.Mathlib.Omega.{arith}
 use lib.ListN.{length, take, length-set, length-append}
-use Rattle.definition.specs.Code.{Code, number}
+use Rattle.definition.specs.Code.{Code}
 use Rattle.definition.specs.Res.{Res, bad, ok}
 use Rattle.definition.specs.Tree.{Combinator, plain, chained, Inner, leaf, struct, choice, shell, bytes, invocation, macro_invocation}
 use Rattle.definition.specs.Write.{w_u16, w_name, w_text, w_len, w_list, count_a, w_inner, w_combinator, w_inners}
@@ -27,8 +27,7 @@ use Rattle.walker.proofs.ends.Ends.{inner_rest, inner_end_lem}
 use Rattle.lift_combinator.specs.declared.frames.Frame.{Frame}
 use Rattle.lift_combinator.specs.frames.Frames.{combinator_end_of, Stands, frame_at}
 use Rattle.lift_combinator.proofs.frames.Ends.{combinator_end_lem}
-use Rattle.lift_combinator.specs.declared.naming.Named.{Named}
-use Rattle.lift_combinator.specs.declared.naming.Named.TheVariants.{Lift, Refused}
+use Rattle.lift_combinator.specs.declared.naming.Lift.{Lift}
 use Rattle.lift_combinator.specs.naming.Walk.{Start}
 use Rattle.lift_combinator.specs.naming.Nodes.{walked, lifted, node_of, run}
 use Rattle.lift_combinator.specs.naming.Frames.{OwnIs}
@@ -37,7 +36,9 @@ use Rattle.lift_combinator.proofs.naming.Begins.{begins}
 use Rattle.lift_combinator.proofs.naming.Opened.{size_rest_lem, frame_opens}
 use Rattle.lift_combinator.proofs.naming.Machine.{steps_walked, steps_lifted, steps_refused}
 use Rattle.expand_combinator.specs.open_child.Steps.{Sound, weight, ChildIs, Comes}
-use Rattle.expand_combinator.specs.declared.open_child.Child.TheVariants as comes
+use Rattle.std.specs.Prelude.{Result, Ok, Err}
+use Rattle.what_comes_back.specs.declared.Code.{Code as CodeOf}
+use Rattle.what_comes_back.specs.Codes.{code_of}
 use Rattle.expand_combinator.proofs.open_child.Started.{started, rows-length, numbered_on}
 
 -- ---- sizes
@@ -111,27 +112,27 @@ module _ {s : List ℕ} {at : ℕ} (small : length s ≤ 16384) where
       rw (byte_here q) (omega (arith, b.here, size-chained i c, a))
 
 -- ---- the answers of a lift
-record Entry (m : Res Sheet Start) (n call : ℕ) (v : Counts) (path : List ℕ) (sheet : Counts → Sheet) (good : Counts → Type 0) : Type 0 where
+record Entry (m : Res Sheet Start) (l : Lift) (path : List ℕ) (sheet : Counts → Sheet) (good : Counts → Type 0) : Type 0 where
   start : Start
   after : Sheet
   is : m ≡ ok start after
-  held : Held path n start.name
-  size : call ≡ start.call
-  says : after ≡ sheet v
-  right : good v
+  held : Held path l.len start.name
+  size : l.call ≡ start.call
+  says : after ≡ sheet l.counts
+  right : good l.counts
 
-entry : (m : Res Sheet Start) (n call : ℕ) (v : Counts) (path : List ℕ) (sheet : Counts → Sheet) (good : Counts → Type 0) → Answers m (Lift n call v) path sheet good → Entry m n call v path sheet good
+entry : (m : Res Sheet Start) (l : Lift) (path : List ℕ) (sheet : Counts → Sheet) (good : Counts → Type 0) → Answers m (Ok l) path sheet good → Entry m l path sheet good
 unfolding Answers
-entry (bad k t) n call v path sheet good h = absurd h
-entry (ok b t) n call v path sheet good h = record { start = b; after = t; is = refl; held = h.0; size = h.1; says = h.2; right = h.3 }
+entry (bad k t) l path sheet good h = absurd h
+entry (ok b t) l path sheet good h = record { start = b; after = t; is = refl; held = h.0; size = h.1; says = h.2; right = h.3 }
 
-record Refusal (m : Res Sheet Start) (x : ℕ) : Type 0 where
+record Refusal (m : Res Sheet Start) (x : CodeOf) : Type 0 where
   code : Code
   after : Sheet
   is : m ≡ bad code after
-  tells : x ≡ number code
+  tells : x ≡ code_of code
 
-refusal : (m : Res Sheet Start) (x : ℕ) (path : List ℕ) (sheet : Counts → Sheet) (good : Counts → Type 0) → Answers m (Refused x) path sheet good → Refusal m x
+refusal : (m : Res Sheet Start) (x : CodeOf) (path : List ℕ) (sheet : Counts → Sheet) (good : Counts → Type 0) → Answers m (Err x) path sheet good → Refusal m x
 unfolding Answers
 refusal (bad k t) x path sheet good h = record { code = k; after = t; is = refl; tells = h }
 refusal (ok b t) x path sheet good h = absurd h
@@ -141,8 +142,8 @@ whole_of c small st d e = record { after = st.after; is = st.is; deep = d; ends 
 
 -- ---- the three ways
 module _ {s : List ℕ} {at : ℕ} {path : List ℕ} {len : ℕ} {binders : List ℕ} {b : ℕ} {made places ways hints rows params number : List ℕ} {w : Counts} (small : length s ≤ 16384) {last : ℕ} (ends : last ≡ combinator_end_of 64 s at) where
-  pub child_walked : {g : Frame} → anonymous_at 64 s at ≡ false → g ≡ frame_at s at last len b 0 0
-      → Comes s at path len binders b made places ways hints rows params number w path made places ways hints rows params number (comes.Opened g w)
+  pub child_walked : {g : Frame ℕ} → anonymous_at 64 s at ≡ false → g ≡ frame_at s at last len b 0 0
+      → Comes s at path len binders b made places ways hints rows params number w path made places ways hints rows params number (Ok (record { frame = g; counts = w }))
   unfolding ChildIs frame_at OwnIs
   child_walked {g} an e = record {
     kept = refl;
@@ -164,9 +165,9 @@ module _ {s : List ℕ} {at : ℕ} {path : List ℕ} {len : ℕ} {binders : List
         );
   }
 
-  module _ {path' made' places' ways' hints' rows' params' number' : List ℕ} {r : Named} (an : anonymous_at 64 s at ≡ true)
+  module _ {path' made' places' ways' hints' rows' params' number' : List ℕ} {r : Result Lift CodeOf} (an : anonymous_at 64 s at ≡ true)
       (lift : Lifts s at last path len (bound_from s binders 0 b) made places rows params number w path' made' places' ways' hints' rows' params' number' r) where
-    pub child_refused : (x : ℕ) → r ≡ Refused x → Comes s at path len binders b made places ways hints rows params number w path' made' places' ways' hints' rows' params' number' (comes.Refused x)
+    pub child_refused : (x : CodeOf) → r ≡ Err x → Comes s at path len binders b made places ways hints rows params number w path' made' places' ways' hints' rows' params' number' (Err x)
     unfolding ChildIs
     child_refused x e = record {
       kept = lift.kept;
@@ -176,37 +177,37 @@ module _ {s : List ℕ} {at : ℕ} {path : List ℕ} {len : ℕ} {binders : List
           record { code = y.code; sheet = y.after; is = steps_refused op ws t y.code y.after (sym (anonymous_here c 64 (omega arith) st.after st.is) ∙ an) y.is; tells = y.tells };
     }
 
-    pub child_lifted : {n call own : ℕ} {v : Counts} {g : Frame} → r ≡ Lift n call v → own ≡ w.lifts + 1 → g ≡ frame_at s at last n b own call → length path' ≡ length path
-        → Comes s at path len binders b made places ways hints rows params number w path' made' places' ways' hints' rows' params' number' (comes.Opened g v)
+    pub child_lifted : {l : Lift} {own : ℕ} {g : Frame ℕ} → r ≡ Ok l → own ≡ w.lifts + 1 → g ≡ frame_at s at last l.len b own l.call → length path' ≡ length path
+        → Comes s at path len binders b made places ways hints rows params number w path' made' places' ways' hints' rows' params' number' (Ok (record { frame = g; counts = l.counts }))
     unfolding ChildIs frame_at OwnIs sheet_of
-    child_lifted {n} {call} {own} {v} {g} e eo eg long = record {
+    child_lifted {l} {own} {g} e eo eg long = record {
       kept = lift.kept;
       comes = λ c base k nd wait order m st deep kd held op env few good.
           let t = sheet_of s made places rows params (take m order) w in
           let wh = whole_of {last = last} c small st (omega arith) ends in
-          let y = entry _ n call v _ _ _ (rw (e, env) at (lift.lifts c base (take m order) wh held)) in
+          let y = entry _ l _ _ _ (rw (e, env) at (lift.lifts c base (take m order) wh held)) in
           let q = started c at base nd.env t y.is in
-          let bytes : y.after.bytes ≡ v.bytes = ap (λ (z : Sheet). z.bytes) y.says in
-          let after-rows : rows_of s made' rows' params' v.lifts ≡ rows_of s made rows params w.lifts ++ (q.row ∷ []) = sym (ap (λ (z : Sheet). z.rows) y.says) ∙ q.rows in
+          let bytes : y.after.bytes ≡ l.counts.bytes = ap (λ (z : Sheet). z.bytes) y.says in
+          let after-rows : rows_of s made' rows' params' l.counts.lifts ≡ rows_of s made rows params w.lifts ++ (q.row ∷ []) = sym (ap (λ (z : Sheet). z.rows) y.says) ∙ q.rows in
           let tb = y.right.0 in
           let len-rows = rows-length s made rows params w.lifts in
           let own-few : own ≤ 512 = omega (arith, y.right.2, tb.few.0, tb.defns_most) in (
             rw eg (record {
               node = node_of c at y.start.name nd.env (lifted (length t.rows) y.start.call);
-              frame = frame_opens (omega arith) c st.after k at last n b own call y.start.name nd.env (lifted (length t.rows) y.start.call) st.is deep kd y.held env (omega (arith, eo, len-rows), y.size) few;
+              frame = frame_opens (omega arith) c st.after k at last l.len b own l.call y.start.name nd.env (lifted (length t.rows) y.start.call) st.is deep kd y.held env (omega (arith, eo, len-rows), y.size) few;
               same = λ ws. steps_lifted op ws t y.start y.after (sym (anonymous_here c 64 (omega arith) st.after st.is) ∙ an) y.is ∙ ap (λ (z : Sheet). run (node_of c at y.start.name nd.env (lifted (length t.rows) y.start.call)) (wait ∷ ws) z) y.says;
               place = refl;
               last = wh.ends;
               longer = omega (arith, held.place, y.held.place, q.longer);
               bound = refl;
-              sound = frame_sound small c st.after last n b own call (omega arith) st.is wh.ends own-few (λ h. omega (arith, y.size, q.least)) (omega (arith, y.size, q.most, tb.bytes_most));
+              sound = frame_sound small c st.after last l.len b own l.call (omega arith) st.is wh.ends own-few (λ h. omega (arith, y.size, q.least)) (omega (arith, y.size, q.most, tb.bytes_most));
               counted = omega (arith, y.right.2);
-              light = frame_light small c st.after last n b own call (omega arith) st.is;
+              light = frame_light small c st.after last l.len b own l.call (omega arith) st.is;
             }),
             record {
               tables = tb;
               number_long = rw y.right.1 (simp length-set good.number_long);
-              numbered = λ p h. rw y.right.1 (numbered_on (rows_of s made rows params w.lifts) (rows_of s made' rows' params' v.lifts) q.row number at w.lifts p after-rows q.at len-rows (omega (arith, good.number_long)) (good.numbered p h));
+              numbered = λ p h. rw y.right.1 (numbered_on (rows_of s made rows params w.lifts) (rows_of s made' rows' params' l.counts.lifts) q.row number at w.lifts p after-rows q.at len-rows (omega (arith, good.number_long)) (good.numbered p h));
               order_long = good.order_long;
               finished = omega (arith, good.finished, y.right.2);
             },

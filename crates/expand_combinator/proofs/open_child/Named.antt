@@ -24,18 +24,18 @@ use Rattle.lift_combinator.specs.naming.Frames.{FrameIs, Closing, Passing, Openi
 use Rattle.lift_combinator.proofs.naming.Opened.{next_is}
 
 -- ---- the step, as the node says it
-pub record Reached (s : List ℕ) (k : ℕ) (f : Frame) (n : Node) (path' : List ℕ) (at len : ℕ) : Type 0 where
+pub record Reached (s : List ℕ) (k : ℕ) (f : Frame ℕ) (n : Node) (path' : List ℕ) (at len : ℕ) : Type 0 where
   pub base : Name
   pub opening : Opening s k f n at base
   pub held : Held path' len base
   pub longer : f.len ≤ len
   pub chain : f.chained ≡ true → at ≡ past_at s f.end 1
 
-pub record Reaches (s : List ℕ) (f : Frame) (path path' : List ℕ) (at len : ℕ) : Type 0 where
+pub record Reaches (s : List ℕ) (f : Frame ℕ) (path path' : List ℕ) (at len : ℕ) : Type 0 where
   pub kept : take f.len path' ≡ take f.len path
   pub reaches : (binders : List ℕ) (k : ℕ) (n : Node) → length s ≤ 16384 → FrameIs s path binders k f n → Reached s k f n path' at len
 
-unfoldable pub StepIs : List ℕ → Frame → List ℕ → List ℕ → Step → Type 0
+unfoldable pub StepIs : List ℕ → Frame ℕ → List ℕ → List ℕ → Step → Type 0
 StepIs s f path path' step.Done = (path' ≡ path) × ((binders : List ℕ) (k : ℕ) (n : Node) → length s ≤ 16384 → FrameIs s path binders k f n → Closing f n)
 StepIs s f path path' (step.Pass e) = (path' ≡ path) × ((binders : List ℕ) (k : ℕ) (n : Node) → length s ≤ 16384 → FrameIs s path binders k f n → Passing s path binders k f n e)
 StepIs s f path path' (step.Child at len) = Reaches s f path path' at len
@@ -54,11 +54,11 @@ place_of (Case at) = at
 place_of (Anon at) = at
 place_of (Item at) = at
 
-chain_place : (s : List ℕ) (f : Frame) → f.chained ≡ true → place_of (next_of s f) ≡ past_at s f.end 1
+chain_place : (s : List ℕ) (f : Frame ℕ) → f.chained ≡ true → place_of (next_of s f) ≡ past_at s f.end 1
 unfolding next_of place_of
 chain_place s f e = rw e
 
-module _ (s : List ℕ) (f : Frame) (path : List ℕ) where
+module _ (s : List ℕ) (f : Frame ℕ) (path : List ℕ) where
   step_done : Done ≡ next_of s f → StepIs s f path path step.Done
   unfolding StepIs NextIs
   step_done e = (refl, λ binders k n small g. rw (← e) at (next_is small g))

@@ -1,6 +1,6 @@
 -- The step of the pass over a body that opens a child.
-use Rattle.std.specs.Prelude.{◌≡◌, List, ◌∷◌, ℕ, ◌+◌, ◌-◌, ◌*◌, ◌≤◌, ◌<◌, min, length, take}
-use Rattle.definition.specs.Code.{Code, number}
+use Rattle.std.specs.Prelude.{◌≡◌, List, ◌∷◌, ℕ, ◌+◌, ◌-◌, ◌*◌, ◌≤◌, ◌<◌, min, length, take, Result, Ok, Err}
+use Rattle.definition.specs.Code.{Code}
 use Rattle.definition.specs.Res.{Res, bad}
 use Rattle.definition.specs.Tree.{Name, Combinator}
 use Rattle.definition.specs.Size.{size, levels}
@@ -16,10 +16,11 @@ use Rattle.lift_combinator.specs.naming.Nodes.{Node, Wait, run, Opens}
 use Rattle.lift_combinator.specs.naming.Frames.{FrameIs}
 use Rattle.expand_combinator.specs.open_child.Good.{Good}
 use Rattle.expand_combinator.specs.declared.open_child.Child.{Child}
-use Rattle.expand_combinator.specs.declared.open_child.Child.TheVariants as comes
+use Rattle.what_comes_back.specs.declared.Code.{Code as CodeOf}
+use Rattle.what_comes_back.specs.Codes.{code_of}
 
 -- ---- what every frame in use keeps
-pub record Sound (s : List ℕ) (f : Frame) : Type 0 where
+pub record Sound (s : List ℕ) (f : Frame ℕ) : Type 0 where
   -- no inner has fewer than three bytes after lifting, and no call fewer than five
   pub least : 3 ≤ f.done + (f.end - f.here)
   pub call : 0 < f.own → 5 ≤ f.call
@@ -35,18 +36,18 @@ pub record Sound (s : List ℕ) (f : Frame) : Type 0 where
   pub call_most : f.call ≤ 16384
 
 -- what is left to walk for a frame: its rest, and its chain if that is still to be walked
-unfoldable pub weight : List ℕ → Frame → ℕ
+unfoldable pub weight : List ℕ → Frame ℕ → ℕ
 weight s f = let a = past_at s f.end 1 in 3 * (f.end - f.here) + pick f.chained (3 * (combinator_end_of 64 s a - a)) 0 + 1
 
 -- ---- a child
-pub record Refuses (m : Res Sheet Extent) (c : ℕ) : Type 0 where
+pub record Refuses (m : Res Sheet Extent) (c : CodeOf) : Type 0 where
   pub code : Code
   pub sheet : Sheet
   pub is : m ≡ bad code sheet
-  pub tells : c ≡ number code
+  pub tells : c ≡ code_of code
 
 -- the child c of a node: its frame, and that the pass goes on with it
-pub record Opened (s path binders : List ℕ) (k at len b : ℕ) (c : Combinator) (n : Node) (wait : Wait) (t u : Sheet) (lifts : ℕ) (g : Frame) (v : Counts) : Type 0 where
+pub record Opened (s path binders : List ℕ) (k at len b : ℕ) (c : Combinator) (n : Node) (wait : Wait) (t u : Sheet) (lifts : ℕ) (g : Frame ℕ) (v : Counts) : Type 0 where
   pub node : Node
   pub frame : FrameIs s path binders k g node
   pub same : (ws : List Wait) → run n ws t ≡ run node (wait ∷ ws) u
@@ -58,11 +59,11 @@ pub record Opened (s path binders : List ℕ) (k at len b : ℕ) (c : Combinator
   pub counted : v.lifts ≡ lifts + min g.own 1
   pub light : weight s g + 2 ≤ 3 * size c
 
-unfoldable pub ChildIs : List ℕ → List ℕ → List ℕ → ℕ → ℕ → ℕ → ℕ → Combinator → Node → Wait → Sheet → ℕ → (Counts → Sheet) → (Counts → Type 0) → Child → Type 0
-ChildIs s path binders k at len b c n wait t lifts sheet good (comes.Refused x) = (ws : List Wait) → Refuses (run n ws t) x
-ChildIs s path binders k at len b c n wait t lifts sheet good (comes.Opened g v) = Opened s path binders k at len b c n wait t (sheet v) lifts g v × good v
+unfoldable pub ChildIs : List ℕ → List ℕ → List ℕ → ℕ → ℕ → ℕ → ℕ → Combinator → Node → Wait → Sheet → ℕ → (Counts → Sheet) → (Counts → Type 0) → Result Child CodeOf → Type 0
+ChildIs s path binders k at len b c n wait t lifts sheet good (Err x) = (ws : List Wait) → Refuses (run n ws t) x
+ChildIs s path binders k at len b c n wait t lifts sheet good (Ok r) = Opened s path binders k at len b c n wait t (sheet r.counts) lifts r.frame r.counts × good r.counts
 
-pub record Comes (s : List ℕ) (at : ℕ) (path : List ℕ) (len : ℕ) (binders : List ℕ) (b : ℕ) (made places ways hints rows params number : List ℕ) (w : Counts) (path' made' places' ways' hints' rows' params' number' : List ℕ) (r : Child) : Type 0 where
+pub record Comes (s : List ℕ) (at : ℕ) (path : List ℕ) (len : ℕ) (binders : List ℕ) (b : ℕ) (made places ways hints rows params number : List ℕ) (w : Counts) (path' made' places' ways' hints' rows' params' number' : List ℕ) (r : Result Child CodeOf) : Type 0 where
   pub kept : take len path' ≡ take len path
   pub comes : (c : Combinator) (base : Name) (k : ℕ) (n : Node) (wait : Wait) (order : List ℕ) (m : ℕ) → Stands s at c → levels c ≤ k + 1 → k < 64 → Held path len base
       → Opens n c at base wait → bound_from s binders 0 b ≡ n.env → 4 * b ≤ at → Good s made places ways hints rows params number order w m

@@ -28,15 +28,16 @@ use Rattle.lifting.specs.Trace.{params_at}
 use Rattle.lift_combinator.specs.naming.Walk.{Extent, walk}
 use Rattle.lift_combinator.specs.naming.Lifts.{Scratch}
 use Rattle.expand_definitions.specs.walked.Book.{own_bound, walk_all}
-use Rattle.expand_combinator.specs.declared.body.Body.{Body}
-use Rattle.expand_combinator.specs.declared.body.Body.TheVariants.{Named, Refused}
+use Rattle.expand_combinator.specs.declared.body.Named.{Named}
+use Rattle.std.specs.Prelude.{Result, Ok, Err}
+use Rattle.what_comes_back.specs.declared.Code.{Code}
 use Rattle.expand_combinator.specs.open_child.Good.{Good}
 use Rattle.expand_combinator.specs.body.Walks.{Ready, Ends, Walks}
 use Rattle.expand_definitions.specs.own_params.Own.{Params, Binds, Own}
 use Rattle.expand_definitions.specs.format.Formats.{Format, EndsIn, Defined}
 
 -- what is said of a format
-pub record Formatted (s : List ℕ) (at : ℕ) (made places rows params order : List ℕ) (w : Counts) (n : ℕ) (made' places' ways' hints' rows' params' number' order' : List ℕ) (r : Body) : Type 0 where
+pub record Formatted (s : List ℕ) (at : ℕ) (made places rows params order : List ℕ) (w : Counts) (n : ℕ) (made' places' ways' hints' rows' params' number' order' : List ℕ) (r : Result Named Code) : Type 0 where
   pub says : (m : Name) (ps : List Param) (c : Combinator) (z : List ℕ) → Here s at (w_definition (format m ps c) z) → levels_p ps ≤ 64 → levels c ≤ 64
       → EndsIn (walk c (at + head m ps) m (own_bound ps (params_at at m)) (sheet_of s made places rows params (take n order) w)) s made' places' ways' hints' rows' params' number' order' r
 
@@ -90,7 +91,7 @@ module _ {s : List ℕ} {at : ℕ} (short : length s ≤ 16384) {list : ℕ} (el
           sized = rw e g.sized;
         }
 
-    pub formatted : {path₀ path : List ℕ} {len : ℕ} → Wrote path₀ 0 (name_at s at) path len → {made places rows params order : List ℕ} {w : Counts} {n : ℕ} {made' places' ways' hints' rows' params' number' order' : List ℕ} {r : Body}
+    pub formatted : {path₀ path : List ℕ} {len : ℕ} → Wrote path₀ 0 (name_at s at) path len → {made places rows params order : List ℕ} {w : Counts} {n : ℕ} {made' places' ways' hints' rows' params' number' order' : List ℕ} {r : Result Named Code}
         → Walks s body path len binders b made places rows params order w n made' places' ways' hints' rows' params' number' order' r
         → Formatted s at made places rows params order w n made' places' ways' hints' rows' params' number' order' r
     formatted put walks = record {
@@ -101,15 +102,15 @@ module _ {s : List ℕ} {at : ℕ} (short : length s ≤ 16384) {list : ℕ} (el
     }
 
 -- ---- a definition by its kind
-ends_after : (m : Res Sheet Extent) (r : Body) (sheet : Counts → ℕ → Sheet) (good : Counts → ℕ → Type 0) → Ends m r sheet good → Ends (m >>= (λ x. ok (tt {0}) x.1)) r sheet good
+ends_after : (m : Res Sheet Extent) (r : Result Named Code) (sheet : Counts → ℕ → Sheet) (good : Counts → ℕ → Type 0) → Ends m r sheet good → Ends (m >>= (λ x. ok (tt {0}) x.1)) r sheet good
 unfolding Ends
-ends_after (bad k t) (Refused c) sheet good h = h
-ends_after (ok z t) (Named v n) sheet good h = h
-ends_after (bad k t) (Named v n) sheet good h = h
-ends_after (ok z t) (Refused c) sheet good h = h
+ends_after (bad k t) (Err c) sheet good h = h
+ends_after (ok z t) (Ok a) sheet good h = h
+ends_after (bad k t) (Ok a) sheet good h = h
+ends_after (ok z t) (Err c) sheet good h = h
 
 module _ {s : List ℕ} {kind at : ℕ} {made places rows params order : List ℕ} {w : Counts} {n : ℕ} where
-  pub defined_format : kind ≡ 1 → {made' places' ways' hints' rows' params' number' order' : List ℕ} {r : Body} → Formatted s at made places rows params order w n made' places' ways' hints' rows' params' number' order' r
+  pub defined_format : kind ≡ 1 → {made' places' ways' hints' rows' params' number' order' : List ℕ} {r : Result Named Code} → Formatted s at made places rows params order w n made' places' ways' hints' rows' params' number' order' r
       → Defined s kind at made places rows params order w n made' places' ways' hints' rows' params' number' order' r
   unfolding walk_all kind_byte kind_of levels_book
   defined_format k {made'} {places'} {ways'} {hints'} {rows'} {params'} {number'} {order'} {r} f = record { says = λ d z h e l. of d z h e l }
@@ -121,13 +122,13 @@ module _ {s : List ℕ} {kind at : ℕ} {made places rows params order : List �
       of (byte_order x) z h e l = absurd (omega arith)
       of (macro m ps c) z h e l = absurd (omega arith)
 
-  pub defined_none : (kind ≡ 1 → ⊥) → {ways hints number : List ℕ} → Good s made places ways hints rows params number order w n
-      → Defined s kind at made places rows params order w n made places ways hints rows params number order (Named w n)
-  unfolding walk_all kind_byte kind_of Ends
-  defined_none k {ways} {hints} {number} g = record { says = λ d z h e l. of d e }
-    where
-      of : (d : Definition) → kind ≡ kind_byte (kind_of d) → EndsIn (walk_all (d ∷ []) at (sheet_of s made places rows params (take n order) w)) s made places ways hints rows params number order (Named w n)
-      of (format m ps c) e = absurd (k e)
-      of (constant m x) e = (refl, g)
-      of (byte_order x) e = (refl, g)
-      of (macro m ps c) e = (refl, g)
+pub defined_none : {s : List ℕ} {kind at : ℕ} {made places rows params order : List ℕ} {v : Named} → (kind ≡ 1 → ⊥) → {ways hints number : List ℕ} → Good s made places ways hints rows params number order v.counts v.finished
+    → Defined s kind at made places rows params order v.counts v.finished made places ways hints rows params number order (Ok v)
+unfolding walk_all kind_byte kind_of Ends
+defined_none {s} {kind} {at} {made} {places} {rows} {params} {order} {v} k {ways} {hints} {number} g = record { says = λ d z h e l. of d e }
+  where
+    of : (d : Definition) → kind ≡ kind_byte (kind_of d) → EndsIn (walk_all (d ∷ []) at (sheet_of s made places rows params (take v.finished order) v.counts)) s made places ways hints rows params number order (Ok v)
+    of (format m ps c) e = absurd (k e)
+    of (constant m x) e = (refl, g)
+    of (byte_order x) e = (refl, g)
+    of (macro m ps c) e = (refl, g)

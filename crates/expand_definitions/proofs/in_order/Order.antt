@@ -23,10 +23,10 @@ use Rattle.lift_tables.specs.declared.enter_lift.Counts.{Counts}
 use Rattle.lift_tables.specs.enter_lift.Sheet.{Sheet, sheet_of}
 use Rattle.lift_combinator.specs.naming.Walk.{walk}
 use Rattle.expand_definitions.specs.walked.Book.{own_bound, walk_all}
-use Rattle.expand_combinator.specs.declared.body.Body.TheVariants.{Named, Refused}
+use Rattle.std.specs.Prelude.{Ok, Err}
+use Rattle.what_comes_back.specs.declared.Code.{Code}
 use Rattle.expand_combinator.specs.open_child.Good.{Good}
 use Rattle.expand_combinator.specs.body.Walks.{Ends}
-use Rattle.expand_combinator.proofs.body.Rounds.{Lengths}
 use Rattle.what_comes_back.specs.Elaborates.{Expanded}
 use Rattle.expand_definitions.specs.format.Formats.{Space, Format, EndsIn, Defined}
 use Rattle.expand_definitions.specs.in_order.InOrder.{InOrder}
@@ -40,12 +40,12 @@ walk_first (byte_order x) ds p t = refl
 walk_first (macro n ps c) ds p t = refl
 
 module _ (sheet : Counts → ℕ → Sheet) (good : Counts → ℕ → Type 0) where
-  ends_named : (m : Res Sheet Unit) (v : Counts) (k : ℕ) → Ends m (Named v k) sheet good → (m ≡ ok tt (sheet v k)) × good v k
+  ends_named : (m : Res Sheet Unit) (v : Counts) (k : ℕ) → Ends m (Ok (record { counts = v; finished = k })) sheet good → (m ≡ ok tt (sheet v k)) × good v k
   unfolding Ends
   ends_named (bad c t) v k h = absurd h
   ends_named (ok z t) v k h = (ap (ok tt) h.0, h.1)
 
-  ends_refused : (m : Res Sheet Unit) (c : ℕ) (f : Sheet → Res Sheet Unit) → Ends m (Refused c) sheet good → Ends (m >>= (λ x. f x.1)) (Refused c) sheet good
+  ends_refused : (m : Res Sheet Unit) (c : Code) (f : Sheet → Res Sheet Unit) → Ends m (Err c) sheet good → Ends (m >>= (λ x. f x.1)) (Err c) sheet good
   unfolding Ends
   ends_refused (bad k t) c f h = h
   ends_refused (ok z t) c f h = absurd h
@@ -89,11 +89,11 @@ is_format (macro m ps c) z h l k = absurd (omega arith)
 
 module _ {s made₀ places₀ rows₀ params₀ order₀ : List ℕ} {w₀ : Counts} {made places ways hints rows params number order : List ℕ} {w : Counts} {n : ℕ} {d : Definitions}
     (g : Going s made₀ places₀ rows₀ params₀ order₀ w₀ made places ways hints rows params number order w n d) where
-  pub going_all : d.left ≤ 0 → InOrder s made₀ places₀ rows₀ params₀ order₀ w₀ made places ways hints rows params number order (Named w n)
+  pub going_all : d.left ≤ 0 → InOrder s made₀ places₀ rows₀ params₀ order₀ w₀ made places ways hints rows params number order (Ok (record { counts = w; finished = n }))
   unfolding walk_all Ends
   going_all h = record { says = λ ds e b. let r = g.goes ds e b in rw r.same (of r.rest r.are) }
     where
-      of : (rest : List Definition) → Left s d rest → EndsIn (walk_all rest d.at (sheet_of s made places rows params (take n order) w)) s made places ways hints rows params number order (Named w n)
+      of : (rest : List Definition) → Left s d rest → EndsIn (walk_all rest d.at (sheet_of s made places rows params (take n order) w)) s made places ways hints rows params number order (Ok (record { counts = w; finished = n }))
       of [] l = (refl, g.good)
       of (x ∷ ds) l = absurd (no_more h l)
 
@@ -106,19 +106,19 @@ module _ {s made₀ places₀ rows₀ params₀ order₀ : List ℕ} {w₀ : Cou
         of (x ∷ ds) l = let i = l.listed in is_format x (w_all w_definition ds []) (listed_body i) (listed_deep i) (sym (ek ∙ listed_kind i) ∙ k)
 
     module _ {made' places' ways' hints' rows' params' number' order' : List ℕ} where
-      pub going_refused : {c : ℕ} → Defined s kind d.at made places rows params order w n made' places' ways' hints' rows' params' number' order' (Refused c)
-          → InOrder s made₀ places₀ rows₀ params₀ order₀ w₀ made' places' ways' hints' rows' params' number' order' (Refused c)
+      pub going_refused : {c : Code} → Defined s kind d.at made places rows params order w n made' places' ways' hints' rows' params' number' order' (Err c)
+          → InOrder s made₀ places₀ rows₀ params₀ order₀ w₀ made' places' ways' hints' rows' params' number' order' (Err c)
       going_refused {c} y = record { says = λ ds e b. let r = g.goes ds e b in rw r.same (of r.rest r.are) }
         where
           of : (rest : List Definition) → Left s d rest
-              → EndsIn (walk_all rest d.at (sheet_of s made places rows params (take n order) w)) s made' places' ways' hints' rows' params' number' order' (Refused c)
+              → EndsIn (walk_all rest d.at (sheet_of s made places rows params (take n order) w)) s made' places' ways' hints' rows' params' number' order' (Err c)
           of [] l = absurd (some_more more l)
           of (x ∷ ds) l =
               let i = l.listed in
               rw (walk_first x ds d.at (sheet_of s made places rows params (take n order) w))
               (ends_refused _ _ _ c (λ t. walk_all ds (d.at + size_of x) t) (y.says x (w_all w_definition ds []) (listed_body i) (ek ∙ listed_kind i) (listed_deep i)))
 
-      module _ {v : Counts} {k : ℕ} (y : Defined s kind d.at made places rows params order w n made' places' ways' hints' rows' params' number' order' (Named v k)) where
+      module _ {v : Counts} {k : ℕ} (y : Defined s kind d.at made places rows params order w n made' places' ways' hints' rows' params' number' order' (Ok (record { counts = v; finished = k }))) where
         first : {x : Definition} {ds : List Definition} → Left s d (x ∷ ds)
             → (walk_all (x ∷ []) d.at (sheet_of s made places rows params (take n order) w) ≡ ok tt (sheet_of s made' places' rows' params' (take k order') v)) × Good s made' places' ways' hints' rows' params' number' order' v k
         first {x} {ds} l = let i = l.listed in ends_named _ _ _ v k (y.says x (w_all w_definition ds []) (listed_body i) (ek ∙ listed_kind i) (listed_deep i))
@@ -139,15 +139,15 @@ module _ {s made₀ places₀ rows₀ params₀ order₀ : List ℕ} {w₀ : Cou
             of m (x ∷ ds) l q = record { rest = ds; are = next_left h l; same = q ∙ walk_first x ds d.at (sheet_of s made places rows params (take n order) w) ∙ rw ((first l).0, at_next h l) }
 
 -- ---- the rows keep their lengths
-pub kept : {s path₀ binders₀ bound₀ uses₀ spare₀ made₀ places₀ ways₀ hints₀ sheet₀ path binders bound uses spare made places ways hints sheet : List ℕ} → Space s path₀ binders₀ bound₀ uses₀ spare₀
-    → Lengths path₀ binders₀ bound₀ uses₀ spare₀ made₀ places₀ ways₀ hints₀ sheet₀ path binders bound uses spare made places ways hints sheet → Space s path binders bound uses spare
-kept x l = record {
+pub kept : {s path₀ binders₀ bound₀ uses₀ spare₀ path binders bound uses spare : List ℕ} → Space s path₀ binders₀ bound₀ uses₀ spare₀
+    → length path ≡ length path₀ → length binders ≡ length binders₀ → length bound ≡ length bound₀ → length uses ≡ length uses₀ → length spare ≡ length spare₀ → Space s path binders bound uses spare
+kept x lp lb lh lu ls = record {
   scratch = record {
     small = x.scratch.small;
-    labels = omega (arith, x.scratch.labels, l.bound);
-    uses_long = omega (arith, x.scratch.uses_long, l.uses);
-    spare_long = omega (arith, x.scratch.spare_long, l.spare);
+    labels = omega (arith, x.scratch.labels);
+    uses_long = omega (arith, x.scratch.uses_long);
+    spare_long = omega (arith, x.scratch.spare_long);
   };
-  path_long = omega (arith, x.path_long, l.path);
-  binders_long = omega (arith, x.binders_long, l.binders);
+  path_long = omega (arith, x.path_long);
+  binders_long = omega (arith, x.binders_long);
 }

@@ -15,7 +15,9 @@ use Rattle.lift_tables.specs.tables.Rows.{rows_of, last_from}
 use Rattle.lift_tables.specs.declared.enter_lift.Counts.{Counts}
 use Rattle.lift_tables.specs.enter_lift.Sheet.{sheet_of}
 use Rattle.expand_definitions.specs.walked.Book.{blank, walk_book}
-use Rattle.expand_combinator.specs.declared.body.Body.{Body}
+use Rattle.expand_combinator.specs.declared.body.Named.{Named}
+use Rattle.std.specs.Prelude.{Result}
+use Rattle.what_comes_back.specs.declared.Code.{Code}
 use Rattle.expand_combinator.specs.open_child.Good.{Good}
 use Rattle.name_table.specs.forks.Leads.{Clear}
 use Rattle.name_table.proofs.taken.Take.{table_anywhere, taken_anywhere, packed_anywhere, hints_none}
@@ -74,7 +76,7 @@ module _ {s made rows params number order : List ℕ} (x : Starts s made rows pa
         let d : defns ≡ length ds = ed ∙ (book_listed s ds e b).0 in
         rw (taken_anywhere s right.sourced made, names_in right ds (t.says ds e b room).0, l, d)
 
-    pub expands : {made' places' ways' hints' rows' params' number' order' : List ℕ} {r : Body} → InOrder s made places rows params order (counts taken (length s) defns) made' places' ways' hints' rows' params' number' order' r
+    pub expands : {made' places' ways' hints' rows' params' number' order' : List ℕ} {r : Result Named Code} → InOrder s made places rows params order (counts taken (length s) defns) made' places' ways' hints' rows' params' number' order' r
         → Expands s made' rows' params' number' order' r
     unfolding walk_book
     expands {made'} {places'} {ways'} {hints'} {rows'} {params'} {number'} {order'} {r} o = record {

@@ -1,12 +1,13 @@
 -- The naming pass over a book: what it asks of the tables, and what they hold afterwards.
-use Rattle.std.specs.Prelude.{◌≡◌, List, ℕ, ◌≤◌, length, take, get_or}
+use Rattle.std.specs.Prelude.{◌≡◌, List, ℕ, ◌≤◌, length, take, get_or, Result}
 use Rattle.definition.specs.Tree.{Definition}
 use Rattle.definition.specs.Write.{w_book}
 use Rattle.laws.specs.Book.{IsBook}
 use Rattle.what_comes_back.specs.Elaborates.{Expanded}
 use Rattle.lift_tables.specs.enter_lift.Sheet.{sheet_of}
 use Rattle.expand_definitions.specs.walked.Book.{walk_book}
-use Rattle.expand_combinator.specs.declared.body.Body.{Body}
+use Rattle.expand_combinator.specs.declared.body.Named.{Named}
+use Rattle.what_comes_back.specs.declared.Code.{Code}
 use Rattle.expand_combinator.specs.open_child.Good.{Good}
 use Rattle.expand_combinator.specs.body.Walks.{Ends}
 
@@ -21,7 +22,7 @@ pub record Starts (s made rows params number order : List ℕ) : Type 0 where
   pub blank : (p : ℕ) → get_or number p 0 ≡ 0
 
 -- the lifts that stand in the tables are those of the walk; the rows of names taken are gone when it is done
-pub record Expands (s made' rows' params' number' order' : List ℕ) (r : Body) : Type 0 where
+pub record Expands (s made' rows' params' number' order' : List ℕ) (r : Result Named Code) : Type 0 where
   pub places : List ℕ
   pub ways : List ℕ
   pub hints : List ℕ

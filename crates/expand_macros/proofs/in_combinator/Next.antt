@@ -2,9 +2,9 @@
 -- Assumes nothing.
 use mathlib.Core.Path.{◌≡◌, refl, sym, ap, ◌∙◌}
 use mathlib.Core.List.{List, [], ◌∷◌, ◌++◌, append_assoc}
-use Prim.Native.Nat.{ℕ, suc, ◌+◌, ◌≤◌, ◌<◌}
+use Prim.Native.Nat.{ℕ, suc, ◌+◌, ◌≤◌}
 use native.Mathlib.Omega.{arith}
-use lib.ListN.{length, get_or, drop, length-append, length-drop}
+use lib.ListN.{length, length-append}
 use Rattle.definition.specs.Out.{Out, refused, done}
 use Rattle.definition.specs.Tree.{Inner, invocation, macro_invocation}
 use Rattle.definition.specs.Write.{w_inner}
@@ -20,7 +20,6 @@ use Rattle.walker.proofs.pieces.Expanded.{onto}
 use Rattle.expand_macros.specs.in_combinator.Deep.{DeepP}
 use Rattle.expand_macros.specs.replace_call.Call.{Puts}
 use Rattle.expand_macros.specs.in_combinator.Expand.{IsCall, a_call, a_macro, front}
-use Rattle.substitute.proofs.substitution.Copied.{drop_two}
 use Rattle.substitute.proofs.substitution.Stands.{step_here}
 use Rattle.walker.proofs.pieces.Marked.{part_here}
 
@@ -33,29 +32,28 @@ front-front b c (refused k) = refl
 front-front b c (done r) = ap done (sym (append_assoc b c r))
 
 -- the next call: its place and its end are the next two marks
-pub record Next (ms : List Macro) (s marks : List ℕ) (i x : ℕ) (ps : List Piece) (z : List ℕ) : Type 0 where
+pub record Next (ms : List Macro) (s : List ℕ) (m₁ m₂ : ℕ) (marks : List ℕ) (x : ℕ) (ps : List Piece) (z : List ℕ) : Type 0 where
   pub met : Inner
   pub rest : List Piece
   pub is_call : IsCall met
-  pub here : Here s (get_or marks i 0) (w_inner met (written invocation rest z))
-  pub end : get_or marks (i + 1) 0 ≡ get_or marks i 0 + length (w_inner met [])
-  pub behind : x ≤ get_or marks i 0
-  pub are : drop (i + 2) marks ≡ places (get_or marks (i + 1) 0) rest
-  pub ends : x + length (written invocation ps []) ≡ get_or marks (i + 1) 0 + length (written invocation rest [])
+  pub here : Here s (m₁) (w_inner met (written invocation rest z))
+  pub end : m₂ ≡ m₁ + length (w_inner met [])
+  pub behind : x ≤ m₁
+  pub are : marks ≡ places (m₂) rest
+  pub ends : x + length (written invocation ps []) ≡ m₂ + length (written invocation rest [])
   pub deep : levels_i met ≤ 64
   pub deeps : DeepP rest
-  pub says : expanded ms ps [] ≡ front (part x (get_or marks i 0) s) (onto w_inner (expand_i met ms) (expanded ms rest []))
+  pub says : expanded ms ps [] ≡ front (part x (m₁) s) (onto w_inner (expand_i met ms) (expanded ms rest []))
 
-module _ (ms : List Macro) (s marks : List ℕ) (i : ℕ) (k : i + 1 < length marks) (z : List ℕ) where
+module _ (ms : List Macro) (s : List ℕ) (m₁ m₂ : ℕ) (marks : List ℕ) (z : List ℕ) where
   -- a call that comes first
   first : (j : Inner) → IsCall j → (p : Piece) (ps : List Piece) (x : ℕ) → levels_i j ≤ 64 → DeepP ps → Here s x (w_inner j (written invocation ps z))
-      → drop i marks ≡ x ∷ (x + length (w_inner j [])) ∷ places (x + length (w_inner j [])) ps → written invocation (p ∷ ps) [] ≡ w_inner j (written invocation ps [])
-      → expanded ms (p ∷ ps) [] ≡ onto w_inner (expand_i j ms) (expanded ms ps []) → Next ms s marks i x (p ∷ ps) z
+      → m₁ ∷ m₂ ∷ marks ≡ x ∷ (x + length (w_inner j [])) ∷ places (x + length (w_inner j [])) ps → written invocation (p ∷ ps) [] ≡ w_inner j (written invocation ps [])
+      → expanded ms (p ∷ ps) [] ≡ onto w_inner (expand_i j ms) (expanded ms ps []) → Next ms s m₁ m₂ marks x (p ∷ ps) z
   first j ic p ps x dj dp h m w e =
-      let d = drop_two marks i k in
-      let e₁ : get_or marks i 0 ≡ x = cc in
-      let e₂ : get_or marks (i + 1) 0 ≡ x + length (w_inner j []) = cc in
-      let e₃ : drop (i + 2) marks ≡ places (x + length (w_inner j [])) ps = cc in
+      let e₁ : m₁ ≡ x = cc in
+      let e₂ : m₂ ≡ x + length (w_inner j []) = cc in
+      let e₃ : marks ≡ places (x + length (w_inner j [])) ps = cc in
       record {
         met = j;
         rest = ps;
@@ -70,14 +68,14 @@ module _ (ms : List Macro) (s marks : List ℕ) (i : ℕ) (k : i + 1 < length ma
         says = e ∙ rw (e₁, part_none x s) (sym (front_none (onto w_inner (expand_i j ms) (expanded ms ps []))));
       }
 
-  pub next_of : (ps : List Piece) (x : ℕ) → Here s x (written invocation ps z) → drop i marks ≡ places x ps → DeepP ps → Next ms s marks i x ps z
+  pub next_of : (ps : List Piece) (x : ℕ) → Here s x (written invocation ps z) → m₁ ∷ m₂ ∷ marks ≡ places x ps → DeepP ps → Next ms s m₁ m₂ marks x ps z
   unfolding places written rewritten expand levels
-  next_of [] x h e dp = absurd (omega (arith, ap length e, length-drop i marks))
+  next_of [] x h e dp = absurd (omega (arith, ap length e))
   next_of (raw b ∷ ps) x h e dp =
       let n = next_of ps (x + length b) (step_here b h) e dp in
-      let q : x + length b ≤ get_or marks i 0 = n.behind in
-      let pt : part x (get_or marks i 0) s ≡ b ++ part (x + length b) (get_or marks i 0) s =
-      part_split x (x + length b) (get_or marks i 0) s (omega arith) q ∙ ap (λ (l : List ℕ). l ++ part (x + length b) (get_or marks i 0) s) (part_here b (written invocation ps z) h) in
+      let q : x + length b ≤ m₁ = n.behind in
+      let pt : part x (m₁) s ≡ b ++ part (x + length b) (m₁) s =
+      part_split x (x + length b) (m₁) s (omega arith) q ∙ ap (λ (l : List ℕ). l ++ part (x + length b) (m₁) s) (part_here b (written invocation ps z) h) in
       record {
         met = n.met;
         rest = n.rest;
@@ -89,7 +87,7 @@ module _ (ms : List Macro) (s marks : List ℕ) (i : ℕ) (k : i + 1 < length ma
         ends = rw length-append (omega (arith, n.ends));
         deep = n.deep;
         deeps = n.deeps;
-        says = ap (front b) n.says ∙ front-front b (part (x + length b) (get_or marks i 0) s) (onto w_inner (expand_i n.met ms) (expanded ms n.rest [])) ∙ rw pt;
+        says = ap (front b) n.says ∙ front-front b (part (x + length b) (m₁) s) (onto w_inner (expand_i n.met ms) (expanded ms n.rest [])) ∙ rw pt;
       }
   next_of (call n a ∷ ps) x h e dp = first (invocation n a) a_call (call n a) ps x (omega arith) dp h e refl refl
   next_of (macro_call n a ∷ ps) x h e dp = first (macro_invocation n a) a_macro (macro_call n a) ps x dp.0 dp.1 h e refl refl

@@ -3,7 +3,7 @@
 use mathlib.Core.Path.{◌≡◌, sym, ◌∙◌}
 use mathlib.Core.List.{List, [], ◌∷◌}
 use mathlib.Core.Bool.{Bool, true}
-use Prim.Native.Nat.{ℕ, ◌+◌, ◌-◌, ◌*◌, ◌≤◌, ◌<◌}
+use Prim.Native.Nat.{ℕ, ◌+◌, ◌*◌, ◌≤◌}
 use native.Mathlib.Omega.{arith}
 use lib.Dec.{eqb}
 use lib.ListN.{length}
@@ -32,8 +32,8 @@ module _ {book : List ℕ} {entry left n : ℕ} where
       none [] e = omega arith
       none (d ∷ ds) e = absurd (omega arith)
 
-  module _ (k : 0 < left) {kind entry₁ r : ℕ} (hk : kind ≡ byte_at book entry) (he : entry₁ ≡ past_at book entry 6) where
-    pub counting_kept : (kind ≡ 4 → ⊥) → Counting book entry₁ (left - 1) (n + 1) r → Counting book entry left n r
+  module _ {left₁ : ℕ} (k : left ≡ left₁ + 1) {kind entry₁ r : ℕ} (hk : kind ≡ byte_at book entry) (he : entry₁ ≡ past_at book entry 6) where
+    pub counting_kept : (kind ≡ 4 → ⊥) → Counting book entry₁ left₁ (n + 1) r → Counting book entry left n r
     unfolding kept_of kind_byte kind_of
     counting_kept f c = record { says = λ ds at l e. step ds at l e }
       where
@@ -44,7 +44,7 @@ module _ {book : List ℕ} {entry left n : ℕ} where
         step (byte_order x ∷ ds) at l e = omega (arith, c.says ds _ (on he l) (omega arith))
         step (macro m ps b ∷ ds) at l e = absurd (f (hk ∙ listed_kind l))
 
-    pub counting_macro : kind ≡ 4 → Counting book entry₁ (left - 1) n r → Counting book entry left n r
+    pub counting_macro : kind ≡ 4 → Counting book entry₁ left₁ n r → Counting book entry left n r
     unfolding kept_of kind_byte kind_of
     counting_macro f c = record { says = λ ds at l e. step ds at l e }
       where

@@ -23,7 +23,8 @@ use Rattle.name_table.proofs.forks.Rows.{leads_before, leads_nowhere}
 use Rattle.name_table.specs.taken.Taken.{both, row}
 use Rattle.name_table.proofs.taken.Take.{source_place}
 use Rattle.name_table.specs.kinds.Rows.{keep, of_kinds, Stands, InRows, OfKinds}
-use Rattle.expand_macros.specs.declared.known_macros.Found.TheVariants.{At, Unknown}
+use Rattle.std.specs.Prelude.{Some, None}
+use Rattle.expand_macros.specs.declared.known_macros.Macros.{Macros}
 use Rattle.expand_macros.specs.known_macros.Table.{Rows, Known, FindsMacro, Tabled}
 
 -- ---- two lists of macros, one behind the other
@@ -129,7 +130,19 @@ module _ (s places : List ℕ) (name : Name) where
         }
 
 -- ---- the look-up
-module _ (name s places ways : List ℕ) (n : ℕ) where
+module _ (name : Name) (t : Macros) where
+  abbrev s : List ℕ
+  s = t.book.now
+
+  abbrev places : List ℕ
+  places = t.places.now
+
+  abbrev ways : List ℕ
+  ways = t.ways.now
+
+  abbrev n : ℕ
+  n = t.rows
+
   -- the names of the rows are those at their places
   at_row : {ms : List Macro} → Rows s places ways n ms → (j : ℕ) → j < n → row (both s []) places j ≡ name_at s (get_or places j 0)
   unfolding row name_of
@@ -144,35 +157,36 @@ module _ (name s places ways : List ℕ) (n : ℕ) where
     none_at_all : (row_of ways name n < n → eq_name name (name_at s (get_or places (row_of ways name n) 0)) ≡ false) → (j : ℕ) → j < n → eq_name name (name_at s (get_or places j 0)) ≡ false
     none_at_all f j i = ap (eq_name name) (sym (at_row k j i)) ∙ leads_nowhere k.right.table.leads name (λ y. ap (eq_name name) (at_row k (row_of ways name n) y) ∙ f y) j i
 
-  unknown : ((ms : List Macro) → Rows s places ways n ms → row_of ways name n < n → eq_name name (name_at s (get_or places (row_of ways name n) 0)) ≡ false) → FindsMacro name s places ways n Unknown
+  unknown : ((ms : List Macro) → Rows s places ways n ms → row_of ways name n < n → eq_name name (name_at s (get_or places (row_of ways name n) 0)) ≡ false) → FindsMacro name t None
   unknown f = record { says = λ ms k xs. none_known name xs ms (none ms k); known = λ ms k. sym (none ms k) }
     where
       none : (ms : List Macro) → Rows s places ways n ms → is_macro ms name ≡ false
       none ms k = rw k.are (no_row s places name n k.of k.in_rows (none_at_all k (f ms k)))
 
-  module _ {x r : ℕ} (ex : x ≡ slot_of ways name n) (er : r ≡ row_at ways x n) where
-    is_row : r ≡ row_of ways name n
+  module _ {x : ℕ} (ex : x ≡ slot_of ways name n) where
+    row_is : {r : ℕ} → row_at ways x n ≡ r → r ≡ row_of ways name n
     unfolding row_of
-    is_row = er ∙ rw ex
+    row_is er = sym er ∙ rw ex
 
-    pub finds_none : n ≤ r → FindsMacro name s places ways n Unknown
-    finds_none h = unknown (λ ms k i. absurd (let z = is_row in omega arith))
+    pub finds_none : row_at ways x n ≡ n → FindsMacro name t None
+    finds_none er = unknown (λ ms k i. absurd (let z = row_is er in omega arith))
 
-    pub finds_far : r < n → length places ≤ r → FindsMacro name s places ways n Unknown
-    finds_far h l = unknown (λ ms k i. absurd (let z = k.right.table.places_long in omega arith))
+    module _ {r : ℕ} (er : row_at ways x n ≡ r) (h : r < n) where
+      pub finds_far : length places ≤ r → FindsMacro name t None
+      finds_far l = unknown (λ ms k i. absurd (let z = row_is er in let y = k.right.table.places_long in omega arith))
 
-    module _ (h : r < n) {other : Name} (eo : other ≡ name_at s (get_or places r 0)) {same : Bool} (es : same ≡ eq_name name other) where
-      pub finds_here : same ≡ true → FindsMacro name s places ways n (At (get_or places r 0))
-      finds_here e = record {
-        says = λ ms k xs. let v = found ms k xs in rw k.are v.here;
-        known = λ ms k. sym (rw k.are (found ms k no_inner).known);
-      }
-        where
-          found : (ms : List Macro) (k : Rows s places ways n ms) (xs : Inners) → First s places name xs (macros k.of []) r
-          found ms k xs = one_row s places name xs n k.of k.in_rows r h (sym (ap (eq_name name) eo) ∙ sym es ∙ e) (λ j i. none_before k j (omega arith) (let z = is_row in omega arith))
+      module _ {at : ℕ} (ea : at ≡ get_or places r 0) {other : Name} (eo : other ≡ name_at s at) {same : Bool} (es : same ≡ eq_name name other) where
+        pub finds_here : same ≡ true → FindsMacro name t (Some at)
+        finds_here e = rw ea (record {
+          says = λ ms k xs. let v = found ms k xs in rw k.are v.here;
+          known = λ ms k. sym (rw k.are (found ms k no_inner).known);
+        })
+          where
+            found : (ms : List Macro) (k : Rows s places ways n ms) (xs : Inners) → First s places name xs (macros k.of []) r
+            found ms k xs = one_row s places name xs n k.of k.in_rows r h (sym (ap (eq_name name) (eo ∙ ap (name_at s) ea)) ∙ sym es ∙ e) (λ j i. none_before k j (omega arith) (let z = row_is er in omega arith))
 
-      pub finds_other : same ≡ false → FindsMacro name s places ways n Unknown
-      finds_other e = unknown (λ ms k i. rw (← is_row) (sym (ap (eq_name name) eo) ∙ sym es ∙ e))
+        pub finds_other : same ≡ false → FindsMacro name t None
+        finds_other e = unknown (λ ms k i. rw (← row_is er) (sym (ap (eq_name name) (eo ∙ ap (name_at s) ea)) ∙ sym es ∙ e))
 
 -- ---- filling
 pub tabled : {s pl ws pl' ws' : List ℕ} {r : ℕ} → OfKinds s 4 4 pl ws pl' ws' r → Tabled s pl ws pl' ws' r

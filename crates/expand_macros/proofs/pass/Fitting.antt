@@ -14,7 +14,8 @@ use Rattle.definition.specs.Write.{w_book}
 use Rattle.definition.specs.Size.{levels_book, size_book}
 use Rattle.definition.specs.Macros.{macros, expand_all}
 use Rattle.laws.specs.Book.{IsBook}
-use Rattle.expand_macros.specs.declared.pass.Expanded.{Expanded}
+use Rattle.std.specs.Prelude.{Result}
+use Rattle.what_comes_back.specs.declared.Code.{Code}
 use Rattle.expand_macros.specs.pass.Pass.{pass, fitting, Leaves, Passed}
 
 pub fits_all : (ms ds : List Definition) → fitting 16384 (pass ms ds) ≡ pass ms ds
@@ -31,7 +32,7 @@ fits_all ms ds = go (expand_all ds (macros ms []))
     go (refused k) = refl
     go (done es) = one (leb (size_book es) 16384) (leb (levels_book es) 64) es refl
 
-pub passed_whole : {lib book areas out out' : List ℕ} {r : Expanded} → Passed lib book areas out out' r → (ms ds : List Definition) → lib ≡ w_book ms → IsBook ms → book ≡ w_book ds → IsBook ds
+pub passed_whole : {lib book areas out out' : List ℕ} {r : Result ℕ Code} → Passed lib book areas out out' r → (ms ds : List Definition) → lib ≡ w_book ms → IsBook ms → book ≡ w_book ds → IsBook ds
     → length areas ≡ 32768 → length out ≡ 16384 → Leaves (pass ms ds) out out' r
 passed_whole {lib} {book} {areas} {out} {out'} {r} p ms ds el im eb id al ol =
     rw (ap (λ (n : ℕ). fitting n (pass ms ds)) ol ∙ fits_all ms ds) at (p.says ms ds el im eb id al (omega arith))

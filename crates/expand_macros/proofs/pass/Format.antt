@@ -33,6 +33,7 @@ use Rattle.walker.proofs.pieces.Expanded.{expansion}
 use Rattle.walker.proofs.calls.Link.{gone, walked}
 use Rattle.expand_macros.specs.in_combinator.Deep.{DeepM}
 use Rattle.name_table.specs.kinds.Rows.{keep, of_kinds, InRows}
+use Rattle.expand_macros.specs.declared.known_macros.Macros.{Macros}
 use Rattle.expand_macros.specs.known_macros.Table.{Rows}
 use Rattle.walker.specs.definitions.Params.{ParamsPast}
 use Rattle.expand_macros.specs.replace_call.Call.{Puts}
@@ -75,11 +76,11 @@ format_apart n ps c z = rw (s_list w_param s_param ps [] (w_combinator c z)) (s_
 part_upto : {s : List ℕ} {p q : ℕ} (b z : List ℕ) → Here s p (b ++ z) → Here s q z → part p q s ≡ b
 part_upto b z h k = rw (place b h k) (part_here b z h)
 
-module _ {macros pl hs : List ℕ} {rows : ℕ} {book : List ℕ} {at : ℕ} {areas marks out : List ℕ} {o : ℕ} {params body : ℕ} (ep : params ≡ name_past_of book at) (pp : ParamsPast book params body)
+module _ {t : Macros} {book : List ℕ} {at : ℕ} {areas marks out : List ℕ} {o : ℕ} {params body : ℕ} (ep : params ≡ name_past_of book at) (pp : ParamsPast book params body)
     {out₁ : List ℕ} {q : ℕ} (wo : Wrote out o (part at body book) out₁ q) (m₁ : List ℕ) (lm : length m₁ ≡ length marks) (w : Walk) {m₂ : List ℕ} (hw : w ≡ (combinator_at 64 book (walk body 0 64 true) m₁).0)
-    (hm : m₂ ≡ (combinator_at 64 book (walk body 0 64 true) m₁).1) {fm : List ℕ} (ef : fm ≡ take w.n m₂) {out₂ : List ℕ} {r : ℕ} (ex : Expanding macros pl hs rows book w.at fm areas out₁ body q 0 out₂ r)
+    (hm : m₂ ≡ (combinator_at 64 book (walk body 0 64 true) m₁).1) {fm : List ℕ} (ef : fm ≡ take w.n m₂) {out₂ : List ℕ} {r : ℕ} (ex : Expanding t book w.at fm areas out₁ body q out₂ r)
     (lo : length out₂ ≡ length out₁) where
-  module _ {ms : List Macro} (wh : Whole macros pl hs rows book areas marks out ms) (n : Name) (ps : List Param) (c : Combinator) (z : List ℕ) (h : Here book at (w_definition (format n ps c) z))
+  module _ {ms : List Macro} (wh : Whole t book areas marks out ms) (n : Name) (ps : List Param) (c : Combinator) (z : List ℕ) (h : Here book at (w_definition (format n ps c) z))
       (dp : levels_p ps ≤ 64) (dc : levels c ≤ 64) where
     body_here : Here book body (w_combinator c z)
     unfolding w_definition
@@ -105,7 +106,7 @@ module _ {macros pl hs : List ℕ} {rows : ℕ} {book : List ℕ} {at : ℕ} {ar
     both d v = rw (format_apart n ps d []) (glue (rw head at wo) v)
 
     deep : (d : Combinator) → expand c ms ≡ done d → levels d ≤ 127
-    deep d e = omega (arith, expand_deep ms (rows_deep macros pl hs rows ms wh.table) c d e)
+    deep d e = omega (arith, expand_deep ms (rows_deep t.book.now t.places.now t.ways.now t.rows ms wh.table) c d e)
 
     -- how many levels the walk over the finished body leaves
     left_is : (d : Combinator) → levels d ≤ 127 → Wrote out₁ q (w_combinator d []) out₂ r → r ≤ length out₂ → (m₃ : List ℕ) (v : Walk) → v ≡ (combinator_at 129 out₂ (walk q 0 129 true) m₃).0
@@ -120,7 +121,7 @@ module _ {macros pl hs : List ℕ} {rows : ℕ} {book : List ℕ} {at : ℕ} {ar
       → ((n : Name) (ps : List Param) (d : Combinator) → levels d ≤ 127 → Wrote out₁ q (w_combinator d []) out₂ r → Wrote out o (w_definition (format n ps d) []) out₂ r
       → ((m₃ : List ℕ) (v : Walk) → r ≤ length out₂ → v ≡ (combinator_at 129 out₂ (walk q 0 129 true) m₃).0 → v.left ≡ min 129 (129 - levels d))
       → Puts out o (shallow d >>= λ e. done (w_definition (format n ps e) [])) out' r')
-      → Formatted macros pl hs rows book at areas marks out o out' r'
+      → Formatted t book at areas marks out o out' r'
   unfolding expand_one shallow
   by_body out' r' f g = record { says = λ ms wh n ps c z h dp dc. go wh n ps c z h dp dc (expand c ms) refl (got wh n ps c z h dp dc) }
     where
@@ -129,14 +130,14 @@ module _ {macros pl hs : List ℕ} {rows : ℕ} {book : List ℕ} {at : ℕ} {ar
       flat true n ps d p = p
       flat false n ps d p = p
 
-      go : {ms : List Macro} (wh : Whole macros pl hs rows book areas marks out ms) (n : Name) (ps : List Param) (c : Combinator) (z : List ℕ) (h : Here book at (w_definition (format n ps c) z)) (dp : levels_p ps ≤ 64) (dc : levels c ≤ 64)
+      go : {ms : List Macro} (wh : Whole t book areas marks out ms) (n : Name) (ps : List Param) (c : Combinator) (z : List ℕ) (h : Here book at (w_definition (format n ps c) z)) (dp : levels_p ps ≤ 64) (dc : levels c ≤ 64)
           → (x : Out Combinator) → expand c ms ≡ x → Puts out₁ q (x >>= λ d. done (w_combinator d [])) out₂ r → Puts out o (expand_one (format n ps c) ms >>= λ e. done (w_definition e [])) out' r'
       go wh n ps c z h dp dc (refused k) e p = rw e (f p)
       go wh n ps c z h dp dc (done d) e p =
           let dd = deep wh n ps c z h dp dc d e in
           rw e (flat (leb (levels d) 64) n ps d (g n ps d dd p (both wh n ps c z h dp dc d p) (λ m₃ v k hv. left_is wh n ps c z h dp dc d dd p k m₃ v hv)))
 
-  pub formatted_cut : length out₂ < r → Formatted macros pl hs rows book at areas marks out o out₂ r
+  pub formatted_cut : length out₂ < r → Formatted t book at areas marks out o out₂ r
   unfolding shallow
   formatted_cut k = by_body out₂ r (λ e. e ∙ ap suc (same_length wo)) (λ n ps d dd wd wf le. by_level (leb (levels d) 64) n ps d wd wf)
     where
@@ -146,10 +147,10 @@ module _ {macros pl hs : List ℕ} {rows : ℕ} {book : List ℕ} {at : ℕ} {ar
       by_level false n ps d wd wf = omega (arith, place_is wd, lo, same_length wo)
 
   module _ (k : r ≤ length out₂) (m₃ : List ℕ) (v : Walk) (hv : v ≡ (combinator_at 129 out₂ (walk q 0 129 true) m₃).0) where
-    pub formatted_deep : v.left < 65 → {x : ℕ} → x ≡ suc (length out₂) → Formatted macros pl hs rows book at areas marks out o out₂ x
+    pub formatted_deep : v.left < 65 → {x : ℕ} → x ≡ suc (length out₂) → Formatted t book at areas marks out o out₂ x
     unfolding shallow
     formatted_deep l {x} e = by_body out₂ x (λ f. e ∙ ap suc (lo ∙ same_length wo)) (λ n ps d dd wd wf le. rw (lt-leb (levels d) 64 (omega (arith, le m₃ v k hv))) (e ∙ ap suc (lo ∙ same_length wo)))
 
-    pub formatted_done : 65 ≤ v.left → Formatted macros pl hs rows book at areas marks out o out₂ r
+    pub formatted_done : 65 ≤ v.left → Formatted t book at areas marks out o out₂ r
     unfolding shallow
     formatted_done l = by_body out₂ r (λ e. e ∙ ap suc (same_length wo)) (λ n ps d dd wd wf le. rw (le-leb (levels d) 64 (omega (arith, le m₃ v k hv))) wf)

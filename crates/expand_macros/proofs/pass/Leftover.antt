@@ -17,47 +17,49 @@ use Rattle.definition.specs.Size.{levels_book}
 use Rattle.definition.specs.Macros.{Macro, expand}
 use Rattle.laws.proofs.Splits.{s_definition}
 use Rattle.laws.proofs.Steps.{Yields, yields, next, yielded}
-use Rattle.layout.specs.items.At.{byte_at, past_at, number_at}
+use Rattle.layout.specs.items.At.{past_at}
 use Rattle.layout.specs.items.Here.{Here}
 use Rattle.buffer.specs.writer.Entry.{entry_bytes}
 use Rattle.buffer.specs.writes.Buf.{put, part, Wrote}
 use Rattle.buffer.proofs.writes.Put.{put-nil, put-put, put_past, put_fits, length-put, within}
 use Rattle.buffer.proofs.writes.Wrote.{fitted, place_fits, place_is, same_length}
 use Rattle.walker.specs.declared.definitions.Definitions.{Definitions}
-use Rattle.walker.specs.definitions.Listed.{all_of, next_of, Left}
+use Rattle.walker.specs.declared.definitions.Entry.{Entry}
+use Rattle.walker.specs.definitions.Listed.{all_of, Left, First}
 use Rattle.expand_macros.specs.replace_call.Call.{Puts}
+use Rattle.expand_macros.specs.declared.known_macros.Macros.{Macros}
 use Rattle.expand_macros.specs.kept.Kept.{kept_of}
-use Rattle.expand_macros.specs.pass.Left.{shallow, expand_one, and_one_of, shallow_all, Whole, Formatted, Kept, WritesBy, Writes, Listing, Booked, left_at, Ends, Turned}
+use Rattle.expand_macros.specs.pass.Left.{shallow, expand_one, and_one_of, shallow_all, Whole, Formatted, Kept, WritesBy, Writes, Listing, Booked}
 use Rattle.walker.proofs.pieces.Marked.{part_here}
-use Rattle.walker.proofs.definitions.Listed.{next_less, past_is, listed_kind, listed_size, listed_body, listed_deep, entries_size, all_left, next_left, no_more, some_more}
+use Rattle.walker.proofs.definitions.Listed.{past_is, listed_kind, listed_size, listed_body, listed_deep, entries_size, all_left, next_left, no_more, some_more}
 
 -- one definition
-module _ {kind size : ℕ} {macros pl hs : List ℕ} {rows : ℕ} {book : List ℕ} {at : ℕ} {areas marks out : List ℕ} {o : ℕ} {out' : List ℕ} {r : ℕ} where
-  pub kept_format : kind ≡ 1 → Formatted macros pl hs rows book at areas marks out o out' r → Kept kind size macros pl hs rows book at areas marks out o out' r
+module _ {x : Entry} {t : Macros} {book areas marks out : List ℕ} {o : ℕ} {out' : List ℕ} {r : ℕ} where
+  pub kept_format : x.kind ≡ 1 → Formatted t book x.at areas marks out o out' r → Kept x t book areas marks out o out' r
   unfolding kind_byte kind_of levels_book
   kept_format e f = record { says = λ ms wh d z h k n s l. go ms wh d z h k l }
     where
-      go : (ms : List Macro) → Whole macros pl hs rows book areas marks out ms → (d : Definition) (z : List ℕ) → Here book at (w_definition d z) → kind ≡ kind_byte (kind_of d) → levels_book (d ∷ []) ≤ 64
-          → Puts out o (expand_one d ms >>= λ x. done (w_definition x [])) out' r
+      go : (ms : List Macro) → Whole t book areas marks out ms → (d : Definition) (z : List ℕ) → Here book x.at (w_definition d z) → x.kind ≡ kind_byte (kind_of d) → levels_book (d ∷ []) ≤ 64
+          → Puts out o (expand_one d ms >>= λ y. done (w_definition y [])) out' r
       go ms wh (format n ps c) z h k l = f.says ms wh n ps c z h (omega arith) (omega arith)
-      go ms wh (constant n x) z h k l = absurd (omega arith)
-      go ms wh (byte_order x) z h k l = absurd (omega arith)
+      go ms wh (constant n y) z h k l = absurd (omega arith)
+      go ms wh (byte_order y) z h k l = absurd (omega arith)
       go ms wh (macro n ps c) z h k l = absurd (omega arith)
 
-  pub kept_copied : (kind ≡ 1 → ⊥) → {end : ℕ} → end ≡ past_at book at size → Wrote out o (part at end book) out' r → Kept kind size macros pl hs rows book at areas marks out o out' r
+  pub kept_copied : (x.kind ≡ 1 → ⊥) → {size : ℕ} → size ≡ x.size → {end : ℕ} → end ≡ past_at book x.at size → Wrote out o (part x.at end book) out' r → Kept x t book areas marks out o out' r
   unfolding kind_byte kind_of expand_one size_of
-  kept_copied f {end} e w = record { says = λ ms wh d z h k n s l. go ms d z h k n s }
+  kept_copied f {size} es {end} e w = record { says = λ ms wh d z h k n s l. go ms d z h k n (es ∙ s) }
     where
-      copied : (d : Definition) (z : List ℕ) → Here book at (w_definition d z) → size ≡ size_of d → Wrote out o (w_definition d []) out' r
+      copied : (d : Definition) (z : List ℕ) → Here book x.at (w_definition d z) → size ≡ size_of d → Wrote out o (w_definition d []) out' r
       copied d z h s =
-          let g : Here book at (w_definition d [] ++ z) = rw (s_definition d [] z) at h in
-          let i : part at end book ≡ w_definition d [] = rw (e, s, past_is (w_definition d []) z g) (part_here (w_definition d []) z g) in
+          let g : Here book x.at (w_definition d [] ++ z) = rw (s_definition d [] z) at h in
+          let i : part x.at end book ≡ w_definition d [] = rw (e, s, past_is (w_definition d []) z g) (part_here (w_definition d []) z g) in
           rw i at w
 
-      go : (ms : List Macro) (d : Definition) (z : List ℕ) → Here book at (w_definition d z) → kind ≡ kind_byte (kind_of d) → (kind ≡ 4 → ⊥) → size ≡ size_of d → Puts out o (expand_one d ms >>= λ x. done (w_definition x [])) out' r
+      go : (ms : List Macro) (d : Definition) (z : List ℕ) → Here book x.at (w_definition d z) → x.kind ≡ kind_byte (kind_of d) → (x.kind ≡ 4 → ⊥) → size ≡ size_of d → Puts out o (expand_one d ms >>= λ y. done (w_definition y [])) out' r
       go ms (format n ps c) z h k q s = absurd (f k)
-      go ms (constant n x) z h k q s = copied (constant n x) z h s
-      go ms (byte_order x) z h k q s = copied (byte_order x) z h s
+      go ms (constant n y) z h k q s = copied (constant n y) z h s
+      go ms (byte_order y) z h k q s = copied (byte_order y) z h s
       go ms (macro n ps c) z h k q s = absurd (q k)
 
 -- two writes that do not meet
@@ -201,13 +203,12 @@ kept_count (byte_order x ∷ ds) ms = and_one (expand_one (byte_order x) ms) (sh
 kept_count (macro n ps c ∷ ds) ms = kept_count ds ms
 
 -- the first of those that are left
-first : {kind size : ℕ} {macros pl hs : List ℕ} {rows : ℕ} {book areas marks out : List ℕ} {o : ℕ} {out₁ : List ℕ} {r₁ : ℕ} {d : Definitions}
-    → Kept kind size macros pl hs rows book d.at areas marks out o out₁ r₁ → kind ≡ byte_at book d.entry → size ≡ number_at book (past_at book d.entry 4) → (kind ≡ 4 → ⊥)
-    → (ms : List Macro) → Whole macros pl hs rows book areas marks out ms → {x : Definition} {ds : List Definition} → Left book d (x ∷ ds) → Puts out o (expand_one x ms >>= λ y. done (w_definition y [])) out₁ r₁
-first kp hk hz f ms wh {x} l = let i = l.listed in kp.says ms wh x _ (listed_body i) (hk ∙ listed_kind i) f (hz ∙ listed_size i) (listed_deep i)
+first : {n : Entry} {t : Macros} {book areas marks out : List ℕ} {o : ℕ} {out₁ : List ℕ} {r₁ : ℕ} {d d₁ : Definitions} → Kept n t book areas marks out o out₁ r₁ → First book d n d₁ → (n.kind ≡ 4 → ⊥)
+    → (ms : List Macro) → Whole t book areas marks out ms → {x : Definition} {ds : List Definition} → Left book d (x ∷ ds) → Puts out o (expand_one x ms >>= λ y. done (w_definition y [])) out₁ r₁
+first kp h f ms wh {x} l = let i = l.listed in kp.says ms wh x _ (rw (← h.at) at (listed_body i)) (h.kind ∙ listed_kind i) f (h.size ∙ listed_size i) (listed_deep i)
 
-module _ {macros pl hs : List ℕ} {rows : ℕ} {book areas marks out : List ℕ} {d : Definitions} {e o : ℕ} where
-  pub listing_none : d.left ≤ 0 → Listing macros pl hs rows book areas marks out d e o out o
+module _ {t : Macros} {book areas marks out : List ℕ} {d : Definitions} {e o : ℕ} where
+  pub listing_none : d.left ≤ 0 → Listing t book areas marks out d e o out o
   unfolding shallow_all w_all w_entries
   listing_none k = record { says = λ ms wh ds l h ho. none ms ds l ho }
     where
@@ -215,30 +216,30 @@ module _ {macros pl hs : List ℕ} {rows : ℕ} {book areas marks out : List ℕ
       none ms [] l ho = rw (le-leb (o + 0) (length out) (omega arith)) (omega arith, sym (put-nil (put out e []) o ∙ put-nil out e))
       none ms (x ∷ ds) l ho = absurd (no_more k l)
 
-  module _ (k : 0 < d.left) {kind : ℕ} (hk : kind ≡ byte_at book d.entry) {d₁ : Definitions} (hd : d₁ ≡ next_of book d) where
-    pub listing_macro : kind ≡ 4 → {out' : List ℕ} {r : ℕ} → Listing macros pl hs rows book areas marks out d₁ e o out' r → Listing macros pl hs rows book areas marks out d e o out' r
+  module _ {n : Entry} {d₁ : Definitions} (fi : First book d n d₁) where
+    pub listing_macro : n.kind ≡ 4 → {out' : List ℕ} {r : ℕ} → Listing t book areas marks out d₁ e o out' r → Listing t book areas marks out d e o out' r
     listing_macro f {out'} {r} next = record { says = λ ms wh ds l h ho. step ms wh ds l h ho }
       where
-        step : (ms : List Macro) → Whole macros pl hs rows book areas marks out ms → (ds : List Definition) → Left book d ds → e + 6 * kept_of ds ≤ o → o ≤ length out → Writes out e o (shallow_all ds ms) out' r
-        step ms wh [] l h ho = absurd (some_more k l)
+        step : (ms : List Macro) → Whole t book areas marks out ms → (ds : List Definition) → Left book d ds → e + 6 * kept_of ds ≤ o → o ≤ length out → Writes out e o (shallow_all ds ms) out' r
+        step ms wh [] l h ho = absurd (some_more fi.some l)
         step ms wh (x ∷ ds) l h ho =
-            let s = shallow_macro x ds ms (sym (hk ∙ listed_kind l.listed) ∙ f) in
-            rw s.0 (next.says ms wh ds (next_left hd l) (omega (arith, s.1)) ho)
+            let s = shallow_macro x ds ms (sym (fi.kind ∙ listed_kind l.listed) ∙ f) in
+            rw s.0 (next.says ms wh ds (next_left fi.others l) (omega (arith, s.1)) ho)
 
-    module _ (f : kind ≡ 4 → ⊥) {size : ℕ} (hz : size ≡ number_at book (past_at book d.entry 4)) {out₁ : List ℕ} {r₁ : ℕ} (kp : Kept kind size macros pl hs rows book d.at areas marks out o out₁ r₁) (lo : length out₁ ≡ length out) where
-      pub listing_stop : length out₁ < r₁ → Listing macros pl hs rows book areas marks out d e o out₁ r₁
+    module _ (f : n.kind ≡ 4 → ⊥) {out₁ : List ℕ} {r₁ : ℕ} (kp : Kept n t book areas marks out o out₁ r₁) (lo : length out₁ ≡ length out) where
+      pub listing_stop : length out₁ < r₁ → Listing t book areas marks out d e o out₁ r₁
       listing_stop g = record { says = λ ms wh ds l h ho. step ms wh ds l }
         where
-          step : (ms : List Macro) → Whole macros pl hs rows book areas marks out ms → (ds : List Definition) → Left book d ds → Writes out e o (shallow_all ds ms) out₁ r₁
-          step ms wh [] l = absurd (some_more k l)
-          step ms wh (x ∷ ds) l = rw (shallow_kept x ds ms (λ q. f (hk ∙ listed_kind l.listed ∙ q))).0 (too_long out out₁ o r₁ e (expand_one x ms) (shallow_all ds ms) (first kp hk hz f ms wh l) (omega arith))
+          step : (ms : List Macro) → Whole t book areas marks out ms → (ds : List Definition) → Left book d ds → Writes out e o (shallow_all ds ms) out₁ r₁
+          step ms wh [] l = absurd (some_more fi.some l)
+          step ms wh (x ∷ ds) l = rw (shallow_kept x ds ms (λ q. f (fi.kind ∙ listed_kind l.listed ∙ q))).0 (too_long out out₁ o r₁ e (expand_one x ms) (shallow_all ds ms) (first kp fi f ms wh l) (omega arith))
 
-      pub listing_step : r₁ ≤ length out₁ → {out₂ : List ℕ} {e₂ : ℕ} → Wrote out₁ e (entry_bytes kind o (r₁ - o)) out₂ e₂
+      pub listing_step : r₁ ≤ length out₁ → {out₂ : List ℕ} {e₂ : ℕ} → Wrote out₁ e (entry_bytes n.kind o (r₁ - o)) out₂ e₂
           → {areas₁ marks₁ : List ℕ} → length areas₁ ≡ length areas → length marks₁ ≡ length marks
-          → {out' : List ℕ} {r : ℕ} → Listing macros pl hs rows book areas₁ marks₁ out₂ d₁ e₂ r₁ out' r → Listing macros pl hs rows book areas marks out d e o out' r
+          → {out' : List ℕ} {r : ℕ} → Listing t book areas₁ marks₁ out₂ d₁ e₂ r₁ out' r → Listing t book areas marks out d e o out' r
       listing_step g {out₂} {e₂} w₂ {areas₁} {marks₁} la lm {out'} {r} next = record { says = λ ms wh ds l h ho. step ms wh ds l h }
         where
-          still : (ms : List Macro) → Whole macros pl hs rows book areas marks out ms → Whole macros pl hs rows book areas₁ marks₁ out₂ ms
+          still : (ms : List Macro) → Whole t book areas marks out ms → Whole t book areas₁ marks₁ out₂ ms
           still ms wh = record {
             sized = record { macros_short = wh.sized.macros_short; book_short = wh.sized.book_short; areas_long = la ∙ wh.sized.areas_long };
             marks-book = omega (arith, wh.marks-book);
@@ -246,59 +247,22 @@ module _ {macros pl hs : List ℕ} {rows : ℕ} {book areas marks out : List ℕ
             table = wh.table;
           }
 
-          by_one : (ms : List Macro) → Whole macros pl hs rows book areas marks out ms → (x : Definition) (ds : List Definition) → Left book d (x ∷ ds) → e + 6 * suc (kept_of ds) ≤ o
+          by_one : (ms : List Macro) → Whole t book areas marks out ms → (x : Definition) (ds : List Definition) → Left book d (x ∷ ds) → e + 6 * suc (kept_of ds) ≤ o
               → (v : Out Definition) → Yields (λ y. kind_of y ≡ kind_of x) v → Puts out o (v >>= λ y. done (w_definition y [])) out₁ r₁ → Writes out e o (and_one_of v (shallow_all ds ms)) out' r
           by_one ms wh x ds l h (refused c) i p = absurd (omega arith)
           by_one ms wh x ds l h (done y) i p =
-              let q : kind ≡ kind_byte (kind_of y) = hk ∙ listed_kind l.listed ∙ ap kind_byte (sym (yielded i refl)) in
+              let q : n.kind ≡ kind_byte (kind_of y) = fi.kind ∙ listed_kind l.listed ∙ ap kind_byte (sym (yielded i refl)) in
               let w : Wrote out₁ e (entry_bytes (kind_byte (kind_of y)) o (r₁ - o)) out₂ e₂ = rw q at w₂ in
-              let z = next.says ms (still ms wh) ds (next_left hd l)
+              let z = next.says ms (still ms wh) ds (next_left fi.others l)
               (omega (arith, place_2 y wh.out_short p (omega arith) w (omega arith), r₁-is y wh.out_short p (omega arith) w)) (omega (arith, same_length w₂)) in
               one_more y wh.out_short p (omega arith) w (kept_of ds) (shallow_all ds ms) (kept_count ds ms) h out' r z
 
-          step : (ms : List Macro) → Whole macros pl hs rows book areas marks out ms → (ds : List Definition) → Left book d ds → e + 6 * kept_of ds ≤ o → Writes out e o (shallow_all ds ms) out' r
-          step ms wh [] l h = absurd (some_more k l)
+          step : (ms : List Macro) → Whole t book areas marks out ms → (ds : List Definition) → Left book d ds → e + 6 * kept_of ds ≤ o → Writes out e o (shallow_all ds ms) out' r
+          step ms wh [] l h = absurd (some_more fi.some l)
           step ms wh (x ∷ ds) l h =
-              let s = shallow_kept x ds ms (λ q. f (hk ∙ listed_kind l.listed ∙ q)) in
-              rw s.0 (by_one ms wh x ds l (omega (arith, s.1)) (expand_one x ms) (kind_kept x ms) (first kp hk hz f ms wh l))
+              let s = shallow_kept x ds ms (λ q. f (fi.kind ∙ listed_kind l.listed ∙ q)) in
+              rw s.0 (by_one ms wh x ds l (omega (arith, s.1)) (expand_one x ms) (kind_kept x ms) (first kp fi f ms wh l))
 
-pub booked : {macros pl hs : List ℕ} {rows : ℕ} {book areas marks out : List ℕ} {d : Definitions} {o : ℕ} → d ≡ all_of book
-    → {out' : List ℕ} {r : ℕ} → Listing macros pl hs rows book areas marks out d 2 o out' r → Booked macros pl hs rows book areas marks out o out' r
+pub booked : {t : Macros} {book areas marks out : List ℕ} {d : Definitions} {o : ℕ} → d ≡ all_of book
+    → {out' : List ℕ} {r : ℕ} → Listing t book areas marks out d 2 o out' r → Booked t book areas marks out o out' r
 booked hd l = record { says = λ ms wh ds e b eo ho. l.says ms wh ds (all_left hd ds e b) (omega arith) ho }
-
--- the loop over the definitions
-module _ {macros pl hs : List ℕ} {rows : ℕ} {book areas marks out : List ℕ} {left entry at e o : ℕ} where
-  pub ends_none : left ≤ 0 → Ends macros pl hs rows book areas marks out left entry at e o out o
-  ends_none h = record { none = λ _. (refl, refl); some = λ k. absurd (omega arith) }
-
-  pub ends_some : 0 < left → {out' : List ℕ} {r : ℕ} → Listing macros pl hs rows book areas marks out (left_at left entry at) e o out' r → Ends macros pl hs rows book areas marks out left entry at e o out' r
-  ends_some k l = record { none = λ z. absurd (omega arith); some = λ _. l }
-
-  pub ends_listing : {out' : List ℕ} {r : ℕ} → Ends macros pl hs rows book areas marks out left entry at e o out' r → Listing macros pl hs rows book areas marks out (left_at left entry at) e o out' r
-  ends_listing {out'} {r} x = ⊎_elim
-      (λ (z : left ≤ 0). let y = x.none (omega arith) in rw (y.0, y.1) (listing_none z))
-      (λ (k : 0 < left). x.some k)
-      (within left 0)
-
-module _ {macros pl hs : List ℕ} {rows : ℕ} {book areas marks out : List ℕ} {left entry at e o : ℕ} where
-  module _ {kind : ℕ} (hk : kind ≡ byte_at book entry) {d : Definitions} (hd : d ≡ next_of book (left_at left entry at)) where
-    pub turned_macro : kind ≡ 4 → {areas' marks' : List ℕ} → areas' ≡ areas → marks' ≡ marks → Turned macros pl hs rows book areas marks out left entry at e o areas' marks' out (record { left = d.left; entry = d.entry; at = d.at; e = e; o = o })
-    turned_macro f a m = record {
-      goes = λ k out'' r x. listing_macro k hk hd f (ends_listing (rw (a, m) at x));
-      less = λ k. next_less _ _ hd k;
-    }
-
-    module _ (f : kind ≡ 4 → ⊥) {size : ℕ} (hz : size ≡ number_at book (past_at book entry 4)) {out₁ : List ℕ} {r₁ : ℕ} (kp : Kept kind size macros pl hs rows book at areas marks out o out₁ r₁) (lo : length out₁ ≡ length out) where
-      pub turned_stop : length out₁ < r₁ → {areas' marks' : List ℕ} → Turned macros pl hs rows book areas marks out left entry at e o areas' marks' out₁ (record { left = 0; entry = d.entry; at = d.at; e = e; o = r₁ })
-      turned_stop g = record {
-        goes = λ k out'' r x. let y = x.none refl in rw (y.0, y.1) (listing_stop k hk hd f hz kp lo g);
-        less = λ k. k;
-      }
-
-      pub turned_step : r₁ ≤ length out₁ → {out₂ : List ℕ} {e₂ : ℕ} → Wrote out₁ e (entry_bytes kind o (r₁ - o)) out₂ e₂
-          → {areas₁ marks₁ : List ℕ} → length areas₁ ≡ length areas → length marks₁ ≡ length marks
-          → Turned macros pl hs rows book areas marks out left entry at e o areas₁ marks₁ out₂ (record { left = d.left; entry = d.entry; at = d.at; e = e₂; o = r₁ })
-      turned_step g w la lm = record {
-        goes = λ k out'' r x. listing_step k hk hd f hz kp lo g w la lm (ends_listing x);
-        less = λ k. next_less _ _ hd k;
-      }

@@ -23,8 +23,10 @@ use Rattle.layout.proofs.lookup.Names.{yes_no}
 use Rattle.buffer.specs.writes.Buf.{put, Wrote}
 use Rattle.buffer.proofs.writes.Put.{put-put, put_fits}
 use Rattle.buffer.proofs.writes.Wrote.{same_length}
-use Rattle.expand_macros.specs.declared.pass.Expanded.{Expanded}
-use Rattle.expand_macros.specs.declared.pass.Expanded.TheVariants.{Book, Grown}
+use Rattle.std.specs.Prelude.{Result, Ok, Err}
+use Rattle.what_comes_back.specs.declared.Code.{Code}
+use Rattle.what_comes_back.specs.declared.Code.TheVariants.{MacroGrowth}
+use Rattle.expand_macros.specs.declared.known_macros.Macros.{Macros}
 use Rattle.name_table.specs.forks.Leads.{Clear}
 use Rattle.expand_macros.specs.known_macros.Table.{Tabled}
 use Rattle.expand_macros.specs.pass.Left.{shallow, expand_one, and_one_of, shallow_all, WritesBy, Writes, Booked}
@@ -156,10 +158,10 @@ finished out out₂ n o end es e eo w k =
     let c : w_book es ≡ (w_u16 n [] ++ E) ++ B = rw (← e, ← p) (book_apart es) in
     (w.0 ∙ z, w.1 ∙ t ∙ rw (c, z))
 
-module _ {lib book out out₁ out₂ pl hs pl₁ hs₁ areas marks : List ℕ} {rows n o end q : ℕ} (tb : Tabled lib pl hs pl₁ hs₁ rows) (lp : length pl ≡ 512) (lh : length hs ≡ 1280) (cl : Clear hs)
+module _ {t : Macros} {book out out₁ out₂ pl hs areas marks : List ℕ} {n o end q : ℕ} (tb : Tabled t.book.now pl hs t.places.now t.ways.now t.rows) (lp : length pl ≡ 512) (lh : length hs ≡ 1280) (cl : Clear hs)
     {k : ℕ} (kp : KeptOf book k) (nk : n ≡ min k 512) (w : Wrote out 0 (w_u16 n []) out₁ q) (eo : o ≡ 2 + 6 * n) (ro : o ≤ length out)
-    (bk : Booked lib pl₁ hs₁ rows book areas marks out₁ o out₂ end) (lo : length out₂ ≡ length out₁) where
-  module _ (ms ds : List Definition) (el : lib ≡ w_book ms) (im : IsBook ms) (eb : book ≡ w_book ds) (id : IsBook ds) (al : length areas ≡ 32768) (ol : length out ≤ 16384) (mb : length book ≤ 2 * length marks) where
+    (bk : Booked t book areas marks out₁ o out₂ end) (lo : length out₂ ≡ length out₁) where
+  module _ (ms ds : List Definition) (el : t.book.now ≡ w_book ms) (im : IsBook ms) (eb : book ≡ w_book ds) (id : IsBook ds) (al : length areas ≡ 32768) (ol : length out ≤ 16384) (mb : length book ≤ 2 * length marks) where
     kept : n ≡ kept_of ds
     kept = omega (arith, kp.says ds eb id, kept_few ds, id.few)
 
@@ -177,7 +179,7 @@ module _ {lib book out out₁ out₂ pl hs pl₁ hs₁ areas marks : List ℕ} {
         })
         ds eb id (omega (arith, kept)) (omega (arith, same_length w))
 
-  pub passed_grown : length out₂ < end → PassedBy (length marks) lib book areas out out₂ Grown
+  pub passed_grown : length out₂ < end → PassedBy (length marks) t.book.now book areas out out₂ (Err MacroGrowth)
   passed_grown g = record {
     says = λ ms ds el im eb id al ol mb.
         rw (fit_is (length out) ms ds ol id.deep)
@@ -185,7 +187,7 @@ module _ {lib book out out₁ out₂ pl hs pl₁ hs₁ areas marks : List ℕ} {
   }
     where
       go : (x : Out (List Definition)) → ((es : List Definition) → x ≡ done es → length es ≡ n) → Writes out₁ 2 o x out₂ end
-          → (Grown ≡ answer_of (x >>= λ es. given (leb (size_book es) (length out)) macro_growth es)) × leaves (x >>= λ es. given (leb (size_book es) (length out)) macro_growth es) out out₂
+          → (Err MacroGrowth ≡ answer_of (x >>= λ es. given (leb (size_book es) (length out)) macro_growth es)) × leaves (x >>= λ es. given (leb (size_book es) (length out)) macro_growth es) out out₂
       go (refused c) f v = (refl, lo ∙ same_length w)
       go (done es) f v = ⊎_elim
           (λ (h : leb (o + length (w_all w_definition es [])) (length out₁) ≡ true). absurd (omega (arith, (rw h at v).0, leb-true (o + length (w_all w_definition es [])) (length out₁) h)))
@@ -193,7 +195,7 @@ module _ {lib book out out₁ out₂ pl hs pl₁ hs₁ areas marks : List ℕ} {
           rw (lt-leb (size_book es) (length out) (omega (arith, leb-false (o + length (w_all w_definition es [])) (length out₁) h, book_size es, f es refl, same_length w))) (refl, lo ∙ same_length w))
           (yes_no (leb (o + length (w_all w_definition es [])) (length out₁)))
 
-  pub passed_book : end ≤ length out₂ → PassedBy (length marks) lib book areas out out₂ (Book end)
+  pub passed_book : end ≤ length out₂ → PassedBy (length marks) t.book.now book areas out out₂ (Ok end)
   passed_book g = record {
     says = λ ms ds el im eb id al ol mb.
         rw (fit_is (length out) ms ds ol id.deep)
@@ -201,19 +203,19 @@ module _ {lib book out out₁ out₂ pl hs pl₁ hs₁ areas marks : List ℕ} {
   }
     where
       go : (x : Out (List Definition)) → ((es : List Definition) → x ≡ done es → length es ≡ n) → Writes out₁ 2 o x out₂ end
-          → (Book end ≡ answer_of (x >>= λ es. given (leb (size_book es) (length out)) macro_growth es)) × leaves (x >>= λ es. given (leb (size_book es) (length out)) macro_growth es) out out₂
+          → (Ok end ≡ answer_of (x >>= λ es. given (leb (size_book es) (length out)) macro_growth es)) × leaves (x >>= λ es. given (leb (size_book es) (length out)) macro_growth es) out out₂
       go (refused c) f v = absurd (omega arith)
       go (done es) f v = ⊎_elim
           (λ (h : leb (o + length (w_all w_definition es [])) (length out₁) ≡ true).
           let s : size_book es ≤ length out = omega (arith, leb-true (o + length (w_all w_definition es [])) (length out₁) h, book_size es, f es refl, same_length w) in
-          let t = finished out out₂ n o end es (f es refl) eo (rw (← w.holds) (rw h at v)) s in
-          rw (le-leb (size_book es) (length out) s) (ap Book t.0, t.1))
+          let f₁ = finished out out₂ n o end es (f es refl) eo (rw (← w.holds) (rw h at v)) s in
+          rw (le-leb (size_book es) (length out) s) (ap Ok f₁.0, f₁.1))
           (λ (h : leb (o + length (w_all w_definition es [])) (length out₁) ≡ false). absurd (omega (arith, rw h at v)))
           (yes_no (leb (o + length (w_all w_definition es [])) (length out₁)))
 
 -- where the entries alone do not fit
 module _ {lib book areas out : List ℕ} {marks n k : ℕ} (kp : KeptOf book k) (nk : n ≡ min k 512) (short : length out < 2 + 6 * n) where
-  pub passed_short : PassedBy marks lib book areas out out Grown
+  pub passed_short : PassedBy marks lib book areas out out (Err MacroGrowth)
   passed_short = record {
     says = λ ms ds el im eb id al ol mb.
         rw (fit_is (length out) ms ds ol id.deep)
@@ -221,15 +223,15 @@ module _ {lib book areas out : List ℕ} {marks n k : ℕ} (kp : KeptOf book k) 
   }
     where
       go : (x : Out (List Definition)) → ((es : List Definition) → x ≡ done es → length es ≡ n)
-          → (Grown ≡ answer_of (x >>= λ es. given (leb (size_book es) (length out)) macro_growth es)) × leaves (x >>= λ es. given (leb (size_book es) (length out)) macro_growth es) out out
+          → (Err MacroGrowth ≡ answer_of (x >>= λ es. given (leb (size_book es) (length out)) macro_growth es)) × leaves (x >>= λ es. given (leb (size_book es) (length out)) macro_growth es) out out
       go (refused c) f = (refl, refl)
       go (done es) f = rw (lt-leb (size_book es) (length out) (omega (arith, book_size es, f es refl))) (refl, refl)
 
 -- with marks for any book, and with those for short ones
-pub passed_long : {lib book areas out out' : List ℕ} {r : Expanded} → PassedBy 8192 lib book areas out out' r → Passed lib book areas out out' r
+pub passed_long : {lib book areas out out' : List ℕ} {r : Result ℕ Code} → PassedBy 8192 lib book areas out out' r → Passed lib book areas out out' r
 passed_long {book = book} p = record { says = λ ms ds el im eb id al ol. p.says ms ds el im eb id al ol (omega (arith, ap length eb, size_length ds, id.short)) }
 
-pub passed_brief : {lib book areas out out' : List ℕ} {r : Expanded} → length book ≤ 512 → PassedBy 256 lib book areas out out' r → Passed lib book areas out out' r
+pub passed_brief : {lib book areas out out' : List ℕ} {r : Result ℕ Code} → length book ≤ 512 → PassedBy 256 lib book areas out out' r → Passed lib book areas out out' r
 passed_brief h p = record { says = λ ms ds el im eb id al ol. p.says ms ds el im eb id al ol (omega arith) }
 
 -- the plain mode: the book's own macros

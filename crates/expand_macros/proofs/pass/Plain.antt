@@ -20,7 +20,8 @@ use Rattle.buffer.specs.writes.Buf.{put, Wrote}
 use Rattle.buffer.proofs.writes.Put.{put_fits}
 use Rattle.expand_macros.specs.kept.Kept.{kept_of, Macroless}
 use Rattle.expand_macros.proofs.kept.Counting.{kept_few, all-kept}
-use Rattle.expand_macros.specs.declared.pass.Expanded.TheVariants.{Book, Grown}
+use Rattle.std.specs.Prelude.{Ok, Err}
+use Rattle.what_comes_back.specs.declared.Code.TheVariants.{MacroGrowth}
 use Rattle.expand_macros.specs.pass.Pass.{pass, fitting, Leaves, Passed}
 
 pub size_length : (es : List Definition) → size_book es ≡ length (w_book es)
@@ -56,19 +57,19 @@ fit_plain room ms ds h k i = rw (pass_plain ms ds h k i)
 
 module _ {lib book areas out : List ℕ} {a b : Bool} (p : Macroless lib a) (t : a ≡ true) (r : Macroless book b) (u : b ≡ true) where
   -- with no room for it
-  pub plain_grown : length out < length book → Passed lib book areas out out Grown
+  pub plain_grown : length out < length book → Passed lib book areas out out (Err MacroGrowth)
   plain_grown l = record {
     says = λ ms ds el im eb id al ol.
         rw (fit_plain (length out) ms ds (all-kept p t ms el im) (all-kept r u ds eb id) id, lt-leb (size_book ds) (length out) (omega (arith, size_length ds, ap length eb))) (refl, refl);
   }
 
 module _ {lib book areas out out' : List ℕ} {a b : Bool} {q : ℕ} (p : Macroless lib a) (t : a ≡ true) (r : Macroless book b) (u : b ≡ true) (l : length book ≤ length out) (w : Wrote out 0 book out' q) where
-  pub passed_plain : Passed lib book areas out out' (Book (length book))
+  pub passed_plain : Passed lib book areas out out' (Ok (length book))
   passed_plain = record { says = λ ms ds el im eb id al ol. copied ms ds (all-kept p t ms el im) eb id (all-kept r u ds eb id) }
     where
-      copied : (ms ds : List Definition) → kept_of ms ≡ length ms → book ≡ w_book ds → IsBook ds → kept_of ds ≡ length ds → Leaves (fitting (length out) (pass ms ds)) out out' (Book (length book))
+      copied : (ms ds : List Definition) → kept_of ms ≡ length ms → book ≡ w_book ds → IsBook ds → kept_of ds ≡ length ds → Leaves (fitting (length out) (pass ms ds)) out out' (Ok (length book))
       copied ms ds h eb id k =
           let s : size_book ds ≡ length book = size_length ds ∙ ap length (sym eb) in
           let f : put out 0 book ≡ book ++ drop (0 + length book) out = put_fits out 0 book (omega (arith, s, id.short)) in
           let z : 0 + length book ≡ length book = omega arith in
-          rw (fit_plain (length out) ms ds h k id, le-leb (size_book ds) (length out) (omega (arith, s))) (ap Book (sym s), w.holds ∙ f ∙ rw (s, ← eb) (ap (λ (n : ℕ). book ++ drop n out) z))
+          rw (fit_plain (length out) ms ds h k id, le-leb (size_book ds) (length out) (omega (arith, s))) (ap Ok (sym s), w.holds ∙ f ∙ rw (s, ← eb) (ap (λ (n : ℕ). book ++ drop n out) z))

@@ -10,11 +10,12 @@ use Rattle.laws.specs.Book.{IsBook}
 use Rattle.layout.specs.items.Here.{Here}
 use Rattle.buffer.specs.writes.Buf.{put}
 use Rattle.walker.specs.declared.definitions.Definitions.{Definitions}
+use Rattle.walker.specs.declared.definitions.Entry.{Entry}
 use Rattle.walker.specs.definitions.Listed.{Left}
-use Rattle.expand_macros.specs.declared.pass.book.Turn.{Turn}
+use Rattle.expand_macros.specs.declared.known_macros.Macros.{Macros}
 use Rattle.substitute.specs.substitution.Turned.{Areas}
 use Rattle.expand_macros.specs.replace_call.Call.{Puts}
-use Rattle.expand_macros.specs.known_macros.Table.{Rows}
+use Rattle.expand_macros.specs.known_macros.Table.{RowsOf}
 use Rattle.expand_macros.specs.kept.Kept.{kept_of}
 
 -- rule 5: "or the book left when expansion is done .. is over either": the levels, body by body
@@ -38,20 +39,20 @@ shallow_all (byte_order x ∷ ds) ms = and_one_of (expand_one (byte_order x) ms)
 shallow_all (macro n ps c ∷ ds) ms = shallow_all ds ms
 
 -- what an expansion of the whole book needs
-pub record Whole (macros pl hs : List ℕ) (rows : ℕ) (book areas marks out : List ℕ) (ms : List Macro) : Type 0 where
-  pub sized : Areas macros book areas
+pub record Whole (t : Macros) (book areas marks out : List ℕ) (ms : List Macro) : Type 0 where
+  pub sized : Areas t.book.now book areas
   -- a combinator of n bytes has at most n / 2 marks; the walk over what was made of it needs none
   pub marks-book : length book ≤ 2 * length marks
   pub out_short : length out ≤ 16384
-  pub table : Rows macros pl hs rows ms
+  pub table : RowsOf t ms
 
-pub record Formatted (macros pl hs : List ℕ) (rows : ℕ) (book : List ℕ) (at : ℕ) (areas marks out : List ℕ) (o : ℕ) (out' : List ℕ) (r : ℕ) : Type 0 where
-  pub says : (ms : List Macro) → Whole macros pl hs rows book areas marks out ms → (n : Name) (ps : List Param) (c : Combinator) (z : List ℕ) → Here book at (w_definition (format n ps c) z)
+pub record Formatted (t : Macros) (book : List ℕ) (at : ℕ) (areas marks out : List ℕ) (o : ℕ) (out' : List ℕ) (r : ℕ) : Type 0 where
+  pub says : (ms : List Macro) → Whole t book areas marks out ms → (n : Name) (ps : List Param) (c : Combinator) (z : List ℕ) → Here book at (w_definition (format n ps c) z)
       → levels_p ps ≤ 64 → levels c ≤ 64 → Puts out o (expand_one (format n ps c) ms >>= λ e. done (w_definition e [])) out' r
 
-pub record Kept (kind size : ℕ) (macros pl hs : List ℕ) (rows : ℕ) (book : List ℕ) (at : ℕ) (areas marks out : List ℕ) (o : ℕ) (out' : List ℕ) (r : ℕ) : Type 0 where
-  pub says : (ms : List Macro) → Whole macros pl hs rows book areas marks out ms → (d : Definition) (z : List ℕ) → Here book at (w_definition d z)
-      → kind ≡ kind_byte (kind_of d) → (kind ≡ 4 → ⊥) → size ≡ size_of d → levels_book (d ∷ []) ≤ 64 → Puts out o (expand_one d ms >>= λ e. done (w_definition e [])) out' r
+pub record Kept (x : Entry) (t : Macros) (book areas marks out : List ℕ) (o : ℕ) (out' : List ℕ) (r : ℕ) : Type 0 where
+  pub says : (ms : List Macro) → Whole t book areas marks out ms → (d : Definition) (z : List ℕ) → Here book x.at (w_definition d z)
+      → x.kind ≡ kind_byte (kind_of d) → (x.kind ≡ 4 → ⊥) → x.size ≡ size_of d → levels_book (d ∷ []) ≤ 64 → Puts out o (expand_one d ms >>= λ e. done (w_definition e [])) out' r
 
 -- the entries stand in out from e on, the bodies from o on, if the bodies fit; else the place is past the end
 abbrev pub WritesBy : List ℕ → ℕ → ℕ → List Definition → List ℕ → ℕ → Bool → Type 0
@@ -63,24 +64,10 @@ Writes out e o (refused k) out' r = length out < r
 Writes out e o (done es) out' r = WritesBy out e o es out' r (leb (o + length (w_all w_definition es [])) (length out))
 
 -- the definitions that are left
-pub record Listing (macros pl hs : List ℕ) (rows : ℕ) (book areas marks out : List ℕ) (d : Definitions) (e o : ℕ) (out' : List ℕ) (r : ℕ) : Type 0 where
-  pub says : (ms : List Macro) → Whole macros pl hs rows book areas marks out ms → (ds : List Definition) → Left book d ds → e + 6 * kept_of ds ≤ o → o ≤ length out
+pub record Listing (t : Macros) (book areas marks out : List ℕ) (d : Definitions) (e o : ℕ) (out' : List ℕ) (r : ℕ) : Type 0 where
+  pub says : (ms : List Macro) → Whole t book areas marks out ms → (ds : List Definition) → Left book d ds → e + 6 * kept_of ds ≤ o → o ≤ length out
       → Writes out e o (shallow_all ds ms) out' r
 
--- the definitions that are left, by three numbers
-abbrev pub left_at : ℕ → ℕ → ℕ → Definitions
-left_at left entry at = record { left = left; entry = entry; at = at }
-
--- the loop over the definitions that are left ended with out' and r
-pub record Ends (macros pl hs : List ℕ) (rows : ℕ) (book areas marks out : List ℕ) (left entry at e o : ℕ) (out' : List ℕ) (r : ℕ) : Type 0 where
-  pub none : left ≡ 0 → (out' ≡ out) × (r ≡ o)
-  pub some : 0 < left → Listing macros pl hs rows book areas marks out (left_at left entry at) e o out' r
-
--- a turn of it: whoever does the rest has done all that were left, and fewer are left
-pub record Turned (macros pl hs : List ℕ) (rows : ℕ) (book areas marks out : List ℕ) (left entry at e o : ℕ) (areas' marks' out' : List ℕ) (t : Turn) : Type 0 where
-  pub goes : 0 < left → (out'' : List ℕ) (r : ℕ) → Ends macros pl hs rows book areas' marks' out' t.left t.entry t.at t.e t.o out'' r → Listing macros pl hs rows book areas marks out (left_at left entry at) e o out'' r
-  pub less : 0 < left → t.left < left
-
-pub record Booked (macros pl hs : List ℕ) (rows : ℕ) (book areas marks out : List ℕ) (o : ℕ) (out' : List ℕ) (r : ℕ) : Type 0 where
-  pub says : (ms : List Macro) → Whole macros pl hs rows book areas marks out ms → (ds : List Definition) → book ≡ w_book ds → IsBook ds → o ≡ 2 + 6 * kept_of ds → o ≤ length out
+pub record Booked (t : Macros) (book areas marks out : List ℕ) (o : ℕ) (out' : List ℕ) (r : ℕ) : Type 0 where
+  pub says : (ms : List Macro) → Whole t book areas marks out ms → (ds : List Definition) → book ≡ w_book ds → IsBook ds → o ≡ 2 + 6 * kept_of ds → o ≤ length out
       → Writes out 2 o (shallow_all ds ms) out' r

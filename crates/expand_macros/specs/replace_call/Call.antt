@@ -1,5 +1,5 @@
 -- What an instance of a macro says of the trees that stand in the bytes: its call, its inner.
-use Rattle.std.specs.Prelude.{◌≡◌, List, [], Bool, true, false, ℕ, suc, ◌≤◌, leb, length}
+use Rattle.std.specs.Prelude.{◌≡◌, List, [], Bool, true, false, Option, IsNone, IsSomeAnd, ℕ, suc, ◌≤◌, leb, length}
 use Rattle.definition.specs.Code.{macro_growth}
 use Rattle.definition.specs.Out.{Out, refused, done, ◌>>=◌, given}
 use Rattle.definition.specs.Tree.{Name, Combinator, Inners, macro_invocation}
@@ -27,13 +27,13 @@ pub record Open (macros book areas marks : List ℕ) (t : Turn) (m : Macro) (xs 
   pub holds : Holds (first areas) marks t.len t.n m.body
 
 -- where the row of marks has room for those of the body
-abbrev pub Begun : List ℕ → List ℕ → List ℕ → List ℕ → Turn → Macro → Inners → List ℕ → Bool → Type 0
-Begun macros book areas marks t m xs z true = (t.good ≡ true) × Open macros book areas marks t m xs z
-Begun macros book areas marks t m xs z false = t.good ≡ false
+abbrev pub Begun : List ℕ → List ℕ → List ℕ → List ℕ → Option Turn → Macro → Inners → List ℕ → Bool → Type 0
+Begun macros book areas marks r m xs z true = IsSomeAnd r (λ t. Open macros book areas marks t m xs z)
+Begun macros book areas marks r m xs z false = IsNone r
 
-pub record Opened (macros : List ℕ) (def : ℕ) (book : List ℕ) (call : ℕ) (areas marks areas' marks' : List ℕ) (t : Turn) : Type 0 where
+pub record Opened (macros : List ℕ) (def : ℕ) (book : List ℕ) (call : ℕ) (areas marks areas' marks' : List ℕ) (r : Option Turn) : Type 0 where
   pub says : length macros ≤ 16384 → length areas ≡ 32768 → (m : Macro) → Defined macros def m → (n : Name) (xs : Inners) (z : List ℕ) → Here book call (w_inner (macro_invocation n xs) z)
-      → Begun macros book areas' marks' t m xs z (leb (marks_of m.body) (length marks))
+      → Begun macros book areas' marks' r m xs z (leb (marks_of m.body) (length marks))
 
 -- rule 4 with a row that has room for k marks
 unfoldable pub instance_in : ℕ → Macro → Inners → Out Combinator
@@ -41,7 +41,7 @@ instance_in k m xs = do
   c ← given (leb (marks_of m.body) k) macro_growth m.body
   instance_by k m.params xs c
 
-pub record Makes (macros : List ℕ) (def : ℕ) (book : List ℕ) (call : ℕ) (areas marks areas' marks' : List ℕ) (r : Turn) : Type 0 where
+pub record Makes (macros : List ℕ) (def : ℕ) (book : List ℕ) (call : ℕ) (areas marks areas' marks' : List ℕ) (r : Option Turn) : Type 0 where
   pub says : Areas macros book areas → (m : Macro) → Defined macros def m → (n : Name) (xs : Inners) (z : List ℕ) → Here book call (w_inner (macro_invocation n xs) z) → levels_a xs ≤ 64
       → Made (first areas') marks' r (instance_in (length marks) m xs)
 

@@ -1,9 +1,10 @@
 -- One pass after the other, from what a pass and the test for known calls say.
 -- Assumes nothing.
 use mathlib.Core.Path.{◌≡◌, refl, sym, ap, ◌∙◌}
+use mathlib.Core.Logic.{inl, inr}
 use mathlib.Core.List.{List, []}
 use mathlib.Core.Bool.{Bool, true, false}
-use Prim.Native.Nat.{ℕ, zero, suc, ◌+◌, ◌-◌, ◌≤◌, ◌<◌}
+use Prim.Native.Nat.{ℕ, zero, suc, ◌+◌, ◌-◌, ◌≤◌}
 use native.Mathlib.Omega.{arith}
 use lib.ListN.{length, take, drop}
 use lib.Seq.{take-append_seam}
@@ -21,13 +22,12 @@ use Rattle.laws.proofs.ExpandGood.{macros_good, pass_good}
 use Rattle.nested.specs.Nested.{settled, pass, until, again}
 use Rattle.buffer.specs.writes.Buf.{put, part, Wrote}
 use Rattle.buffer.proofs.writes.Put.{length-put, take_written}
-use Rattle.expand_macros.specs.declared.pass.Expanded.{Expanded}
-use Rattle.expand_macros.specs.declared.pass.Expanded.TheVariants.{Book as Whole, Grown as Over}
+use Rattle.std.specs.Prelude.{Result, Ok, Err}
+use Rattle.what_comes_back.specs.declared.Code.{Code}
+use Rattle.what_comes_back.specs.declared.Code.TheVariants.{MacroGrowth, MacroLeft}
 use Rattle.expand_macros.specs.pass.Pass.{pass as passOf, answer_of, leaves, Passed}
 use Rattle.expand_macros.proofs.pass.Fitting.{passed_whole}
 use Rattle.expand_nested.specs.settled.Settles.{Settles}
-use Rattle.expand_nested.specs.declared.passes.Passes.{Passes}
-use Rattle.expand_nested.specs.declared.passes.Passes.TheVariants.{Book, Grown, Left}
 use Rattle.expand_nested.specs.passes.Repeats.{Stands, PassedBack, Again}
 
 -- the pass on trees
@@ -49,7 +49,7 @@ size_is es = refl
 
 -- a pass on bytes, whose result goes back
 stands : (next next' : List ℕ) {area area' : List ℕ} {len q : ℕ} → Wrote area 0 (part 0 len next') area' q → length area ≡ 16384 → (m : Out (List Definition)) → ((es : List Definition) → m ≡ done es → IsBook es)
-    → Whole len ≡ answer_of m → leaves m next next' → Stands m area' len
+    → Ok len ≡ answer_of m → leaves m next next' → Stands m area' len
 unfolding part
 stands next next' w la (refused k) f e l = absurd (let z : ◌≡◌ {A = ℕ} 0 1 = cc in omega arith)
 stands next next' {area} {area'} {len} w la (done es) f e l =
@@ -69,18 +69,18 @@ stands next next' {area} {area'} {len} w la (done es) f e l =
     }
 
 module _ {lib area : List ℕ} {len : ℕ} {here areas next next' : List ℕ} (eh : here ≡ take len area) where
-  pub back_grown : {r : Expanded} → Passed lib here areas next next' r → r ≡ Over → {area' : List ℕ} → PassedBack lib area len (length areas) (length next) area' Over
-  back_grown {r} p e = record { says = λ ms ds el im eb id la ls ln. grown (pass_six (macros ms []) ds) (sym e ∙ (passed_whole p ms ds el im (eh ∙ eb) id ls ln).0 ∙ ap answer_of (pass_is ms ds)) }
+  pub back_grown : {k : Code} → Passed lib here areas next next' (Err k) → {area' : List ℕ} → PassedBack lib area len (length areas) (length next) area' (Err k)
+  back_grown {k} p = record { says = λ ms ds el im eb id la ls ln. grown (pass_six (macros ms []) ds) ((passed_whole p ms ds el im (eh ∙ eb) id ls ln).0 ∙ ap answer_of (pass_is ms ds)) }
     where
-      grown : {m : Out (List Definition)} → Grows m → Over ≡ answer_of m → m ≡ refused macro_growth
-      grown six q = refl
+      grown : {m : Out (List Definition)} → Grows m → Err k ≡ answer_of m → (m ≡ refused macro_growth) × (k ≡ MacroGrowth)
+      grown six q = (refl, cc)
       grown (none es) q = absurd (let z : ◌≡◌ {A = ℕ} 0 1 = cc in omega arith)
 
-  pub back_book : {len' : ℕ} {area' : List ℕ} {q : ℕ} → Wrote area 0 (part 0 len' next') area' q → {r : Expanded} → Passed lib here areas next next' r → r ≡ Whole len' → PassedBack lib area len (length areas) (length next) area' (Whole len')
-  back_book w {r} p e = record {
+  pub back_book : {len' : ℕ} {area' : List ℕ} {q : ℕ} → Wrote area 0 (part 0 len' next') area' q → Passed lib here areas next next' (Ok len') → PassedBack lib area len (length areas) (length next) area' (Ok len')
+  back_book w p = record {
     says = λ ms ds el im eb id la ls ln.
         let t = passed_whole p ms ds el im (eh ∙ eb) id ls ln in
-        stands next next' w la (pass (macros ms []) ds) (λ es g. (yielded (pass_book ms ds im id) g).0) (sym e ∙ t.0 ∙ ap answer_of (pass_is ms ds)) (rw (pass_is ms ds) at t.1);
+        stands next next' w la (pass (macros ms []) ds) (λ es g. (yielded (pass_book ms ds im id) g).0) (t.0 ∙ ap answer_of (pass_is ms ds)) (rw (pass_is ms ds) at t.1);
   }
 
 -- one more, or none
@@ -89,10 +89,9 @@ unfolding again until
 again-done zero ms ds e = rw e
 again-done (suc left) ms ds e = rw e
 
-again_more : (left : ℕ) (ms : List Macro) (ds : List Definition) → 0 < left → settled ms ds ≡ false → again left ms ds ≡ (pass ms ds >>= λ es. again (left - 1) ms es)
+again_more : (left left₁ : ℕ) (ms : List Macro) (ds : List Definition) → left ≡ suc left₁ → settled ms ds ≡ false → again left ms ds ≡ (pass ms ds >>= λ es. again left₁ ms es)
 unfolding again until
-again_more zero ms ds h e = absurd (omega arith)
-again_more (suc left) ms ds h e = let x : suc left - 1 ≡ left = omega arith in rw (e, x)
+again_more left left₁ ms ds h e = rw (h, e)
 
 again_none : (left : ℕ) (ms : List Macro) (ds : List Definition) → left ≤ 0 → settled ms ds ≡ false → again left ms ds ≡ refused macro_left
 unfolding again until
@@ -100,31 +99,33 @@ again_none zero ms ds h e = rw e
 again_none (suc left) ms ds h e = absurd (omega arith)
 
 module _ {lib area : List ℕ} {len left areas room : ℕ} {here : List ℕ} (eh : here ≡ take len area) {b : Bool} (s : Settles lib here b) where
-  pub again_settled : b ≡ true → Again lib area len left areas room area (Book len)
+  pub again_settled : b ≡ true → Again lib area len left areas room area (Ok len)
   again_settled e = record {
     says = λ ms ds el im eb id f la ls ln.
         record { list = ds; is = again-done left (macros ms []) ds (sym (s.says ms ds el im (eh ∙ eb) id) ∙ e); is_book = id; holds = eb; fits = f; long = la };
   }
 
   module _ (e : b ≡ false) where
-    pub again_left : left ≤ 0 → Again lib area len left areas room area Left
-    again_left h = record { says = λ ms ds el im eb id f la ls ln. again_none left (macros ms []) ds h (sym (s.says ms ds el im (eh ∙ eb) id) ∙ e) }
+    pub again_left : left ≤ 0 → Again lib area len left areas room area (Err MacroLeft)
+    again_left h = record { says = λ ms ds el im eb id f la ls ln. inr (again_none left (macros ms []) ds h (sym (s.says ms ds el im (eh ∙ eb) id) ∙ e), refl) }
 
-    module _ (h : 0 < left) {areas₁ room₁ : ℕ} (ea : areas₁ ≡ areas) (er : room₁ ≡ room) {area₁ : List ℕ} where
-      pub again_grown : PassedBack lib area len areas₁ room₁ area₁ Over → Again lib area len left areas room area₁ Grown
+    module _ {left₁ : ℕ} (h : left ≡ suc left₁) {areas₁ room₁ : ℕ} (ea : areas₁ ≡ areas) (er : room₁ ≡ room) {area₁ : List ℕ} where
+      pub again_grown : {k : Code} → PassedBack lib area len areas₁ room₁ area₁ (Err k) → Again lib area len left areas room area₁ (Err k)
       again_grown p = record {
-        says = λ ms ds el im eb id f la ls ln. again_more left (macros ms []) ds h (sym (s.says ms ds el im (eh ∙ eb) id) ∙ e) ∙ rw (p.says ms ds el im eb id la (ea ∙ ls) (er ∙ ln));
+        says = λ ms ds el im eb id f la ls ln.
+            let t = p.says ms ds el im eb id la (ea ∙ ls) (er ∙ ln) in
+            inl (again_more left left₁ (macros ms []) ds h (sym (s.says ms ds el im (eh ∙ eb) id) ∙ e) ∙ rw t.0, t.1);
       }
 
-      pub again_step : {len₁ : ℕ} → PassedBack lib area len areas₁ room₁ area₁ (Whole len₁) → length area₁ ≡ length area → {area' : List ℕ} {r : Passes} → Again lib area₁ len₁ (left - 1) areas room area' r
+      pub again_step : {len₁ : ℕ} → PassedBack lib area len areas₁ room₁ area₁ (Ok len₁) → length area₁ ≡ length area → {area' : List ℕ} {r : Result ℕ Code} → Again lib area₁ len₁ left₁ areas room area' r
           → Again lib area len left areas room area' r
       again_step p l n = record {
         says = λ ms ds el im eb id f la ls ln.
             let t = p.says ms ds el im eb id la (ea ∙ ls) (er ∙ ln) in
-            rw (again_more left (macros ms []) ds h (sym (s.says ms ds el im (eh ∙ eb) id) ∙ e), t.is)
+            rw (again_more left left₁ (macros ms []) ds h (sym (s.says ms ds el im (eh ∙ eb) id) ∙ e), t.is)
             (n.says ms t.list el im t.holds t.is_book t.fits (l ∙ la) ls ln);
       }
 
 -- the loop: whoever goes on from here has gone from the start
 pub record Going (lib area₀ : List ℕ) (len₀ left₀ areas room : ℕ) (area : List ℕ) (len left : ℕ) : Type 0 where
-  pub goes : (area' : List ℕ) (r : Passes) → Again lib area len left areas room area' r → Again lib area₀ len₀ left₀ areas room area' r
+  pub goes : (area' : List ℕ) (r : Result ℕ Code) → Again lib area len left areas room area' r → Again lib area₀ len₀ left₀ areas room area' r

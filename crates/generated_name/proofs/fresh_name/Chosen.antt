@@ -8,6 +8,7 @@ use Prim.Native.Nat.{ℕ, ◌+◌, ◌≤◌, ◌<◌}
 use native.Mathlib.Omega.{arith}
 use native.Mathlib.Nat.{zero-add}
 use lib.Dec.{eqb}
+use Rattle.std.proofs.Common.{None, Some}
 use borrow.Author.Tests.{eqb-true, eqb-false}
 use Rattle.layout.proofs.lookup.Names.{yes_no}
 use lib.ListN.{length, take, get_or, set, length-set, take-append-drop}
@@ -36,9 +37,9 @@ stood d at h =
     }
 
 -- the base is free
-pub chosen_base : {d : List ℕ} {at : ℕ} {names : Store} {places : List ℕ} {n r : ℕ} → Found (take at d) names places n r → r ≡ n → at ≤ length d → Fresh d at names places n d at
-chosen_base {d} {at} {names} {places} {n} f e h =
-    let q : fresh (take at d) (taken names places n) ≡ take at d = fresh-base (take at d) (taken names places n) (found_not (take at d) names places f e) in
+pub chosen_base : {d : List ℕ} {at : ℕ} {names : Store} {places : List ℕ} {n : ℕ} → Found (take at d) names places n None → at ≤ length d → Fresh d at names places n d at
+chosen_base {d} {at} {names} {places} {n} f h =
+    let q : fresh (take at d) (taken names places n) ≡ take at d = fresh-base (take at d) (taken names places n) (found_not (take at d) names places f) in
     record {
       within = λ k. rw q (stood d at h);
       beyond = λ k. absurd (omega arith);
@@ -58,20 +59,20 @@ chosen_long {d} {at} {names} {places} {ways} {n} t h k = record {
   kept = refl;
 }
 
-module _ {d : List ℕ} {at : ℕ} {names : Store} {places hints : List ℕ} {n r : ℕ} {d' : List ℕ} {k len : ℕ} (h : Hints names places hints n) (f : Found (take at d) names places n r) (less : r < n)
+module _ {d : List ℕ} {at : ℕ} {names : Store} {places hints : List ℕ} {n r : ℕ} {d' : List ℕ} {k len : ℕ} (h : Hints names places hints n) (f : Found (take at d) names places n (Some r))
     (w : FirstFree d at names places n (get_or hints r 0) d' k len) where
   -- below the first free number all are taken: the hint says so of the first, the search of the rest
   all_taken : (j : ℕ) → j < k → elem (numbered (take at d) j) (taken names places n) ≡ true
   all_taken j m = ⊎_elim
       (λ (q : get_or hints r 0 ≤ j). w.passed j q m)
-      (λ (q : j < get_or hints r 0). subst (λ (b : Name). elem (numbered b j) (taken names places n) ≡ true) (found_name (take at d) names places f less) (h.tried r j less q))
+      (λ (q : j < get_or hints r 0). subst (λ (b : Name). elem (numbered b j) (taken names places n) ≡ true) (found_name (take at d) names places f) (h.tried r j f.bound q))
       (within (get_or hints r 0) j)
 
   chosen : fresh (take at d) (taken names places n) ≡ numbered (take at d) k
   chosen =
       let e : length (taken names places n) ≡ n = length_taken names places n in
       let l = w.last in
-      fresh_number (take at d) (taken names places n) k (found_is (take at d) names places f less) (omega arith) all_taken (λ m. w.free (omega arith))
+      fresh_number (take at d) (taken names places n) k (found_is (take at d) names places f) (omega arith) all_taken (λ m. w.free (omega arith))
 
   pub chosen_number : at ≤ length d → Fresh d at names places n d' len
   unfolding numbered
@@ -95,13 +96,13 @@ module _ {d : List ℕ} {at : ℕ} {names : Store} {places hints : List ℕ} {n 
     tried = λ i j m l. ⊎_elim
         (λ (q : i ≡ r).
         let z : j < k = rw (q, here) at l in
-        subst (λ (b : Name). elem (numbered b j) (taken names places n) ≡ true) (sym (found_name (take at d) names places f less) ∙ ap (row names places) (sym q)) (all_taken j z))
+        subst (λ (b : Name). elem (numbered b j) (taken names places n) ≡ true) (sym (found_name (take at d) names places f) ∙ ap (row names places) (sym q)) (all_taken j z))
         (λ (q : i ≡ r → ⊥). h.tried i j m (rw (get_or-set_other hints r i k 0 q) at l))
         (same_or_not i r);
   }
     where
       here : get_or (set hints r k) r 0 ≡ k
-      here = get_or-set_same hints r k 0 (let z = h.hints_long in omega arith)
+      here = get_or-set_same hints r k 0 (let z = h.hints_long in let y : r < n = f.bound in omega arith)
 
       same_or_not : (a b : ℕ) → (a ≡ b) ⊎ (a ≡ b → ⊥)
       same_or_not a b = ⊎_elim (λ (q : eqb a b ≡ true). inl (eqb-true a b q)) (λ (q : eqb a b ≡ false). inr (eqb-false a b q)) (yes_no (eqb a b))

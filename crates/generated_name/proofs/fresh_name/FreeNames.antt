@@ -3,12 +3,11 @@
 use mathlib.Core.Path.{◌≡◌, refl, sym, ap, ◌∙◌, subst}
 use mathlib.Core.Logic.{⊎_elim}
 use mathlib.Core.List.{List, ◌∷◌}
-use mathlib.Core.Bool.{true, false, not}
+use mathlib.Core.Bool.{Bool, true, false, not}
 use Prim.Native.Nat.{ℕ, zero, suc, ◌+◌, ◌/◌, ◌≤◌, ◌<◌}
 use native.Mathlib.Omega.{arith}
 use native.Mathlib.Nat.{eq-or-lt_of_le, le_refl}
-use lib.Dec.{eqb}
-use borrow.Author.Tests.{eq-eqb, ne_eqb}
+use Rattle.std.specs.Prelude.{Option, is_some}
 use lib.ListN.{length, take, length-append, length-take}
 use lib.Seq.{take-nil, take_all}
 use Rattle.definition.specs.Tree.{Name}
@@ -22,7 +21,7 @@ use Rattle.name_table.specs.find.Found.{Found}
 use Rattle.generated_name.specs.fresh_name.Free.{Tells, FirstFree}
 use Rattle.generated_name.proofs.child_name.Held.{held_whole, grown}
 use Rattle.generated_name.proofs.segment.Decimal.{decimal_small, decimal_large}
-use Rattle.name_table.proofs.find.Rows.{found_not, found_is, long_free}
+use Rattle.name_table.proofs.find.Rows.{found_some, long_free}
 
 -- ---- a larger number has no fewer digits
 some_digit : (n : ℕ) → 1 ≤ length (decimal n)
@@ -79,14 +78,8 @@ module _ {d : List ℕ} {at : ℕ} {names : Store} {places : List ℕ} {n : ℕ}
   pub tells_long : {ways : List ℕ} → Table names places ways n → 255 ≤ length d → length d < at → Tells d at (taken names places n) true
   tells_long t h k = record { says = λ name g. long_free name t (let z = g.place in omega arith) }
 
-  pub tells_found : {r : ℕ} → Found (take at d) names places n r → at ≤ length d → Tells d at (taken names places n) (eqb r n)
-  tells_found {r} f h = record { says = λ name g. subst (λ (x : Name). elem x (taken names places n) ≡ not (eqb r n)) (held_whole g h) here }
-    where
-      here : elem (take at d) (taken names places n) ≡ not (eqb r n)
-      here = ⊎_elim
-          (λ (e : r ≡ n). rw (eq-eqb r n e) (found_not (take at d) names places f e))
-          (λ (e : r < n). rw (ne_eqb r n (λ (z : r ≡ n). omega arith)) (found_is (take at d) names places f e))
-          (eq-or-lt_of_le f.bound)
+  pub tells_found : (r : Option ℕ) {free : Bool} → is_some r ≡ not free → Found (take at d) names places n r → at ≤ length d → Tells d at (taken names places n) free
+  tells_found r {free} e f h = record { says = λ name g. subst (λ (x : Name). elem x (taken names places n) ≡ not free) (held_whole g h) (found_some (take at d) names places r f ∙ e) }
 
 -- ---- one try after the other: each number is written over the last, and no try leaves more behind than the next one covers
 pub record Trying (d₀ : List ℕ) (at : ℕ) (names : List Name) (n first : ℕ) (d : List ℕ) (i : ℕ) : Type 0 where

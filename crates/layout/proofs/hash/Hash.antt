@@ -3,13 +3,14 @@
 use mathlib.Core.Path.{◌≡◌, refl, sym, ap, ◌∙◌}
 use mathlib.Core.Logic.{⊎_elim}
 use mathlib.Core.Bool.{true, false}
-use mathlib.Core.List.{[], ◌∷◌}
-use Prim.Native.Nat.{ℕ, ◌+◌, ◌*◌, ◌-◌, ◌/◌, ◌%◌, ◌^◌, ◌≤◌, ◌<◌}
+use mathlib.Core.List.{List, [], ◌∷◌}
+use Prim.Native.Nat.{ℕ, zero, suc, ◌+◌, ◌*◌, ◌-◌, ◌/◌, ◌%◌, ◌^◌, ◌≤◌, ◌<◌}
 use native.Mathlib.Omega.{arith}
 use native.Mathlib.Numerals.{add-one}
 use lib.Dec.{ltb}
-use lib.ListN.{length, get_or, drop, length-drop, drop_of_length-le}
-use lib.Seq.{drop-cons}
+use Rattle.std.specs.Simd.{first_chunks}
+use lib.ListN.{length, get_or, take, drop, length-drop, drop_of_length-le}
+use lib.Seq.{drop-cons, drop-drop, get_or-drop, get_or-take}
 use borrow.Author.Tests.{lt-ltb, le-ltb}
 use Rattle.definition.specs.Tree.{Name}
 use Rattle.layout.specs.items.At.{byte_at}
@@ -29,17 +30,30 @@ word_more g h a b c d s = refl
 next_byte : (n : Name) (i j : ℕ) → j ≡ i + 1 → i < length n → drop i n ≡ get_or n i 0 ∷ drop j n
 next_byte n i j e k = drop-cons n i 0 k ∙ rw (e, add-one i)
 
-third : (i : ℕ) → i + 3 ≡ i + 2 + 1
-third i = omega arith
-
 next_word : (n : Name) (i : ℕ) → i + 4 ≤ length n → drop i n ≡ get_or n i 0 ∷ get_or n (i + 1) 0 ∷ get_or n (i + 2) 0 ∷ get_or n (i + 3) 0 ∷ drop (i + 4) n
 next_word n i k = rw (next_byte n i (i + 1) refl (omega arith), next_byte n (i + 1) (i + 2) (omega arith) (omega arith), next_byte n (i + 2) (i + 3) (omega arith) (omega arith), next_byte n (i + 3) (i + 4) (omega arith) (omega arith))
 
-pub words_on : (n : Name) (i g h : ℕ) → i + 4 ≤ length n → hash_of n ≡ hash_from g h (drop i n)
-    → hash_of n ≡ hash_from (mixed g (get_or n i 0 + 256 * get_or n (i + 1) 0 + 65536 * (get_or n (i + 2) 0 + 256 * get_or n (i + 2 + 1) 0)))
-    (spread h (get_or n i 0 + 256 * get_or n (i + 1) 0 + 65536 * (get_or n (i + 2) 0 + 256 * get_or n (i + 2 + 1) 0))) (drop (i + 4) n)
-words_on n i g h k e =
-    rw (← (third i)) (e ∙ ap (hash_from g h) (next_word n i k) ∙ word_more g h (get_or n i 0) (get_or n (i + 1) 0) (get_or n (i + 2) 0) (get_or n (i + 3) 0) (drop (i + 4) n))
+-- the i-th part of four bytes
+chunk : (k i : ℕ) (n : Name) → i < k → get_or (first_chunks 4 k n) i [] ≡ take 4 (drop (4 * i) n)
+chunk zero i n h = absurd (omega arith)
+chunk (suc k) zero n h = refl
+chunk (suc k) (suc i) n h = let e : 4 * suc i ≡ 4 + 4 * i = omega arith in rw (chunk k i (drop 4 n) (omega arith), drop-drop (4 * i) 4 n, e)
+
+in_chunk : (n : Name) (p j : ℕ) → j < 4 → get_or (take 4 (drop p n)) j 0 ≡ get_or n (p + j) 0
+in_chunk n p j h = get_or-take 4 (drop p n) j 0 h ∙ get_or-drop p n j 0
+
+pub words_on : (n : Name) (parts : List (List ℕ)) (i g h w : ℕ) → parts ≡ first_chunks 4 (length n / 4) n → length parts ≡ length n / 4 → i < length parts
+    → w ≡ get_or (get_or parts i []) 0 0 + get_or (get_or parts i []) 1 0 * 256 + get_or (get_or parts i []) 2 0 * 65536 + get_or (get_or parts i []) 3 0 * 16777216
+    → hash_of n ≡ hash_from g h (drop (4 * i) n) → hash_of n ≡ hash_from (mixed g w) (spread h w) (drop (4 * (i + 1)) n)
+words_on n parts i g h w e l k b q =
+    let p : ℕ = 4 * i in
+    let c : get_or parts i [] ≡ take 4 (drop p n) = rw e (chunk (length n / 4) i n (omega arith)) in
+    let z : p + 0 ≡ p = omega arith in
+    let first : get_or (take 4 (drop p n)) 0 0 ≡ get_or n p 0 = in_chunk n p 0 (omega arith) ∙ rw z in
+    let v : w ≡ get_or n p 0 + 256 * get_or n (p + 1) 0 + 65536 * (get_or n (p + 2) 0 + 256 * get_or n (p + 3) 0) =
+    omega (arith, rw c at b, first, in_chunk n p 1 (omega arith), in_chunk n p 2 (omega arith), in_chunk n p 3 (omega arith)) in
+    let f : 4 * (i + 1) ≡ p + 4 = omega arith in
+    rw (v, f) (q ∙ ap (hash_from g h) (next_word n p (omega arith)) ∙ word_more g h (get_or n p 0) (get_or n (p + 1) 0) (get_or n (p + 2) 0) (get_or n (p + 3) 0) (drop (p + 4) n))
 
 few : (g h : ℕ) (s : Name) → length s < 4 → hash_from g h s ≡ bytes_from (mixed g h) s
 unfolding hash_from bytes_from
@@ -49,25 +63,20 @@ few g h (a ∷ b ∷ []) k = refl
 few g h (a ∷ b ∷ c ∷ []) k = refl
 few g h (a ∷ b ∷ c ∷ d ∷ s) k = absurd (omega arith)
 
-fours_at : (n : Name) (i : ℕ) → i ≤ length n → length n - i < 4 → i % 4 ≡ 0 → i ≡ fours n
+pub words_end : (n : Name) (i g h : ℕ) → i ≡ length n / 4 → hash_of n ≡ hash_from g h (drop (4 * i) n) → hash_of n ≡ bytes_from (mixed g h) (drop (fours n) n)
 unfolding fours
-fours_at n i h k m = omega arith
-
-pub words_end : (n : Name) (i g h : ℕ) → i ≤ length n → length n - i < 4 → i % 4 ≡ 0 → hash_of n ≡ hash_from g h (drop i n) → hash_of n ≡ bytes_from (mixed g h) (drop (fours n) n)
-words_end n i g h k l m e = e ∙ few g h (drop i n) (rw length-drop l) ∙ ap (λ (j : ℕ). bytes_from (mixed g h) (drop j n)) (fours_at n i k l m)
+words_end n i g h k e =
+    let f : 4 * i ≡ length n / 4 * 4 = omega arith in
+    e ∙ few g h (drop (4 * i) n) (rw length-drop (omega arith)) ∙ rw f
 
 -- the last bytes, one by one
-bytes_more : (name : Name) (i h : ℕ) → i < length name → bytes_from h (drop i name) ≡ bytes_from (mixed h (get_or name i 0)) (drop (i + 1) name)
+pub bytes_on : (rest : Name) (i h : ℕ) → i < length rest → bytes_from h (drop i rest) ≡ bytes_from (mixed h (get_or rest i 0)) (drop (i + 1) rest)
 unfolding bytes_from
-bytes_more name i h k = rw (next_byte name i (i + 1) refl k)
+bytes_on rest i h k = rw (next_byte rest i (i + 1) refl k)
 
-pub bytes_on : (name : Name) (i h : ℕ) → i < length name → hash_of name ≡ bytes_from h (drop i name)
-    → hash_of name ≡ bytes_from (mixed h (get_or name i 0)) (drop (i + 1) name)
-bytes_on name i h k e = e ∙ bytes_more name i h k
-
-pub bytes_end : (name : Name) (i h : ℕ) → length name ≤ i → hash_of name ≡ bytes_from h (drop i name) → h ≡ hash_of name
+pub bytes_end : (rest : Name) (i h : ℕ) → length rest ≤ i → bytes_from h (drop i rest) ≡ h
 unfolding bytes_from
-bytes_end name i h k e = sym (e ∙ rw (drop_of_length-le name {i = i} k))
+bytes_end rest i h k = rw (drop_of_length-le rest {i = i} k)
 
 small_bytes : (n : Name) (h : ℕ) → h < 4294967296 → bytes_from h n < 4294967296
 unfolding bytes_from

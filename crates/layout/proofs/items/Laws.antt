@@ -1,17 +1,12 @@
 -- The definitions in the code's own terms.
 -- Assumes nothing.
 use mathlib.Core.List.{List}
-use mathlib.Core.Path.{◌≡◌, refl, sym}
+use mathlib.Core.Path.{◌≡◌, refl}
 use Prim.Native.Nat.{ℕ, zero, suc, ◌+◌, ◌-◌, ◌*◌, ◌≤◌, ◌<◌, min}
 use native.Mathlib.Numerals.{sub-one}
 use native.Mathlib.Omega.{arith}
-use lib.ListN.{length, get_or, get_or-eq_default}
+use lib.ListN.{length, get_or}
 use Rattle.layout.specs.items.At.{byte_at, past_at, number_at, name_past_of, names_past_of}
-
--- past the end
-pub byte_out : (s : List ℕ) (at : ℕ) → length s ≤ at → 0 ≡ byte_at s at
-unfolding byte_at
-byte_out s at h = sym (get_or-eq_default s 0 {n = at} h)
 
 -- a number whose two bytes are there
 pub number_inside : (s : List ℕ) (at : ℕ) → at + 1 < length s → number_at s at ≡ get_or s at 0 + 256 * get_or s (at + 1) 0

@@ -1,15 +1,17 @@
 -- Laws of names: equality, and the name that stands at a place.
 -- Assumes nothing.
-use mathlib.Core.Path.{◌≡◌, sym, ap, ◌∙◌}
+use mathlib.Core.Path.{◌≡◌, refl, sym, ap, ◌∙◌}
 use mathlib.Core.Logic.{⊎_elim}
 use mathlib.Core.List.{List, [], ◌∷◌, ◌++◌}
-use mathlib.Core.Bool.{true, false}
+use mathlib.Core.Bool.{Bool, true, false, cond, ◌&&◌}
 use Prim.Native.Nat.{ℕ, ◌+◌, ◌-◌, ◌≤◌, ◌<◌}
 use native.Mathlib.Omega.{arith}
 use native.Mathlib.Numerals.{add-one}
+use lib.Dec.{eqb}
+use lib.Pointwise.{pointwise}
 use lib.ListN.{length, get_or, drop, drop_of_length-le, length-take, length-drop}
 use lib.Seq.{drop-cons, take-append_seam, take-nil, take_all, drop-drop, get_or-drop}
-use borrow.Author.Tests.{eq-eqb, ne_eqb}
+use borrow.Author.Tests.{eq-eqb}
 use Rattle.definition.specs.Tree.{Name}
 use Rattle.definition.specs.Names.{eq_name}
 use Rattle.definition.specs.Write.{w_name}
@@ -22,16 +24,24 @@ pub eq_head : (x y : ℕ) (xs ys : Name) → x ≡ y → eq_name (x ∷ xs) (y �
 unfolding eq_name
 eq_head x y xs ys e = rw (eq-eqb x y e)
 
-pub ne_head : (x y : ℕ) (xs ys : Name) → (x ≡ y → ⊥) → eq_name (x ∷ xs) (y ∷ ys) ≡ false
-unfolding eq_name
-ne_head x y xs ys e = rw (ne_eqb x y e)
-
 pub ne_name : (a b : Name) → (a ≡ b → ⊥) → eq_name a b ≡ false
 ne_name a b f = ⊎_elim (λ e. absurd (f (eq_name-true a b e))) (λ e. e) (yes_no (eq_name a b))
 
 -- names of different length are different
 pub ne_length : (a b : Name) → (length a ≡ length b → ⊥) → eq_name a b ≡ false
 ne_length a b f = ne_name a b (λ e. f (ap length e))
+
+-- the library's equality of lists, item by item, is that of names
+pub by_item : (a b : Name) → pointwise eqb a b ≡ eq_name a b
+unfolding eq_name
+by_item [] [] = refl
+by_item [] (y ∷ b) = refl
+by_item (x ∷ a) [] = refl
+by_item (x ∷ a) (y ∷ b) = rw (by_item a b) (both (eqb x y) (eq_name a b))
+  where
+    both : (p q : Bool) → (p && q) ≡ cond p q false
+    both true q = refl
+    both false q = refl
 
 -- byte by byte
 module _ (a b : Name) (i : ℕ) (h : i < length a) (k : length a ≡ length b) where
@@ -40,9 +50,6 @@ module _ (a b : Name) (i : ℕ) (h : i < length a) (k : length a ≡ length b) w
 
   pub same_on : get_or a i 0 ≡ get_or b i 0 → eq_name (drop i a) (drop i b) ≡ eq_name (drop (i + 1) a) (drop (i + 1) b)
   same_on e = heads ∙ eq_head _ _ _ _ e
-
-  pub same_not : (get_or a i 0 ≡ get_or b i 0 → ⊥) → eq_name (drop i a) (drop i b) ≡ false
-  same_not e = heads ∙ ne_head _ _ _ _ e
 
 pub same_end : (a b : Name) (i : ℕ) → length a ≤ i → length a ≡ length b → eq_name (drop i a) (drop i b) ≡ true
 same_end a b i h k = rw (drop_of_length-le a {i = i} h, drop_of_length-le b {i = i} (omega arith)) (eq_name_refl [])

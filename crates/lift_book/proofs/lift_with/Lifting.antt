@@ -9,7 +9,7 @@ use lib.Dec.{leb}
 use lib.ListN.{length, take, get_or}
 use lib.Seq.{get_or-take, length-take-le}
 use borrow.Author.Tests.{le-leb, lt-leb}
-use Rattle.definition.specs.Code.{Code, number, output_short}
+use Rattle.definition.specs.Code.{Code, output_short}
 use Rattle.definition.specs.Res.{Res, ok}
 use Rattle.definition.specs.Out.{Out, refused, done, ◌>>=◌, given}
 use Rattle.definition.specs.Tree.{Definition}
@@ -32,14 +32,17 @@ use Rattle.lift_tables.specs.declared.enter_lift.Counts.{Counts}
 use Rattle.lift_tables.specs.enter_lift.Sheet.{Sheet, sheet_of}
 use Rattle.expand_definitions.specs.walked.Hands.{Hands}
 use Rattle.expand_definitions.proofs.walked.Agree.{walks_as_traced}
-use Rattle.expand_combinator.specs.declared.body.Body.TheVariants.{Named, Refused as Stopped}
+use Rattle.expand_combinator.specs.declared.body.Named.{Named}
 use Rattle.expand_combinator.specs.open_child.Good.{Good}
 use Rattle.expand_combinator.specs.body.Walks.{Ends}
 use Rattle.expand_definitions.specs.naming_pass.Expands.{Starts, Expands}
 use Rattle.write_result.specs.result.Model.{tables}
 use Rattle.write_result.specs.result.Held.{Held, Writes}
 use Rattle.write_result.proofs.result.Numbered.{numbered_by}
-use Rattle.what_comes_back.specs.declared.Elaborated.TheVariants.{Done, Refused}
+use Rattle.std.specs.Prelude.{Ok, Err}
+use Rattle.what_comes_back.specs.declared.Code.{Code as CodeOf}
+use Rattle.what_comes_back.specs.declared.Code.TheVariants.{OutputShort}
+use Rattle.what_comes_back.specs.Codes.{code_of}
 use Rattle.what_comes_back.specs.Elaborates.{elaborated_as, Reports, lifted, Expanded, Lifts}
 use Rattle.lift_book.specs.lift_with.Lent.{Lent}
 
@@ -61,10 +64,10 @@ comes ds = rw (counted_in_bytes ds []) (elaborated_by_places ds [])
 
 -- The same refusal, or what both passes hand over -------------------------------------------------
 
-record Refusal (m : Out Result) (c : ℕ) : Type 0 where
+record Refused (m : Out Result) (c : CodeOf) : Type 0 where
   pub code : Code
   pub is : m ≡ refused code
-  pub numbered : c ≡ number code
+  pub told : c ≡ code_of code
 
 record Handed (s : List ℕ) (ds : List Definition) (b : Res Trace Unit) (m : Out Result) (u : Sheet) (G : Type 0) : Type 0 where
   pub trace : Trace
@@ -76,16 +79,16 @@ record Handed (s : List ℕ) (ds : List Definition) (b : Res Trace Unit) (m : Ou
   pub good : G
 
 module _ {s : List ℕ} {ds : List Definition} (sheet : Counts → ℕ → Sheet) (good : Counts → ℕ → Type 0) where
-  refusal : {a : Res Sheet Unit} {b : Res Trace Unit} {m : Out Result} {c : ℕ} → Both (λ x u y t. Hands u t) a b → Comes s ds b m → Ends a (Stopped c) sheet good → Refusal m c
+  refusal : {a : Res Sheet Unit} {b : Res Trace Unit} {m : Out Result} {c : CodeOf} → Both (λ x u y t. Hands u t) a b → Comes s ds b m → Ends a (Err c) sheet good → Refused m c
   unfolding Ends
-  refusal refusals refuses e = record { code = _; is = refl; numbered = e }
+  refusal refusals refuses e = record { code = _; is = refl; told = e }
   refusal (values h) (gives g) e = absurd e
 
-  handed : {a : Res Sheet Unit} {b : Res Trace Unit} {m : Out Result} (v : Counts) (n : ℕ) → Both (λ x u y t. Hands u t) a b → Comes s ds b m → Ends a (Named v n) sheet good
-      → Handed s ds b m (sheet v n) (good v n)
+  handed : {a : Res Sheet Unit} {b : Res Trace Unit} {m : Out Result} (v : Named) → Both (λ x u y t. Hands u t) a b → Comes s ds b m → Ends a (Ok v) sheet good
+      → Handed s ds b m (sheet v.counts v.finished) (good v.counts v.finished)
   unfolding Ends
-  handed v n refusals refuses e = absurd e
-  handed v n (values h) (gives g) e = record { trace = _; traced = refl; result = _; is = refl; gave = g; hands = rw (← e.0) h; good = e.1 }
+  handed v refusals refuses e = absurd e
+  handed v (values h) (gives g) e = record { trace = _; traced = refl; result = _; is = refl; gave = g; hands = rw (← e.0) h; good = e.1 }
 
 -- Where the lifts stand ---------------------------------------------------------------------------
 
@@ -104,21 +107,27 @@ in-book ds t e i h =
 
 module _ {m : Out Result} {out : List ℕ} where
   -- codes 7 to 10
-  reports_refusal : {c : ℕ} → Refusal m c → Reports 0 (m >>= λ r. given (leb (length (w_book (all r))) (length out)) output_short r) out out (Refused c 0)
+  reports_refusal : {c : CodeOf} → Refused m c → Reports 0 (m >>= λ r. given (leb (length (w_book (all r))) (length out)) output_short r) out out (Err (record { code = c; at = 0 }))
   unfolding elaborated_as filled
-  reports_refusal f = record { answers = rw (f.is, f.numbered); fills = rw f.is }
+  reports_refusal f = record { answers = rw (f.is, f.told); fills = rw f.is }
 
 module _ {s made rows params number order : List ℕ} where
-  pub lifts_refused : {out : List ℕ} {c : ℕ} → Expands s made rows params number order (Stopped c) → Lifts s out out (Refused c 0)
+  pub lifts_refused : {out : List ℕ} {c : CodeOf} → Expands s made rows params number order (Err c) → Lifts s out out (Err (record { code = c; at = 0 }))
   unfolding lifted
   lifts_refused x = record { lifts = λ ds w b q. reports_refusal (refusal _ _ (walks_as_traced ds) (comes ds) (x.expands ds w b)) }
 
-  module _ {v : Counts} {n : ℕ} (x : Expands s made rows params number order (Named v n)) where
+  module _ {r : Named} (x : Expands s made rows params number order (Ok r)) where
+    abbrev v : Counts
+    v = r.counts
+
+    abbrev n : ℕ
+    n = r.finished
+
     abbrev Given : List Definition → Type 0
     Given ds = Handed (w_book ds ++ []) ds (trace_book tree_head ds) (outcome (lift_book_of ds)) (sheet_of s made x.places rows params (take n order) v) (Good s made x.places x.ways x.hints rows params number order v n)
 
     given_by : (ds : List Definition) → s ≡ w_book ds → IsBook ds → Given ds
-    given_by ds w b = handed _ _ v n (walks_as_traced ds) (comes ds) (x.expands ds w b)
+    given_by ds w b = handed _ _ r (walks_as_traced ds) (comes ds) (x.expands ds w b)
 
     module _ (ds : List Definition) (w : s ≡ w_book ds) (h : Given ds) where
       few : n ≤ 512
@@ -160,14 +169,14 @@ module _ {s made rows params number order : List ℕ} where
       lifts_count = h.gave.lifts ∙ sym finished_count
 
       -- code 11
-      short_out : {out : List ℕ} → length out < v.bytes → Reports 0 (lifted ds (length out)) out out (Refused 11 0)
-      unfolding lifted elaborated_as filled number
+      short_out : {out : List ℕ} → length out < v.bytes → Reports 0 (lifted ds (length out)) out out (Err (record { code = OutputShort; at = 0 }))
+      unfolding lifted elaborated_as filled
       short_out {out} l =
           let e : length out < length (w_book (all h.result)) = rw bytes l in
           record { answers = rw (h.is, lt-leb _ _ e); fills = rw (h.is, lt-leb _ _ e) }
 
       written : {out out' : List ℕ} {k : ℕ} → v.bytes ≤ length out → IsBook (all h.result) → Writes (tables s made rows params number) order n out out' k
-          → Reports 0 (lifted ds (length out)) out out' (Done v.bytes v.defns n)
+          → Reports 0 (lifted ds (length out)) out out' (Ok (record { length = v.bytes; definitions = v.defns; lifted = n }))
       unfolding lifted elaborated_as filled
       written {out} l b f =
           let e : length (w_book (all h.result)) ≤ length out = rw bytes l in
@@ -176,10 +185,10 @@ module _ {s made rows params number order : List ℕ} where
             fills = rw (h.is, le-leb _ _ e) ((f ds [] h.trace h.result h.traced h.is b held).holds e);
           }
 
-    pub lifts_short : {out : List ℕ} → length out < v.bytes → Lifts s out out (Refused 11 0)
+    pub lifts_short : {out : List ℕ} → length out < v.bytes → Lifts s out out (Err (record { code = OutputShort; at = 0 }))
     lifts_short l = record { lifts = λ ds w b q. short_out ds w (given_by ds w b) l }
 
-    pub lifts_written : {out out' : List ℕ} {k : ℕ} → v.bytes ≤ length out → Writes (tables s made rows params number) order n out out' k → Lifts s out out' (Done v.bytes v.defns n)
+    pub lifts_written : {out out' : List ℕ} {k : ℕ} → v.bytes ≤ length out → Writes (tables s made rows params number) order n out out' k → Lifts s out out' (Ok (record { length = v.bytes; definitions = v.defns; lifted = n }))
     lifts_written l f = record { lifts = λ ds w b q. let h = given_by ds w b in written ds w h l (q h.result h.is) f }
 
     -- each number fits in 16 bits

@@ -8,7 +8,7 @@ use native.Mathlib.Omega.{arith}
 use lib.Dec.{eqb}
 use lib.ListN.{length}
 use Rattle.definition.specs.Tree.{Name, Shell, CaseKind, enums, ints, arrays, FieldKind, ordinary, dependent, Combinator, plain, chained, Inner, leaf, struct, choice, shell, bytes, invocation, macro_invocation, Fields, field, Cases, case}
-use Rattle.definition.specs.Write.{w_name, w_label, w_open, count_f, count_c, case_byte, field_byte, w_combinator, w_fields, w_cases}
+use Rattle.definition.specs.Write.{w_name, w_label, w_open, count_f, count_c, field_byte, w_combinator, w_fields, w_cases}
 use Rattle.definition.specs.Size.{size, levels}
 use Rattle.laws.proofs.Sizes.{adds, size_i, size-plain, size-chained, size-field, size-case, size-shell}
 use Rattle.laws.proofs.Splits.{s_comb, s_label, s_name, Splits}
@@ -19,12 +19,12 @@ use Rattle.layout.specs.items.At.{byte_at, past_at, pick}
 use Rattle.layout.specs.items.Here.{Here}
 use Rattle.layout.proofs.items.Here.{here_length, past_here, byte_here, next_here}
 use Rattle.lift_combinator.specs.declared.frames.Frame.{Frame}
-use Rattle.lift_combinator.specs.done.Done.{binding, bind_by, bound_after, delivered}
+use Rattle.lift_combinator.specs.done.Done.{are_fields, kind_after, binding, bind_by, bound_after, delivered}
 use Rattle.lift_tables.specs.enter_lift.Bound.{Bound}
 use Rattle.lifting.specs.After.{field_at, case_at, shell_at}
 use Rattle.lift_combinator.specs.naming.Walk.{Extent, binds}
 use Rattle.lift_combinator.specs.naming.Nodes.{Rest, fields, cases, one, Own, Link, ahead, behind, Node, linked, for_chain, for_field, for_case, for_one, advanced, deliver}
-use Rattle.lift_combinator.specs.naming.Frames.{RestIs, size_rest, levels_rest, levels_link, LinkIs, FrameIs}
+use Rattle.lift_combinator.specs.naming.Frames.{kind_of, RestIs, size_rest, levels_rest, levels_link, LinkIs, FrameIs}
 use Rattle.lift_combinator.proofs.naming.Bound.{bound_more}
 
 -- behind what was written
@@ -58,23 +58,23 @@ name_some : (a : Name) → 1 ≤ length (w_name a [])
 unfolding w_name
 name_some a = omega arith
 
-no_bind : (j : CaseKind) (b : Bool) → pick (eqb (1 + case_byte j) 1) b false ≡ false
-unfolding case_byte
+no_bind : (j : CaseKind) (b : Bool) → pick (are_fields (kind_of j)) b false ≡ false
+unfolding kind_of are_fields
 no_bind enums b = refl
 no_bind ints b = refl
 no_bind arrays b = refl
 
-five : (j : CaseKind) → pick (eqb (1 + case_byte j) 5) 0 (1 + case_byte j) ≡ 1 + case_byte j
-unfolding case_byte
-five enums = refl
-five ints = refl
-five arrays = refl
+cases_stay : (j : CaseKind) → kind_after (kind_of j) ≡ kind_of j
+unfolding kind_of kind_after
+cases_stay enums = refl
+cases_stay ints = refl
+cases_stay arrays = refl
 
 module _ (at done : ℕ) (name : Name) (env : List Bound) (own : Own) where
   abbrev pub node : Link → Rest → Node
   node l r = record { link = l; rest = r; at = at; done = done; name = name; env = env; own = own }
 
-  module _ {s path binders : List ℕ} {k : ℕ} {f : Frame} (z : Extent) where
+  module _ {s path binders : List ℕ} {k : ℕ} {f : Frame ℕ} (z : Extent) where
     pub back_chain : (c : Combinator) (p : ℕ) (r : Rest) (q : ℕ) → FrameIs s path binders k f (node (ahead c p) r)
         → FrameIs s path (bind_by s f q z.inner binders) k (delivered f q (q + size c) z.whole (bound_after s f)) (deliver (for_chain (node (ahead c p) r)) z)
     unfolding LinkIs bind_by bound_after binding delivered deliver linked levels_link
@@ -107,7 +107,7 @@ module _ (at done : ℕ) (name : Name) (env : List Bound) (own : Own) where
           let m : f.here + length (w_label j x []) + length (w_combinator c []) ≡ at + length (w_label j x []) + length (w_combinator c []) = omega (arith, g.here) in
           rw (g.link.0, g.rest.1, no_bind j (eqb (byte_at s f.here) 2), e) (record {
             after = y;
-            rest = (rw m at v, five j, omega (arith, g.rest.2), omega (arith, g.rest.3));
+            rest = (rw m at v, cases_stay j, omega (arith, g.rest.2), omega (arith, g.rest.3));
             ends = omega (arith, g.ends, g.here);
             here = refl;
             done = rw g.done;
@@ -122,7 +122,7 @@ module _ (at done : ℕ) (name : Name) (env : List Bound) (own : Own) where
 
       pub back_one : (x : Shell) (c : Combinator) → FrameIs s path binders k f (node (behind l) (one x c))
           → FrameIs s path (bind_by s f (shell_at at x) z.inner binders) k (delivered f (shell_at at x) (shell_at at x + size c) z.whole (bound_after s f)) (deliver (for_one x c (node (behind l) (one x c))) z)
-      unfolding LinkIs RestIs size_rest levels_rest bind_by bound_after binding delivered deliver advanced size
+      unfolding LinkIs RestIs size_rest levels_rest are_fields kind_after bind_by bound_after binding delivered deliver advanced size
       back_one x c g =
           let e : shell_at at x - f.here ≡ length (w_open x []) = omega (arith, g.here) in
           rw (g.link.0, g.rest.1, e) (record {
@@ -142,7 +142,7 @@ module _ (at done : ℕ) (name : Name) (env : List Bound) (own : Own) where
 
       pub back_field : (j : FieldKind) (a : Name) (c : Combinator) (h : Fields) → FrameIs s path binders k f (node (behind l) (fields (field j a c h)))
           → FrameIs s path (bind_by s f (field_at at a) z.inner binders) k (delivered f (field_at at a) (field_at at a + size c) z.whole (bound_after s f)) (deliver (for_field j a c h (node (behind l) (fields (field j a c h)))) z)
-      unfolding LinkIs RestIs size_rest levels_rest levels bind_by bound_after binding delivered deliver advanced w_combinator count_f size binds field_byte
+      unfolding LinkIs RestIs size_rest levels_rest levels are_fields kind_after bind_by bound_after binding delivered deliver advanced w_combinator count_f size binds field_byte
       back_field ordinary a c h g =
           let y = g.after in
           let r = g.rest.0 in

@@ -15,9 +15,10 @@ use Rattle.layout.specs.items.Here.{Here}
 use Rattle.layout.proofs.items.Here.{here_length, byte_here, next_here, number_here, number_past, name_here}
 use Rattle.lift_combinator.specs.frames.Frames.{start, cases_begin, begin_at}
 use Rattle.lift_combinator.specs.naming.Nodes.{rest_of, skip}
-use Rattle.lift_combinator.specs.naming.Frames.{RestIs, Begins}
+use Rattle.lift_combinator.specs.declared.frames.Kind.TheVariants as kind
+use Rattle.lift_combinator.specs.naming.Frames.{kind_of, RestIs, Begins}
 
-begin_leaf : (k : Leaf) (x z : List ℕ) {s : List ℕ} {p : ℕ} → Here s p (leaf_tag k ∷ w_text x z) → begin_at s p ≡ start p 0 0
+begin_leaf : (k : Leaf) (x z : List ℕ) {s : List ℕ} {p : ℕ} → Here s p (leaf_tag k ∷ w_text x z) → begin_at s p ≡ start p kind.Nothing 0
 unfolding begin_at leaf_tag
 begin_leaf constraint_int x z h = rw (byte_here h)
 begin_leaf constraint_enum x z h = rw (byte_here h)
@@ -27,7 +28,7 @@ begin_leaf tail x z h = rw (byte_here h)
 begin_leaf nothing x z h = rw (byte_here h)
 begin_leaf never x z h = rw (byte_here h)
 
-begin_shell : (x : Shell) (c : Combinator) (z : List ℕ) {s : List ℕ} {p : ℕ} → Here s p (w_open x (w_combinator c z)) → begin_at s p ≡ start p 5 1
+begin_shell : (x : Shell) (c : Combinator) (z : List ℕ) {s : List ℕ} {p : ℕ} → Here s p (w_open x (w_combinator c z)) → begin_at s p ≡ start p kind.One 1
 unfolding begin_at w_open
 begin_shell (wrap a b) c z h = rw (byte_here h)
 begin_shell vec c z h = rw (byte_here h)
@@ -35,27 +36,27 @@ begin_shell option c z h = rw (byte_here h)
 begin_shell (array l) c z h = rw (byte_here h)
 
 module _ {s : List ℕ} {p : ℕ} (z : List ℕ) where
-  begin_bytes : Here s p (10 ∷ z) → begin_at s p ≡ start p 0 0
+  begin_bytes : Here s p (10 ∷ z) → begin_at s p ≡ start p kind.Nothing 0
   unfolding begin_at
   begin_bytes h = rw (byte_here h)
 
-  begin_call : Here s p (15 ∷ z) → begin_at s p ≡ start p 0 0
+  begin_call : Here s p (15 ∷ z) → begin_at s p ≡ start p kind.Nothing 0
   unfolding begin_at
   begin_call h = rw (byte_here h)
 
-  begin_macro : Here s p (16 ∷ z) → begin_at s p ≡ start p 0 0
+  begin_macro : Here s p (16 ∷ z) → begin_at s p ≡ start p kind.Nothing 0
   unfolding begin_at
   begin_macro h = rw (byte_here h)
 
-begin_struct : (n : ℕ) {s : List ℕ} {p : ℕ} (z : List ℕ) → Here s p (4 ∷ w_u16 n z) → begin_at s p ≡ start (past_at s (past_at s p 1) 2) 1 n
+begin_struct : (n : ℕ) {s : List ℕ} {p : ℕ} (z : List ℕ) → Here s p (4 ∷ w_u16 n z) → begin_at s p ≡ start (past_at s (past_at s p 1) 2) kind.Fields n
 unfolding begin_at
 begin_struct n z h = rw (byte_here h, number_here n z (next_here h))
 
 begin_cases : (k : CaseKind) {s : List ℕ} {a : ℕ} (f : Cases) (z : List ℕ) → Here s a (case_byte k ∷ w_u16 (count_c f) (w_cases f k z))
-    → pick (eqb (byte_at s a) 1) (start (past_at s (past_at s a 1) 2) 2 (number_at s (past_at s a 1)))
-    (pick (eqb (byte_at s a) 2) (start (past_at s (past_at s a 1) 2) 3 (number_at s (past_at s a 1))) (start (past_at s (past_at s a 1) 2) 4 (number_at s (past_at s a 1))))
-    ≡ start (past_at s (past_at s a 1) 2) (1 + case_byte k) (count_c f)
-unfolding case_byte
+    → pick (eqb (byte_at s a) 1) (start (past_at s (past_at s a 1) 2) kind.Enums (number_at s (past_at s a 1)))
+    (pick (eqb (byte_at s a) 2) (start (past_at s (past_at s a 1) 2) kind.Ints (number_at s (past_at s a 1))) (start (past_at s (past_at s a 1) 2) kind.Arrays (number_at s (past_at s a 1))))
+    ≡ start (past_at s (past_at s a 1) 2) (kind_of k) (count_c f)
+unfolding case_byte kind_of
 begin_cases enums f z h = rw (byte_here h, number_here (count_c f) (w_cases f enums z) (next_here h))
 begin_cases ints f z h = rw (byte_here h, number_here (count_c f) (w_cases f ints z) (next_here h))
 begin_cases arrays f z h = rw (byte_here h, number_here (count_c f) (w_cases f arrays z) (next_here h))
@@ -67,7 +68,7 @@ selector_is none h = rw (byte_here h) (next_here h)
 selector_is (by n) h = rw (byte_here h) (name_here n (next_here h))
 
 begin_choice : (x : Selector) (k : CaseKind) (f : Cases) {s : List ℕ} {p : ℕ} (z : List ℕ) → Here s p (7 ∷ w_selector x (case_byte k ∷ w_u16 (count_c f) (w_cases f k z)))
-    → begin_at s p ≡ start (past_at s (past_at s (selector_past_of s (past_at s p 1)) 1) 2) (1 + case_byte k) (count_c f)
+    → begin_at s p ≡ start (past_at s (past_at s (selector_past_of s (past_at s p 1)) 1) 2) (kind_of k) (count_c f)
 unfolding begin_at cases_begin
 begin_choice x k f z h = rw (byte_here h) (begin_cases k f z (selector_is x (next_here h)))
 

@@ -8,7 +8,9 @@ use Prim.Native.Nat.{ℕ, suc, ◌≤◌, ◌<◌}
 use native.Mathlib.Omega.{arith}
 use lib.ListN.{length, take}
 use borrow.Author.Tests.{le-leb, lt-leb}
-use Rattle.definition.specs.Code.{number}
+use Rattle.std.specs.Prelude.{Result, Ok, Err}
+use Rattle.what_comes_back.specs.declared.Code.{Code}
+use Rattle.what_comes_back.specs.declared.Code.TheVariants.{LeftoverMacro, NameLong}
 use Rattle.definition.specs.Res.{Res, bad, ok, ◌>>=◌}
 use Rattle.definition.specs.Tree.{Name, Combinator}
 use Rattle.definition.specs.Names.{eq_name, before, insert, sorted, fresh}
@@ -21,7 +23,6 @@ use Rattle.laws.proofs.Splits.{s_comb}
 use Rattle.layout.proofs.items.Here.{here_length}
 use Rattle.collect_params.specs.uses.Uses.{names_in_of}
 use Rattle.collect_params.proofs.collect.Room.{free_room}
-use Rattle.collect_params.specs.declared.params.Params.TheVariants.{Sorted, Leftover}
 use Rattle.collect_params.specs.params.Params.{params_at}
 use Rattle.collect_params.proofs.params.Parameters.{params_leftover, params_count, params_names}
 use Rattle.generated_name.specs.child_name.Name.{Held}
@@ -29,13 +30,12 @@ use Rattle.name_table.specs.taken.Taken.{both, taken, Hints}
 use Rattle.generated_name.proofs.child_name.Held.{held_whole}
 use Rattle.lift_tables.specs.declared.enter_lift.Counts.{Counts}
 use Rattle.lift_tables.specs.declared.enter_lift.Lifted.{Lifted}
-use Rattle.lift_tables.specs.declared.enter_lift.Lifted.TheVariants as lifted
 use Rattle.lift_tables.specs.enter_lift.Bound.{Bound}
 use Rattle.lift_tables.specs.enter_lift.Sheet.{Sheet, sheet_of, Tables, Gives}
 use Rattle.lift_tables.specs.enter_lift.Enters.{Enters}
-use Rattle.lift_combinator.specs.declared.naming.Named.TheVariants.{Refused}
+use Rattle.lift_combinator.specs.declared.naming.Lift.{Lift}
 use Rattle.lift_combinator.specs.naming.Walk.{starts}
-use Rattle.lift_combinator.specs.naming.Lifts.{Whole, Scratch, named_of, Answers, Lifts}
+use Rattle.lift_combinator.specs.naming.Lifts.{Whole, Scratch, Answers, Lifts}
 
 -- a name in the path, by its length
 name_over : {d : List ℕ} {n : ℕ} {name : Name} → Held d n name → length d ≡ 255 → 255 < n → 255 < length name
@@ -62,13 +62,13 @@ sorted_short (n ∷ l) = omega (arith, insert_short n (sorted l), sorted_short l
 
 -- collection, by what it answers
 module _ {s : List ℕ} {at end : ℕ} {c : Combinator} (w : Whole s at end c) (bound uses spare : List ℕ) (x : Scratch s bound uses spare) (short : length s ≤ 16384) where
-  pub clear : {k : ℕ} → (params_at s at bound uses spare).0 ≡ Sorted k → leftover c ≡ false
+  pub clear : {k : ℕ} → (params_at s at bound uses spare).0 ≡ Ok k → leftover c ≡ false
   clear {k} e = ⊎_elim
       (λ (h : leftover c ≡ true). let q = params_leftover s at c w.after x.small (omega arith) w.deep w.is bound uses spare x.labels h in let z : ◌≡◌ {A = ℕ} 0 1 = cc in absurd (omega arith))
       (λ (h : leftover c ≡ false). h)
       (yes_no (leftover c))
 
-  pub left_over : (params_at s at bound uses spare).0 ≡ Leftover → leftover c ≡ true
+  pub left_over : {d : Code} → (params_at s at bound uses spare).0 ≡ Err d → leftover c ≡ true
   left_over e = ⊎_elim
       (λ (h : leftover c ≡ true). h)
       (λ (h : leftover c ≡ false).
@@ -76,7 +76,10 @@ module _ {s : List ℕ} {at end : ℕ} {c : Combinator} (w : Whole s at end c) (
       let z : ◌≡◌ {A = ℕ} 0 1 = cc in absurd (omega arith))
       (yes_no (leftover c))
 
-  module _ {k : ℕ} (e : (params_at s at bound uses spare).0 ≡ Sorted k) where
+  pub left_code : {d : Code} → (params_at s at bound uses spare).0 ≡ Err d → d ≡ LeftoverMacro
+  left_code e = let q = params_leftover s at c w.after x.small (omega arith) w.deep w.is bound uses spare x.labels (left_over e) in cc
+
+  module _ {k : ℕ} (e : (params_at s at bound uses spare).0 ≡ Ok k) where
     count : k ≡ length (sorted (free c))
     count = let q = params_count s at c w.after x.small (omega arith) w.deep w.is bound uses spare x.labels (clear e) x.uses_long x.spare_long in cc
 
@@ -86,13 +89,18 @@ module _ {s : List ℕ} {at end : ℕ} {c : Combinator} (w : Whole s at end c) (
     pub are_sorted : names_in_of s (take k (params_at s at bound uses spare).2) ≡ sorted (free c)
     are_sorted = rw count (params_names s at c w.after x.small (omega arith) w.deep w.is bound uses spare x.labels (clear e) x.uses_long x.spare_long)
 
-answers : (n : ℕ) (path' : List ℕ) (m : Res Sheet ℕ) (r : Lifted) (name : Name) (sheet : Counts → Sheet) (good : Counts → Type 0) → Held path' n name → Gives m r sheet good
-    → Answers (m >>= (λ x. ok (record { name = name; call = x.0 }) x.1)) (named_of n r) path' sheet good
+-- what is entered, with the length of its name
+abbrev pub lift_of : ℕ → Result Lifted Code → Result Lift Code
+lift_of n (Ok l) = Ok (record { len = n; call = l.call; counts = l.counts })
+lift_of n (Err c) = Err c
+
+answers : (n : ℕ) (path' : List ℕ) (m : Res Sheet ℕ) (r : Result Lifted Code) (name : Name) (sheet : Counts → Sheet) (good : Counts → Type 0) → Held path' n name → Gives m r sheet good
+    → Answers (m >>= (λ x. ok (record { name = name; call = x.0 }) x.1)) (lift_of n r) path' sheet good
 unfolding Answers Gives
-answers n path' (bad k t) (lifted.Refused c) name sheet good held h = h
-answers n path' (ok k t) (lifted.Made size v) name sheet good held h = (held, h.0, h.1, h.2)
-answers n path' (bad k t) (lifted.Made size v) name sheet good held h = h
-answers n path' (ok k t) (lifted.Refused c) name sheet good held h = h
+answers n path' (bad k t) (Err c) name sheet good held h = h
+answers n path' (ok k t) (Ok l) name sheet good held h = (held, h.0, h.1, h.2)
+answers n path' (bad k t) (Ok l) name sheet good held h = h
+answers n path' (ok k t) (Err c) name sheet good held h = h
 
 -- the tables with other hints
 pub tables_hinted : {s made places ways hints rows params : List ℕ} {w : Counts} {hints' : List ℕ} → Tables s made places ways hints rows params w → Hints (both s made) places hints' w.taken → length hints' ≡ length hints
@@ -122,18 +130,18 @@ whole_within {c = c} w = omega (arith, w.ends, here_length w.is, adds (w_combina
 -- ---- the three ways
 module _ {s : List ℕ} {at end : ℕ} {path : List ℕ} {len : ℕ} {env : List Bound} {made places rows params number : List ℕ} {w : Counts} {path' made' places' ways' hints' rows' params' number' : List ℕ} {n : ℕ}
     (named : (base : Name) → Held path len base → Held path' n (fresh base (taken (both s made) places w.taken))) (kept : take len path' ≡ take len path) (long : length path' ≡ 255) where
-  pub refused_name : 255 < n → Lifts s at end path len env made places rows params number w path' made' places' ways' hints' rows' params' number' (Refused 9)
-  unfolding Answers starts sheet_of number
+  pub refused_name : 255 < n → Lifts s at end path len env made places rows params number w path' made' places' ways' hints' rows' params' number' (Err NameLong)
+  unfolding Answers starts sheet_of
   refused_name h = record { kept = kept; lifts = λ c base finished o held. rw (lt-leb (length (fresh base (taken (both s made) places w.taken))) 255 (name_over (named base held) long h)) refl }
 
   module _ (short : n ≤ 255) where
-    pub refused_macro : ((c : Combinator) → Whole s at end c → leftover c ≡ true) → Lifts s at end path len env made places rows params number w path' made' places' ways' hints' rows' params' number' (Refused 7)
-    unfolding Answers starts sheet_of number
+    pub refused_macro : ((c : Combinator) → Whole s at end c → leftover c ≡ true) → Lifts s at end path len env made places rows params number w path' made' places' ways' hints' rows' params' number' (Err LeftoverMacro)
+    unfolding Answers starts sheet_of
     refused_macro h = record { kept = kept; lifts = λ c base finished o held. rw (le-leb (length (fresh base (taken (both s made) places w.taken))) 255 (name_short (named base held) long short), h c o) refl }
 
-    pub entered_lift : (ns : List Name) (r : Lifted) → ((c : Combinator) → Whole s at end c → (leftover c ≡ false) × (ns ≡ sorted (free c)))
+    pub entered_lift : (ns : List Name) (r : Result Lifted Code) → ((c : Combinator) → Whole s at end c → (leftover c ≡ false) × (ns ≡ sorted (free c)))
         → Enters s at end (take n path') ns env made places rows params number w made' places' ways' hints' rows' params' number' r
-        → Lifts s at end path len env made places rows params number w path' made' places' ways' hints' rows' params' number' (named_of n r)
+        → Lifts s at end path len env made places rows params number w path' made' places' ways' hints' rows' params' number' (lift_of n r)
     unfolding starts sheet_of
     entered_lift ns r clear e = record {
       kept = kept;

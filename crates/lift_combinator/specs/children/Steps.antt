@@ -17,7 +17,7 @@ pub record Based (path : List ℕ) (len : ℕ) (seg : Name) (path' : List ℕ) (
   pub named : Child path len seg path' to
 
 -- the step that fits what a frame does next
-unfoldable pub StepAt : List ℕ → Frame → List ℕ → List ℕ → Next → Step → Type 0
+unfoldable pub StepAt : List ℕ → Frame ℕ → List ℕ → List ℕ → Next → Step → Type 0
 StepAt s f path path' Done r = (r ≡ step.Done) × (path' ≡ path)
 StepAt s f path path' (Pass e) r = (r ≡ step.Pass e) × (path' ≡ path)
 StepAt s f path path' (Chain at) r = (r ≡ step.Child at f.len) × (path' ≡ path)

@@ -8,7 +8,8 @@ use Rattle.layout.specs.items.Here.{Here}
 use Rattle.walker.specs.ends.Ends.{inner_end_of}
 use Rattle.lift_combinator.specs.declared.frames.Frame.{Frame}
 use Rattle.lift_combinator.specs.declared.frames.Begin.{Begin}
-use Rattle.lift_combinator.specs.declared.frames.Waiting.{Waiting}
+use Rattle.lift_combinator.specs.declared.frames.Kind.{Kind}
+use Rattle.lift_combinator.specs.declared.frames.Kind.TheVariants.{Nothing, Fields, Enums, Ints, Arrays, One}
 
 -- a combinator stands at a place
 pub record Stands (s : List ℕ) (p : ℕ) (c : Combinator) : Type 0 where
@@ -41,7 +42,7 @@ combinator_past_of s e =
     pick (eqb (byte_at s e) 1) (combinator_end_of 63 s a) a
 
 -- the children of a Choice whose selector stands at a place, and those of the inner at a place
-abbrev pub start : ℕ → ℕ → ℕ → Begin
+abbrev pub start : ℕ → Kind → ℕ → Begin
 start here kind left = record { here = here; kind = kind; left = left }
 
 unfoldable pub cases_begin : List ℕ → ℕ → Begin
@@ -50,21 +51,21 @@ cases_begin s at =
     let b = past_at s a 1 in
     let left = number_at s b in
     let here = past_at s b 2 in
-    pick (eqb (byte_at s a) 1) (start here 2 left) (pick (eqb (byte_at s a) 2) (start here 3 left) (start here 4 left))
+    pick (eqb (byte_at s a) 1) (start here Enums left) (pick (eqb (byte_at s a) 2) (start here Ints left) (start here Arrays left))
 
 unfoldable pub begin_at : List ℕ → ℕ → Begin
 begin_at s at =
     let tag = byte_at s at in
     let a = past_at s at 1 in
-    pick (eqb tag 4) (start (past_at s a 2) 1 (number_at s a))
-    (pick (eqb tag 5) (start at 5 1)
+    pick (eqb tag 4) (start (past_at s a 2) Fields (number_at s a))
+    (pick (eqb tag 5) (start at One 1)
     (pick (eqb tag 7) (cases_begin s a)
-    (pick (eqb tag 8) (start at 5 1)
-    (pick (eqb tag 9) (start at 5 1)
-    (pick (eqb tag 12) (start at 5 1) (start at 0 0))))))
+    (pick (eqb tag 8) (start at One 1)
+    (pick (eqb tag 9) (start at One 1)
+    (pick (eqb tag 12) (start at One 1) (start at Nothing 0))))))
 
 -- the frame of the node at a place
-unfoldable pub frame_at : List ℕ → ℕ → ℕ → ℕ → ℕ → ℕ → ℕ → Frame
+unfoldable pub frame_at : List ℕ → ℕ → ℕ → ℕ → ℕ → ℕ → ℕ → Frame ℕ
 frame_at s at last len bound own call =
     let b = begin_at s at in
     let e = inner_end_of s at in
@@ -86,7 +87,7 @@ frame_at s at last len bound own call =
     }
 
 -- a frame whose numbers have 16 bits, as it waits, and the frame again
-pub record Narrow (f : Frame) : Type 0 where
+pub record Narrow (f : Frame ℕ) : Type 0 where
   pub place : f.place ≤ 65535
   pub last : f.last ≤ 65535
   pub here : f.here ≤ 65535
@@ -100,7 +101,7 @@ pub record Narrow (f : Frame) : Type 0 where
   pub own : f.own ≤ 65535
   pub call : f.call ≤ 65535
 
-unfoldable pub narrowed : Frame → Waiting
+unfoldable pub narrowed : Frame ℕ → Frame ℕ
 narrowed f = record {
   place = f.place;
   last = f.last;
@@ -118,7 +119,7 @@ narrowed f = record {
   chained = f.chained;
 }
 
-unfoldable pub widened : Waiting → Frame
+unfoldable pub widened : Frame ℕ → Frame ℕ
 widened w = record {
   place = w.place;
   last = w.last;

@@ -1,6 +1,7 @@
 -- One lift: the answer, and what the tables say then. Document 01, "Lifting rules", codes 7 to 10.
-use Rattle.std.specs.Prelude.{List, ◌≡◌, ℕ, ◌+◌, ◌≤◌, ◌<◌, length, take, set}
-use Rattle.definition.specs.Code.{number}
+use Rattle.std.specs.Prelude.{List, ◌≡◌, Result, Ok, Err, ℕ, ◌+◌, ◌≤◌, ◌<◌, length, take, set}
+use Rattle.what_comes_back.specs.Codes.{code_of}
+use Rattle.what_comes_back.specs.declared.Code.{Code}
 use Rattle.definition.specs.Res.{Res, bad, ok}
 use Rattle.definition.specs.Tree.{Name, Combinator}
 use Rattle.definition.specs.Write.{w_combinator}
@@ -9,12 +10,9 @@ use Rattle.layout.specs.items.At.{byte_at}
 use Rattle.layout.specs.items.Here.{Here}
 use Rattle.generated_name.specs.child_name.Name.{Held}
 use Rattle.lift_tables.specs.declared.enter_lift.Counts.{Counts}
-use Rattle.lift_tables.specs.declared.enter_lift.Lifted.{Lifted}
-use Rattle.lift_tables.specs.declared.enter_lift.Lifted.TheVariants as lifted
 use Rattle.lift_tables.specs.enter_lift.Bound.{Bound}
 use Rattle.lift_tables.specs.enter_lift.Sheet.{Sheet, sheet_of, Tables}
-use Rattle.lift_combinator.specs.declared.naming.Named.{Named}
-use Rattle.lift_combinator.specs.declared.naming.Named.TheVariants.{Lift, Refused}
+use Rattle.lift_combinator.specs.declared.naming.Lift.{Lift}
 use Rattle.lift_combinator.specs.naming.Walk.{Start, starts}
 
 -- a combinator stands from one place up to another, at most 64 levels deep
@@ -35,18 +33,14 @@ pub record Scratch (s bound uses spare : List ℕ) : Type 0 where
   pub uses_long : length s ≤ length uses
   pub spare_long : length s ≤ length spare
 
-abbrev pub named_of : ℕ → Lifted → Named
-named_of n (lifted.Made call v) = Lift n call v
-named_of n (lifted.Refused c) = Refused c
+-- the answer: a refusal; or the length of the name in the path, the size of the call and the counts
+unfoldable pub Answers : Res Sheet Start → Result Lift Code → List ℕ → (Counts → Sheet) → (Counts → Type 0) → Type 0
+Answers (bad k t) (Err c) path sheet good = c ≡ code_of k
+Answers (ok b t) (Ok l) path sheet good = Held path l.len b.name × (l.call ≡ b.call) × (t ≡ sheet l.counts) × good l.counts
+Answers (bad k t) (Ok l) path sheet good = ⊥
+Answers (ok b t) (Err c) path sheet good = ⊥
 
--- the answer, with document 01's number for a refusal; else the length of the name in the path, the size of the call and the counts
-unfoldable pub Answers : Res Sheet Start → Named → List ℕ → (Counts → Sheet) → (Counts → Type 0) → Type 0
-Answers (bad k t) (Refused c) path sheet good = c ≡ number k
-Answers (ok b t) (Lift n call w) path sheet good = Held path n b.name × (call ≡ b.call) × (t ≡ sheet w) × good w
-Answers (bad k t) (Lift n call w) path sheet good = ⊥
-Answers (ok b t) (Refused c) path sheet good = ⊥
-
-pub record Lifts (s : List ℕ) (at end : ℕ) (path : List ℕ) (len : ℕ) (env : List Bound) (made places rows params number : List ℕ) (w : Counts) (path' made' places' ways' hints' rows' params' number' : List ℕ) (r : Named) : Type 0 where
+pub record Lifts (s : List ℕ) (at end : ℕ) (path : List ℕ) (len : ℕ) (env : List Bound) (made places rows params number : List ℕ) (w : Counts) (path' made' places' ways' hints' rows' params' number' : List ℕ) (r : Result Lift Code) : Type 0 where
   pub kept : take len path' ≡ take len path
   pub lifts : (c : Combinator) (base : Name) (finished : List ℕ) → Whole s at end c → Held path len base
       → Answers (starts c at base env (sheet_of s made places rows params finished w)) r path' (λ v. sheet_of s made' places' rows' params' finished v)

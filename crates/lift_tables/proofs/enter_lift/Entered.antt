@@ -11,7 +11,9 @@ use native.Mathlib.Numerals.{add-one}
 use lib.Dec.{leb}
 use lib.ListN.{length, take, get_or, length-set, length-take}
 use borrow.Author.Tests.{le-leb, lt-leb}
-use Rattle.definition.specs.Code.{number, result_long}
+use Rattle.definition.specs.Code.{result_long}
+use Rattle.std.specs.Prelude.{Ok, Err}
+use Rattle.what_comes_back.specs.declared.Code.TheVariants.{NoBinder, ResultLong}
 use Rattle.definition.specs.Res.{absent, just, bad, ok}
 use Rattle.definition.specs.Tree.{Name}
 use Rattle.buffer.specs.writes.Buf.{put, name_bytes}
@@ -24,7 +26,6 @@ use Rattle.lift_tables.proofs.tables.Params.{Same}
 use Rattle.name_table.specs.taken.Taken.{both, Grown, Took}
 use Rattle.name_table.proofs.taken.Take.{byte_before}
 use Rattle.lift_tables.specs.declared.enter_lift.Counts.{Counts}
-use Rattle.lift_tables.specs.declared.enter_lift.Lifted.TheVariants.{Made, Refused}
 use Rattle.lift_tables.specs.enter_lift.Bound.{Bound, type_of, binders_of, types_size, Filled, Within}
 use Rattle.lift_tables.specs.enter_lift.Sheet.{Sheet, call_size, head_size, entered, fits, enter_with, sheet_of, RowIn, Tables, Gives}
 use Rattle.lift_tables.specs.enter_lift.Enters.{Adds, Enters}
@@ -48,18 +49,18 @@ fits-defns t h = rw (lt-leb t.defns 512 h, and-false (leb t.bytes 16384))
 
 -- ---- refusals
 module _ {s : List ℕ} {at end : ℕ} {n : Name} {ns : List Name} {env : List Bound} {made places rows params number : List ℕ} {w : Counts} {made' places' ways' hints' rows' params' number' : List ℕ} where
-  pub refused_binder : binders_of env ns ≡ absent → Enters s at end n ns env made places rows params number w made' places' ways' hints' rows' params' number' (Refused 8)
-  unfolding Gives enter_with number
+  pub refused_binder : binders_of env ns ≡ absent → Enters s at end n ns env made places rows params number w made' places' ways' hints' rows' params' number' (Err NoBinder)
+  unfolding Gives enter_with
   refused_binder e = record { gives = λ finished. rw e refl }
 
   module _ (bs : List Bound) (all : binders_of env ns ≡ just bs) where
     pub refused_bytes : 16384 < w.bytes + 6 + (length n + 3 + names_room ns + types_size bs) + (length n + names_room ns + 5)
-        → Enters s at end n ns env made places rows params number w made' places' ways' hints' rows' params' number' (Refused 10)
-    unfolding Gives enter_with number entered call_size head_size sheet_of
+        → Enters s at end n ns env made places rows params number w made' places' ways' hints' rows' params' number' (Err ResultLong)
+    unfolding Gives enter_with entered call_size head_size sheet_of
     refused_bytes h = record { gives = λ finished. rw (all, fits-bytes (entered at end n ns bs (sheet_of s made places rows params finished w)) h) refl }
 
-    pub refused_defns : 512 ≤ w.defns → Enters s at end n ns env made places rows params number w made' places' ways' hints' rows' params' number' (Refused 10)
-    unfolding Gives enter_with number entered sheet_of
+    pub refused_defns : 512 ≤ w.defns → Enters s at end n ns env made places rows params number w made' places' ways' hints' rows' params' number' (Err ResultLong)
+    unfolding Gives enter_with entered sheet_of
     refused_defns h = record { gives = λ finished. rw (all, fits-defns (entered at end n ns bs (sheet_of s made places rows params finished w)) (omega arith)) refl }
 
 pub cut_length : (l : List ℕ) (n : ℕ) → n ≤ length l → length (take n l) ≡ n
@@ -156,7 +157,7 @@ module _ {s uses : List ℕ} {k : ℕ} {env : List Bound} {at end : ℕ} {n : Na
     defns_most = omega (arith, a.counted.4);
   }
 
-  made_lift : Enters s at end n (names_in_of s (take k uses)) env made places rows params number w made' places' ways' hints' rows' params' number' (Made (length n + names + 5) v)
+  made_lift : Enters s at end n (names_in_of s (take k uses)) env made places rows params number w made' places' ways' hints' rows' params' number' (Ok (record { call = length n + names + 5; counts = v }))
   unfolding Gives enter_with entered call_size head_size sheet_of
   made_lift = record {
     gives = λ finished.
@@ -175,5 +176,5 @@ pub made_in_parts : (t t₁ t₂ : List ℕ) {s uses : List ℕ} {k : ℕ} {env 
     → Parts t₁ (order_in t) (rows_in_of t) (params_in t₁) (made_in t) → params_in t₂ ≡ params_in t₁ → Tables s (made_in t) places ways hints (rows_in_of t) (params_in t) w → Filled s uses k env (params_in t) w.params (params_in t₁) names types → Within k names types
     → length n ≤ 255 → (bytes : ℕ) → bytes ≡ w.bytes + 6 + (length n + 3 + names + types) + (length n + names + 5) → bytes ≤ 16384 → w.defns < 512
     → {places' ways' hints' number' : List ℕ} {v : Counts} → Adds s n at end k (made_in t₁) places ways hints (rows_in_of t₁) number w bytes (made_in t₂) places' ways' hints' (rows_in_of t₂) number' v
-    → Enters s at end n (names_in_of s (take k uses)) env (made_in t) places (rows_in_of t) (params_in t) number w (made_in t₂) places' ways' hints' (rows_in_of t₂) (params_in t₂) number' (Made (length n + names + 5) v)
+    → Enters s at end n (names_in_of s (take k uses)) env (made_in t) places (rows_in_of t) (params_in t) number w (made_in t₂) places' ways' hints' (rows_in_of t₂) (params_in t₂) number' (Ok (record { call = length n + names + 5; counts = v }))
 made_in_parts t t₁ t₂ b e ts f wi short bytes sum small few a = rw e (made_lift ts f wi short bytes sum small few (rw (b.rows, b.made) at a))

@@ -8,7 +8,8 @@ use native.Mathlib.Omega.{arith}
 use native.Mathlib.Nat.{eq-zero-or-pos}
 use native.Mathlib.Numerals.{add-one}
 use lib.ListN.{length, take, drop, get_or, length-take, drop_of_length-le}
-use lib.Seq.{take-suc, drop-cons, take-take, get_or-take}
+use lib.Seq.{take-suc, drop-cons, take-take, take_all, get_or-take}
+use Rattle.std.specs.Prelude.{Some, None}
 use Rattle.definition.specs.Res.{Maybe, absent, just}
 use Rattle.definition.specs.Tree.{Name}
 use Rattle.lifting.specs.Calls.{names_room}
@@ -16,8 +17,7 @@ use Rattle.lift_tables.specs.tables.Rows.{names_from, types_from, with_param}
 use Rattle.lift_tables.proofs.tables.Params.{Same, names_last, types_last, names_kept, types_kept, param_length, param_before, param_place, param_len, param_at, param_own}
 use Rattle.lift_tables.specs.declared.binders.Binder.{Binder}
 use Rattle.collect_params.specs.uses.Uses.{name_in, names_in_of}
-use Rattle.lift_tables.specs.declared.enter_lift.Built.{Built}
-use Rattle.lift_tables.specs.declared.enter_lift.Built.TheVariants.{All, Missing}
+use Rattle.lift_tables.specs.declared.enter_lift.Sizes.{Sizes}
 use Rattle.lift_tables.specs.enter_lift.Bound.{Bound, type_of, bound_of, first_of, joined, binders_of, types_size, Filled, Within, Builds}
 
 -- ---- one name more
@@ -136,11 +136,13 @@ unfolding name_in
 use-short s x e = rw e (simp length-take (omega arith))
 
 -- what was built, by the answer
-pub builds_all : {s uses : List ℕ} {k : ℕ} {env : List Bound} {params : List ℕ} {first : ℕ} {params' : List ℕ} {names types : ℕ} (b : Built) → Builds s uses k env params first params' b → b ≡ All names types
-    → Filled s uses k env params first params' names types × Within k names types
+pub built : {s uses : List ℕ} {k : ℕ} {env : List Bound} {params : List ℕ} {first : ℕ} {params' : List ℕ} (z : Sizes) → Builds s uses k env params first params' (Some z) → Filled s uses k env params first params' z.names z.types × Within k z.names z.types
 unfolding Builds
-builds_all b h e = rw e at h
+built z h = h
 
-pub builds_none : (s uses : List ℕ) (k : ℕ) (env : List Bound) (params : List ℕ) (first : ℕ) (params' : List ℕ) (b : Built) → Builds s uses k env params first params' b → b ≡ Missing → binders_of env (names_in_of s (take k uses)) ≡ absent
+pub unbuilt : (s uses : List ℕ) (k : ℕ) (env : List Bound) (params : List ℕ) (first : ℕ) (params' : List ℕ) → Builds s uses k env params first params' None → binders_of env (names_in_of s (take k uses)) ≡ absent
 unfolding Builds
-builds_none s uses k env params first params' b h e = rw e at h
+unbuilt s uses k env params first params' h = h
+
+pub all_uses : (s uses : List ℕ) → names_in_of s (take (length uses) uses) ≡ names_in_of s uses
+all_uses s uses = ap (names_in_of s) (take_all (length uses) uses (omega arith))

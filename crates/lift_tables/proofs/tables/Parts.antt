@@ -2,7 +2,7 @@
 -- Assumes nothing.
 use mathlib.Core.Path.{◌≡◌, refl, sym, ap, ◌∙◌}
 use mathlib.Core.List.{List, [], ◌∷◌, ◌++◌, append-nil}
-use Prim.Native.Nat.{ℕ, zero, suc, ◌+◌, ◌-◌, ◌*◌, ◌/◌, ◌≤◌, ◌<◌}
+use Prim.Native.Nat.{ℕ, zero, suc, ◌+◌, ◌-◌, ◌*◌, ◌/◌, ◌≤◌, ◌<◌, min}
 use native.Mathlib.Omega.{arith}
 use lib.ListN.{length, take, drop, set, length-take, length-drop}
 use lib.Seq.{drop-length, drop-drop, take_at, drop_at, take-take, take-nil, take_all, take-set-le, take-set-lt, drop-set-add, drop-set-lt, set_out, length-take-le}
@@ -12,8 +12,8 @@ use Rattle.lift_tables.proofs.tables.Pairs.{pairs-length, pairs_set}
 -- ---- the part of any table from a on, n numbers long
 module _ (t : List ℕ) (a n i x : ℕ) where
   -- past the part's end, or the table's, nothing is stored
-  pub stored_out : length (pairs (take (2 * n) (drop a t))) ≤ i → StoredIn t a n i x t
-  stored_out h = record { part = sym (set_out (pairs (take (2 * n) (drop a t))) i x h); before = refl; behind = refl }
+  pub stored_out : min n ((length t - a) / 2) ≤ i → StoredIn t a n i x t
+  stored_out h = record { part = sym (set_out (pairs (take (2 * n) (drop a t))) i x (simp (pairs-length, length-take, length-drop) (omega arith))); before = refl; behind = refl }
 
   pub stored_in : (lo hi : ℕ) → lo + hi * 256 ≡ x → i < n → a + 2 * i + 1 < length t → StoredIn t a n i x (set (set t (a + 2 * i) lo) (a + 2 * i + 1) hi)
   stored_in lo hi e h k =

@@ -1,16 +1,11 @@
--- Binders as a row of records. A table has four numbers for each: the place of the name's length byte in the expanded book, the place of the
+-- Binders as records. A table has four numbers for each: the place of the name's length byte in the expanded book, the place of the
 -- type there, 1 where that is a parameter's own type and 0 where it is the combinator of a Dependent field, and the size of the type after lifting.
 -- Document 01: "the definition's own parameters, then the Dependent fields passed on the way, outermost first".
-use Rattle.std.specs.Prelude.{Bool, cond, List, [], ◌∷◌, ◌≡◌, ℕ, zero, suc, ◌+◌, ◌*◌, ◌<◌, length, get_or}
+use Rattle.std.specs.Prelude.{Bool, cond, List, [], ◌∷◌, Option, Some, None, ℕ, zero, suc, ◌+◌, ◌*◌, get_or}
 use Rattle.definition.specs.Tree.{Name}
 use Rattle.definition.specs.Names.{eq_name}
 use Rattle.layout.specs.lookup.Name.{name_at}
 use Rattle.lift_tables.specs.declared.binders.Binder.{Binder}
-use Rattle.lift_tables.specs.declared.binders.Found.{Found}
-use Rattle.lift_tables.specs.declared.binders.Found.TheVariants.{Bound, Missing}
-
-abbrev pub no_binder : Binder
-no_binder = record { name = 0; at = 0; own = 0; size = 0 }
 
 -- binder number j of a table
 unfoldable pub binder_at_of : List ℕ → ℕ → Binder
@@ -29,17 +24,7 @@ binders_from table j (suc n) = binder_at_of table j ∷ binders_from table (j + 
 abbrev pub is_named : List ℕ → Name → Binder → Bool
 is_named s n b = eq_name (name_at s b.name) n
 
--- the number of the first of a name, or how many there are
-unfoldable pub first_in : List ℕ → Name → List Binder → ℕ
-first_in s n [] = 0
-first_in s n (b ∷ bs) = let r = first_in s n bs in cond (is_named s n b) 0 (suc r)
-
 -- "A parameter's type is that of the first binder of that name"
-unfoldable pub found_in : List ℕ → Name → List Binder → Found
-found_in s n [] = Missing
-found_in s n (b ∷ bs) = let r = found_in s n bs in cond (is_named s n b) (Bound b) r
-
--- eight records, the binders from number j on as far as the first b reach
-pub record Window (table : List ℕ) (j b : ℕ) (w : List Binder) : Type 0 where
-  pub long : length w ≡ 8
-  pub holds : (k : ℕ) → k < 8 → j + k < b → get_or w k no_binder ≡ binder_at_of table (j + k)
+unfoldable pub found_in : List ℕ → Name → List Binder → Option Binder
+found_in s n [] = None
+found_in s n (b ∷ bs) = let r = found_in s n bs in cond (is_named s n b) (Some b) r

@@ -1,6 +1,6 @@
 -- Binders by place, as their records say (crate binders).
 -- Document 01: "the definition's own parameters, then the Dependent fields passed on the way, outermost first, types as they stand after lifting".
-use Rattle.std.specs.Prelude.{cond, List, [], ◌∷◌, map, ◌≡◌, ℕ, zero, suc, ◌+◌, ◌*◌, ◌≤◌, ◌<◌, eqb, length, take, get_or}
+use Rattle.std.specs.Prelude.{cond, List, [], ◌∷◌, map, ◌≡◌, Option, Some, None, ℕ, zero, suc, ◌+◌, ◌*◌, ◌≤◌, ◌<◌, eqb, length, take, get_or}
 use Rattle.definition.specs.Res.{Maybe, absent, just}
 use Rattle.definition.specs.Tree.{Name}
 use Rattle.definition.specs.Names.{eq_name}
@@ -10,8 +10,7 @@ use Rattle.lift_tables.specs.tables.Rows.{TypeAt, names_from, types_from}
 use Rattle.lift_tables.specs.declared.binders.Binder.{Binder}
 use Rattle.lift_tables.specs.binders.Row.{binder_at_of}
 use Rattle.collect_params.specs.uses.Uses.{names_in_of}
-use Rattle.lift_tables.specs.declared.enter_lift.Built.{Built}
-use Rattle.lift_tables.specs.declared.enter_lift.Built.TheVariants.{All, Missing}
+use Rattle.lift_tables.specs.declared.enter_lift.Sizes.{Sizes}
 
 pub record Bound : Type 0 where
   pub name : Name
@@ -75,6 +74,6 @@ pub record Within (k names types : ℕ) : Type 0 where
   pub types_most : types ≤ 65535 * k
 
 -- "8: free dependent without binder"
-unfoldable pub Builds : List ℕ → List ℕ → ℕ → List Bound → List ℕ → ℕ → List ℕ → Built → Type 0
-Builds s uses k env params first params' Missing = binders_of env (names_in_of s (take k uses)) ≡ absent
-Builds s uses k env params first params' (All names types) = Filled s uses k env params first params' names types × Within k names types
+unfoldable pub Builds : List ℕ → List ℕ → ℕ → List Bound → List ℕ → ℕ → List ℕ → Option Sizes → Type 0
+Builds s uses k env params first params' None = binders_of env (names_in_of s (take k uses)) ≡ absent
+Builds s uses k env params first params' (Some z) = Filled s uses k env params first params' z.names z.types × Within k z.names z.types

@@ -1,6 +1,7 @@
 -- What one lift does to the tables.
-use Rattle.std.specs.Prelude.{List, ◌≡◌, ℕ, ◌+◌, set}
+use Rattle.std.specs.Prelude.{List, ◌≡◌, Result, ℕ, ◌+◌, set}
 use Rattle.definition.specs.Tree.{Name}
+use Rattle.what_comes_back.specs.declared.Code.{Code}
 use Rattle.lift_tables.specs.enter_lift.Bound.{Bound}
 use Rattle.name_table.specs.taken.Taken.{Took}
 use Rattle.lift_tables.specs.enter_lift.Sheet.{sheet_of, enters, Tables, with_row, Gives}
@@ -14,6 +15,6 @@ pub record Adds (s : List ℕ) (n : Name) (at end k : ℕ) (made places ways hin
   pub took : Took n s made w.end places ways hints w.taken made' places' ways' hints' v.end
   pub counted : (v.taken ≡ w.taken + 1) × (v.lifts ≡ w.lifts + 1) × (v.params ≡ w.params + k) × (v.bytes ≡ bytes) × (v.defns ≡ w.defns + 1)
 
-pub record Enters (s : List ℕ) (at end : ℕ) (n : Name) (ns : List Name) (env : List Bound) (made places rows params number : List ℕ) (w : Counts) (made' places' ways' hints' rows' params' number' : List ℕ) (r : Lifted) : Type 0 where
+pub record Enters (s : List ℕ) (at end : ℕ) (n : Name) (ns : List Name) (env : List Bound) (made places rows params number : List ℕ) (w : Counts) (made' places' ways' hints' rows' params' number' : List ℕ) (r : Result Lifted Code) : Type 0 where
   pub gives : (finished : List ℕ) → Gives (enters at end n ns env (sheet_of s made places rows params finished w)) r (λ v. sheet_of s made' places' rows' params' finished v)
       (λ v. Tables s made' places' ways' hints' rows' params' v × (number' ≡ set number at (w.lifts + 1)) × (v.lifts ≡ w.lifts + 1))

@@ -1,16 +1,17 @@
 -- What the naming pass has done so far, by names, places and numbers, and one lift more. Document 01, "Lifting rules", codes 7 to 10.
 -- It is the state of crate lifting's walk (`Trace`) with rows for records, and numbers of lifts for places.
-use Rattle.std.specs.Prelude.{◌&&◌, List, [], ◌∷◌, ◌++◌, map, ◌≡◌, ℕ, ◌+◌, ◌*◌, ◌≤◌, ◌<◌, leb, length, get_or, set}
-use Rattle.definition.specs.Code.{number, no_binder, result_long}
+use Rattle.std.specs.Prelude.{◌&&◌, List, [], ◌∷◌, ◌++◌, map, ◌≡◌, Result, Ok, Err, ℕ, ◌+◌, ◌*◌, ◌≤◌, ◌<◌, leb, length, get_or, set}
+use Rattle.definition.specs.Code.{no_binder, result_long}
 use Rattle.definition.specs.Res.{Maybe, absent, just, Res, bad, ok, ◌>>=◌, require}
 use Rattle.definition.specs.Tree.{Name}
+use Rattle.what_comes_back.specs.Codes.{code_of}
+use Rattle.what_comes_back.specs.declared.Code.{Code}
 use Rattle.lifting.specs.Calls.{names_room}
 use Rattle.name_table.specs.taken.Taken.{both, taken, Table, Hints, Packed}
 use Rattle.lift_tables.specs.tables.Rows.{Row, rows_of}
 use Rattle.lift_tables.specs.enter_lift.Bound.{Bound, type_of, binders_of, types_size}
 use Rattle.lift_tables.specs.declared.enter_lift.Counts.{Counts}
 use Rattle.lift_tables.specs.declared.enter_lift.Lifted.{Lifted}
-use Rattle.lift_tables.specs.declared.enter_lift.Lifted.TheVariants.{Made, Refused}
 
 -- `finished`: the numbers of the lifts that are finished
 pub record Sheet : Type 0 where
@@ -87,9 +88,9 @@ pub record Tables (s made places ways hints rows params : List ℕ) (w : Counts)
 unfoldable pub with_row : List ℕ → ℕ → ℕ → ℕ → ℕ → ℕ → ℕ → List ℕ
 with_row d i at end name first count = set (set (set (set (set d (5 * i) at) (5 * i + 1) end) (5 * i + 2) name) (5 * i + 3) first) (5 * i + 4) count
 
--- the answer of a lift, with document 01's number for a refusal: what the tables say then, and that they are right
-unfoldable pub Gives : Res Sheet ℕ → Lifted → (Counts → Sheet) → (Counts → Type 0) → Type 0
-Gives (bad k t) (Refused c) sheet good = c ≡ number k
-Gives (ok call t) (Made size w) sheet good = (size ≡ call) × (t ≡ sheet w) × good w
-Gives (bad k t) (Made size w) sheet good = ⊥
-Gives (ok call t) (Refused c) sheet good = ⊥
+-- the answer of a lift, or its refusal: what the tables say then, and that they are right
+unfoldable pub Gives : Res Sheet ℕ → Result Lifted Code → (Counts → Sheet) → (Counts → Type 0) → Type 0
+Gives (bad k t) (Err c) sheet good = c ≡ code_of k
+Gives (ok call t) (Ok e) sheet good = (e.call ≡ call) × (t ≡ sheet e.counts) × good e.counts
+Gives (bad k t) (Ok e) sheet good = ⊥
+Gives (ok call t) (Err c) sheet good = ⊥

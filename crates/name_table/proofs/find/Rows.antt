@@ -6,8 +6,9 @@ use mathlib.Core.List.{List}
 use mathlib.Core.Bool.{Bool, true, false}
 use Prim.Native.Nat.{ℕ, zero, suc, ◌≤◌, ◌<◌}
 use native.Mathlib.Omega.{arith}
-use native.Mathlib.Nat.{eq-or-lt_of_le, le_refl}
+use native.Mathlib.Nat.{eq-or-lt_of_le}
 use lib.ListN.{length}
+use Rattle.std.specs.Prelude.{Option, None, Some, is_some}
 use Rattle.definition.specs.Tree.{Name}
 use Rattle.definition.specs.Names.{eq_name, elem}
 use Rattle.layout.proofs.lookup.Names.{yes_no, not_both, ne_length, eq_name-true}
@@ -35,15 +36,20 @@ module _ (x : Name) (names : Store) (places : List ℕ) where
       other : eq_name x (row names places n) ≡ false → j < n
       other q = ⊎_elim (λ (k : j ≡ n). not_both _ (sym (ap (λ (m : ℕ). eq_name x (row names places m)) k) ∙ e) q) (λ k. k) (eq-or-lt_of_le (omega arith))
 
-  module _ {n r : ℕ} (f : Found x names places n r) where
-    pub found_not : r ≡ n → elem x (taken names places n) ≡ false
-    found_not e = not_taken n (λ j h. f.before j (omega arith))
+  pub found_not : {n : ℕ} → Found x names places n None → elem x (taken names places n) ≡ false
+  found_not {n} f = not_taken n f.before
 
-    pub found_is : r < n → elem x (taken names places n) ≡ true
-    found_is h = is_taken n r h (f.here h)
+  module _ {n r : ℕ} (f : Found x names places n (Some r)) where
+    pub found_is : elem x (taken names places n) ≡ true
+    found_is = is_taken n r f.bound f.here
 
-    pub found_name : r < n → row names places r ≡ x
-    found_name h = sym (eq_name-true x (row names places r) (f.here h))
+    pub found_name : row names places r ≡ x
+    found_name = sym (eq_name-true x (row names places r) f.here)
+
+  -- a row says whether the name is taken
+  pub found_some : {n : ℕ} (r : Option ℕ) → Found x names places n r → elem x (taken names places n) ≡ is_some r
+  found_some None f = found_not f
+  found_some (Some i) f = found_is f
 
 pub long_free : (x : Name) {names : Store} {places ways : List ℕ} {n : ℕ} → Table names places ways n → 255 < length x → elem x (taken names places n) ≡ false
 long_free x {names} {places} {ways} {n} t h =
@@ -56,27 +62,27 @@ length_taken names places (suc n) = ap suc (length_taken names places n)
 
 -- ---- the row to which a name's way leads
 module _ {names : Store} {places ways : List ℕ} {n : ℕ} (t : Table names places ways n) (x : Name) where
-  module _ {at r : ℕ} (ea : at ≡ slot_of ways x n) (er : r ≡ row_at ways at n) where
+  module _ {at r : ℕ} (ea : at ≡ slot_of ways x n) (er : row_at ways at n ≡ r) where
     is_row : r ≡ row_of ways x n
     unfolding row_of
-    is_row = er ∙ rw ea
+    is_row = sym er ∙ rw ea
 
-    pub found_none : n ≤ r → Found x names places n n
+    pub found_none : n ≤ r → Found x names places n None
     found_none h = record {
-      bound = le_refl n;
+      bound = tt;
       before = leads_nowhere t.leads x (λ k. absurd (let z = is_row in omega arith));
-      here = λ k. absurd (omega arith);
+      here = tt;
     }
 
     module _ {other : Name} (eo : other ≡ row names places r) {same : Bool} (es : same ≡ eq_name x other) where
-      pub found_here : r < n → same ≡ true → Found x names places n r
+      pub found_here : r < n → same ≡ true → Found x names places n (Some r)
       found_here h e =
           let z = is_row in
           let y : eq_name x (row names places r) ≡ true = sym (ap (eq_name x) eo) ∙ sym es ∙ e in
-          record { bound = omega arith; before = λ j k. leads_before t.leads x j (omega arith) (omega arith); here = λ k. y }
+          record { bound = h; before = λ j k. leads_before t.leads x j (omega arith) (omega arith); here = y }
 
-      pub found_other : r < n → same ≡ false → Found x names places n n
+      pub found_other : r < n → same ≡ false → Found x names places n None
       found_other h e =
           let z = is_row in
           let y : eq_name x (row names places r) ≡ false = sym (ap (eq_name x) eo) ∙ sym es ∙ e in
-          record { bound = le_refl n; before = leads_nowhere t.leads x (λ k. rw z at y); here = λ k. absurd (omega arith) }
+          record { bound = tt; before = leads_nowhere t.leads x (λ k. rw z at y); here = tt }

@@ -1,7 +1,7 @@
 -- Ways, bits and what tells two names apart.
 -- Assumes nothing.
 use mathlib.Core.Path.{◌≡◌, refl, sym, ap, ◌∙◌}
-use mathlib.Core.Logic.{⊎_elim}
+use mathlib.Core.Logic.{◌⊎◌, ⊎_elim}
 use mathlib.Core.List.{List}
 use mathlib.Core.Bool.{true, false}
 use Prim.Native.Nat.{ℕ, zero, suc, ◌+◌, ◌*◌, ◌-◌, ◌/◌, ◌%◌, ◌^◌, ◌≤◌, ◌<◌}
@@ -117,19 +117,11 @@ bit_of m i j h =
     bit_own m (32 + 8 * i + j) (omega arith) ∙ rw (q, r)
 
 module _ (a b : Name) where
-  -- in the code's own terms
-  pub bits_start : (count first : ℕ) → bit_from a b count first ≡ bit_from a b (count - 0) (first + 0)
-  bits_start count first =
-      let y : count - 0 ≡ count = omega arith in
-      let z : first + 0 ≡ first = omega arith in
-      rw (y, z)
-
-  pub bits_on : (count first k : ℕ) {x y : ℕ} → x ≡ bit_at a (first + k) → y ≡ bit_at b (first + k) → x ≡ y → k < count → bit_from a b (count - k) (first + k) ≡ bit_from a b (count - (k + 1)) (first + (k + 1))
+  pub bits_on : (end d : ℕ) {x y : ℕ} → x ≡ bit_at a d → y ≡ bit_at b d → x ≡ y → d < end → bit_from a b (end - d) d ≡ bit_from a b (end - (d + 1)) (d + 1)
   unfolding bit_from
-  bits_on count first k {x} {y} ex ey e h =
-      let z : count - k ≡ suc (count - (k + 1)) = omega arith in
-      let w : first + k + 1 ≡ first + (k + 1) = omega arith in
-      rw (z, ← ex, ← ey, eq-eqb x y e, w)
+  bits_on end d {x} {y} ex ey e h =
+      let z : end - d ≡ suc (end - (d + 1)) = omega arith in
+      rw (z, ← ex, ← ey, eq-eqb x y e)
 
   pub bits_here : (k d : ℕ) {x y : ℕ} → x ≡ bit_at a d → y ≡ bit_at b d → (x ≡ y → ⊥) → bit_from a b k d ≡ d
   unfolding bit_from
@@ -206,6 +198,9 @@ module _ (t : List ℕ) (x n : ℕ) {v : ℕ} (e : v ≡ get_or t x 0) where
   pub row_over : n < v → row_at t x n ≡ n
   unfolding row_at
   row_over h = rw (← e, ne_eqb v 0 (λ q. omega arith), lt-ltb n v h)
+
+  pub row_absent : (v ≡ 0) ⊎ ((v ≡ 0 → ⊥) × (n < v)) → row_at t x n ≡ n
+  row_absent = ⊎_elim row_none (λ (h : (v ≡ 0 → ⊥) × (n < v)). row_over h.1)
 
   pub row_is : 0 < v → v ≤ n → row_at t x n ≡ v - 1
   unfolding row_at

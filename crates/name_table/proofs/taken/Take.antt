@@ -11,6 +11,7 @@ use native.Mathlib.Numerals.{add-one}
 use borrow.Author.Tests.{lt-ltb, le-ltb}
 use lib.ListN.{length, take, drop, get_or, set, length-set}
 use lib.Seq.{get_or-set_same, get_or-set_other}
+use Rattle.std.specs.Prelude.{Option, None, Some, MatchOption, unwrap_or}
 use Rattle.definition.specs.Tree.{Name}
 use Rattle.definition.specs.Names.{eq_name, elem}
 use Rattle.layout.specs.declared.lookup.Place.{Place}
@@ -76,6 +77,11 @@ module _ (s : List ℕ) (end : ℕ) (name : Name) (h : length name ≤ 255) (k :
       let w : take (length name) (drop (end + 1) (put d (end + 1) name)) ≡ name =
       ap (λ (i : ℕ). take i (drop (end + 1) (put d (end + 1) name))) (sym e) ∙ part_written d (end + 1) name (rw length-put k) in
       rw length_byte (ap (λ (l : List ℕ). take (length name) (drop (end + 1) l)) (sym (put-put s end (b ∷ []) name)) ∙ w)
+
+-- ---- the row at an end, or the number of rows
+pub row_or : (t : List ℕ) (x n : ℕ) (r : Option ℕ) → MatchOption r (row_at t x n ≡ n) (λ i. (i < n) × (row_at t x n ≡ i)) → unwrap_or r n ≡ row_at t x n
+row_or t x n None h = sym h
+row_or t x n (Some i) h = sym h.1
 
 -- ---- the way of a name to row n, with what the steps gave
 pub entered : (name book made places ways : List ℕ) (n : ℕ) {x r : ℕ} {place : Place} {other ways' : List ℕ} → x ≡ slot_of ways name n → r ≡ row_at ways x n → place ≡ place_of (get_or places r 0) → other ≡ name_of place book made

@@ -9,7 +9,10 @@ use lib.Dec.{leb}
 use borrow.Author.Tests.{leb-true}
 use lib.ListN.{length, drop}
 use lib.Seq.{take-append_seam}
-use Rattle.definition.specs.Code.{Code, number, macro_growth}
+use Rattle.std.specs.Prelude.{Result, Ok, Err}
+use Rattle.what_comes_back.specs.declared.Code.{Code as CodeOf}
+use Rattle.what_comes_back.specs.declared.Refusal.{Refusal}
+use Rattle.definition.specs.Code.{Code, macro_growth}
 use Rattle.definition.specs.Out.{Out, refused, done, given}
 use Rattle.definition.specs.Tree.{Definition}
 use Rattle.definition.specs.Write.{w_book}
@@ -19,14 +22,10 @@ use Rattle.laws.specs.Book.{Bytes}
 use Rattle.laws.proofs.Results.{expanded_is_book}
 use Rattle.laws.proofs.Steps.{no_done}
 use Rattle.laws.proofs.OnlySix.{Grows, six, none, only_six}
-use Rattle.expand_macros.specs.declared.pass.Expanded.{Expanded}
-use Rattle.expand_macros.specs.declared.pass.Expanded.TheVariants.{Book as Whole, Grown}
 use Rattle.expand_macros.specs.pass.Pass.{pass, fitting, answer_of, leaves, Leaves, Passed}
 use Rattle.expand_macros.proofs.pass.Fitting.{fits_all}
-use Rattle.open_book.specs.declared.begin.Begun.TheVariants as begun
 use Rattle.open_book.specs.begin.Begins.{opened, Refuses, Expands, Sound as Passes, Begins}
 use Rattle.open_book.proofs.begin.Beginning.{expand_says, opened_is}
-use Rattle.open_book.specs.declared.opened.Opened.TheVariants.{Book, Refused}
 use Rattle.open_book.specs.opened.Opens.{Opens}
 
 fit_refused : (room : ℕ) {m : Out (List Definition)} {k : Code} → m ≡ refused k → fitting room m ≡ refused k
@@ -65,7 +64,7 @@ fit_six room (none es) = go (leb (size_book es) room)
     go true = none es
     go false = six
 
-module _ (b : List ℕ) (n size : ℕ) (out : List ℕ) (p : Passes b n) (small : Bytes b) {areas area : List ℕ} (long : length areas ≡ 32768) (is : size ≡ length area) {x : Expanded} (q : Passed b b areas area out x) where
+module _ (b : List ℕ) (n size : ℕ) (out : List ℕ) (p : Passes b n) (small : Bytes b) {areas area : List ℕ} (long : length areas ≡ 32768) (is : size ≡ length area) {x : Result ℕ CodeOf} (q : Passed b b areas area out x) where
   opened-pass : opened b n ≡ pass p.source p.source
   opened-pass = p.is ∙ expand_says p.source
 
@@ -81,22 +80,21 @@ module _ (b : List ℕ) (n size : ℕ) (out : List ℕ) (p : Passes b n) (small 
   sixes = fit_six size (rw opened-pass (only_six (macros p.source []) p.source))
 
   -- code 6
-  pub opens_6 : x ≡ Grown → Opens b n size out (Refused 6 0)
-  unfolding number
-  opens_6 t = record { within = λ h. too_long h; by = λ h. rw (all_fits h) at (too_long (omega arith)); placed = sym p.faultless }
+  pub opens_6 : {k : CodeOf} → x ≡ Err k → Opens b n size out (Err (record { code = k; at = 0 }))
+  opens_6 {k} t = record { within = λ h. too_long h; by = λ h. rw (all_fits h) at (too_long (omega arith)); placed = sym p.faultless }
     where
-      grown : {y : Out (List Definition)} → fitting size (opened b n) ≡ y → Grows y → answer_of y ≡ Grown → Refuses (fitting size (opened b n)) 6
-      grown o six q = record { reason = macro_growth; is = o; numbered = refl }
+      grown : {y : Out (List Definition)} → fitting size (opened b n) ≡ y → Grows y → answer_of y ≡ Err k → Refuses (fitting size (opened b n)) k
+      grown o six q = record { reason = macro_growth; is = o; coded = cc }
       grown o (none es) q = absurd (let z : ◌≡◌ {A = ℕ} 0 1 = cc in omega arith)
 
-      too_long : size ≤ 16384 → Refuses (fitting size (opened b n)) 6
+      too_long : size ≤ 16384 → Refuses (fitting size (opened b n)) k
       too_long h = grown refl sixes (sym (passed h).0 ∙ t)
 
-  pub opens_book : (len : ℕ) → x ≡ Whole len → Opens b n size out (Book len)
+  pub opens_book : (len : ℕ) → x ≡ Ok len → Opens b n size out (Ok len)
   unfolding size_book
   opens_book len t = record { within = λ h. stands h; by = λ h. rw (all_fits h) at (stands (omega arith)).0; placed = p.faultless }
     where
-      written : (y : Out (List Definition)) → fitting size (opened b n) ≡ y → Whole len ≡ answer_of y → leaves y area out → Expands (fitting size (opened b n)) out len × (len ≤ size)
+      written : (y : Out (List Definition)) → fitting size (opened b n) ≡ y → Ok len ≡ answer_of y → leaves y area out → Expands (fitting size (opened b n)) out len × (len ≤ size)
       written (refused k) o q s = absurd (let z : ◌≡◌ {A = ℕ} 0 1 = cc in omega arith)
       written (done es) o q s =
           let i = (expanded_is_book b small es (sym (opened_is b n p.wide) ∙ fit_done size (opened b n) es o)).0 in
@@ -115,5 +113,5 @@ module _ (b : List ℕ) (n size : ℕ) (out : List ℕ) (p : Passes b n) (small 
       stands h = written (fitting size (opened b n)) refl (sym t ∙ (passed h).0) (passed h).1
 
 -- what `begin` says of a refusal
-pub opens_refused : {b : List ℕ} {n size : ℕ} {out : List ℕ} {code at : ℕ} → Begins b n (begun.Refused code at) → Opens b n size out (Refused code at)
-opens_refused {size = size} r = record { within = λ _. record { reason = r.0.reason; is = fit_refused size r.0.is; numbered = r.0.numbered }; by = λ _. r.0; placed = r.1 }
+pub opens_refused : {b : List ℕ} {n size : ℕ} {out : List ℕ} {f : Refusal} → Begins b n (Err f) → Opens b n size out (Err f)
+opens_refused {size = size} r = record { within = λ _. record { reason = r.0.reason; is = fit_refused size r.0.is; coded = r.0.coded }; by = λ _. r.0; placed = r.1 }

@@ -3,6 +3,7 @@
 use mathlib.Core.Path.{◌≡◌, refl, sym, ap}
 use mathlib.Core.List.{List, [], ◌∷◌}
 use mathlib.Core.Bool.{false}
+use mathlib.Core.Logic.{◌⊎◌, ⊎_elim}
 use Prim.Native.Nat.{ℕ, zero, suc, ◌-◌, ◌≤◌, ◌<◌}
 use native.Mathlib.Numerals.{sub-one}
 use native.Mathlib.Omega.{arith}
@@ -26,15 +27,11 @@ module _ (low high b : ℕ) (t : List ℕ) where
   unfolding characters ranges_by
   c_lead n q e f = rw e (ap (λ (x : List Range). characters x t) f)
 
-  pub c_low : (n : ℕ) → (n ≡ 0 → ⊥) → b < low → characters (ranges_by n (range low high)) (b ∷ t) ≡ characters (ranges_by 1 (range 1 0)) t
+  pub c_out : (n : ℕ) → (n ≡ 0 → ⊥) → (b < low) ⊎ ((low ≤ b) × (high < b)) → characters (ranges_by n (range low high)) (b ∷ t) ≡ characters (ranges_by 1 (range 1 0)) t
   unfolding characters ranges_by
-  c_low zero f h = absurd (f refl)
-  c_low (suc n) f h = rw (lt-leb low b h, never t)
-
-  pub c_high : (n : ℕ) → (n ≡ 0 → ⊥) → low ≤ b → high < b → characters (ranges_by n (range low high)) (b ∷ t) ≡ characters (ranges_by 1 (range 1 0)) t
-  unfolding characters ranges_by
-  c_high zero f l h = absurd (f refl)
-  c_high (suc n) f l h = rw (le-leb low b l, lt-leb b high h, never t)
+  c_out zero f o = absurd (f refl)
+  c_out (suc n) f o =
+      ⊎_elim (λ (h : b < low). rw (lt-leb low b h, never t)) (λ (h : (low ≤ b) × (high < b)). rw (le-leb low b h.0, lt-leb b high h.1, never t)) o
 
   pub c_in : (n : ℕ) → (n ≡ 0 → ⊥) → low ≤ b → b ≤ high → characters (ranges_by n (range low high)) (b ∷ t) ≡ characters (ranges_by (n - 1) (range 128 191)) t
   unfolding characters ranges_by

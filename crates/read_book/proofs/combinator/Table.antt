@@ -8,18 +8,18 @@ use native.Mathlib.Omega.{arith}
 use borrow.Author.Tests.{le-leb, lt-leb, ne_eqb}
 use lib.Dec.{eqb}
 use lib.ListN.{length, get_or, drop, get_or-eq_default}
-use Rattle.buffer.proofs.numbers.Order.{within}
+use Rattle.std.specs.Prelude.{Ok, Err, IsErrAnd}
+use Rattle.std.proofs.lemmas.Bool.{cases_lt}
+use Rattle.laws.proofs.Tests.{both_true}
 use Rattle.definition.specs.Code.{Code}
 use Rattle.definition.specs.Res.{Maybe, absent, just, Res, bad, ok, ◌>>=◌}
 use Rattle.definition.specs.Tree.{Leaf, never, arrays, FieldKind, ordinary, dependent}
 use Rattle.definition.specs.Read.{byte, known, one_of, flags, tags, case_kinds, field_kinds, text, label, Tag, is_leaf, is_struct, is_wrap, is_choice, is_vec, is_array, is_bytes, is_option, is_invocation, is_macro_invocation, holds, is_const}
 use Rattle.read_book.specs.cursor.Item.{among}
-use Rattle.read_book.specs.cursor.Ends.{Step, got, none, Took, Gives, Ends}
+use Rattle.read_book.specs.cursor.Ends.{Walked, Took, Gives, Ends}
 use Rattle.read_book.specs.declared.cursor.Cursor.{Cursor}
 use Rattle.read_book.specs.declared.cursor.Fault.{Fault}
-use Rattle.read_book.specs.declared.cursor.Walked.{Walked}
-use Rattle.read_book.specs.declared.cursor.Walked.TheVariants.{Refused}
-use Rattle.read_book.proofs.cursor.Laws.{took_got, took_none, fails_as}
+use Rattle.read_book.proofs.cursor.Laws.{handed, fails_as}
 use Rattle.read_book.specs.combinator.Tags.{or_else, tag_of, case_kind_of}
 use Rattle.read_book.proofs.name_list.Bind.{after, stops, same_bad}
 
@@ -70,40 +70,43 @@ module _ {A : Type 0} where
     one_got [] b r e = let z : ◌≡◌ {A = ℕ} 0 1 = cc in absurd (omega arith)
     one_got (x ∷ l) b r e =
         ⊎_elim
-        (λ (g : low ≤ x). ⊎_elim
-        (λ (h : x ≤ high). let e' = rw (le-leb low x g, le-leb x high h) at e in let v : x ≡ b = cc in let w : l ≡ r = cc in rw (← v, ← w) (rw (sp.inside x g h), g, h))
-        (λ (h : high < x). let e' = rw (le-leb low x g, lt-leb x high h) at e in let z : ◌≡◌ {A = ℕ} 0 1 = cc in absurd (omega arith))
-        (within x high))
         (λ (g : x < low). let e' = rw (lt-leb low x g) at e in let z : ◌≡◌ {A = ℕ} 0 1 = cc in absurd (omega arith))
-        (within low x)
+        (λ (g : low ≤ x). ⊎_elim
+        (λ (h : high < x). let e' = rw (le-leb low x g, lt-leb x high h) at e in let z : ◌≡◌ {A = ℕ} 0 1 = cc in absurd (omega arith))
+        (λ (h : x ≤ high). let e' = rw (le-leb low x g, le-leb x high h) at e in let v : x ≡ b = cc in let w : l ≡ r = cc in rw (← v, ← w) (rw (sp.inside x g h), g, h))
+        (cases_lt high x))
+        (cases_lt x low)
 
     one_bad : (l : List ℕ) (k : Code) (r : List ℕ) → among low high l ≡ bad k r → one_of t l ≡ bad k r
     unfolding among byte known one_of
     one_bad [] k r e = same_bad e
     one_bad (x ∷ l) k r e =
         ⊎_elim
-        (λ (g : low ≤ x). ⊎_elim
-        (λ (h : x ≤ high). let e' = rw (le-leb low x g, le-leb x high h) at e in let z : ◌≡◌ {A = ℕ} 0 1 = cc in absurd (omega arith))
-        (λ (h : high < x). rw (sp.above x h) (same_bad (rw (le-leb low x g, lt-leb x high h) at e)))
-        (within x high))
         (λ (g : x < low). rw (sp.below x g) (same_bad (rw (lt-leb low x g) at e)))
-        (within low x)
+        (λ (g : low ≤ x). ⊎_elim
+        (λ (h : high < x). rw (sp.above x h) (same_bad (rw (le-leb low x g, lt-leb x high h) at e)))
+        (λ (h : x ≤ high). let e' = rw (le-leb low x g, le-leb x high h) at e in let z : ◌≡◌ {A = ℕ} 0 1 = cc in absurd (omega arith))
+        (cases_lt high x))
+        (cases_lt x low)
 
-module _ {A : Type 0} {t : List (Maybe A)} {d : A} {low high : ℕ} (sp : Spans t d low high) {s : List ℕ} {p : ℕ} {x : Step} where
-  pub entry : {b : ℕ} {c : Cursor} → Took s p x (among low high (drop p s)) → x ≡ got b c
+module _ {A : Type 0} {t : List (Maybe A)} {d : A} {low high : ℕ} (sp : Spans t d low high) {s : List ℕ} {p : ℕ} where
+  pub entry : {b : ℕ} {c : Cursor} → Took s p (Ok (b, c)) (among low high (drop p s))
       → (Gives s p (or_else (get_or t b absent) d) c.at (one_of t (drop p s))) × (low ≤ b) × (b ≤ high)
-  entry {b} {c} k e =
-      let g = took_got b c k e in
-      let o = one_got t d low high sp (drop p s) b (drop c.at s) g.gives in
-      (record { gives = o.0; along = g.along }, o.1, o.2)
+  entry {b} {c} k =
+      let o = one_got t d low high sp (drop p s) b (drop c.at s) k.told.gives in
+      (record { gives = o.0; along = k.told.along }, o.1, o.2)
 
   module _ {B : Type 0} (g : A × List ℕ → Res (List ℕ) B) where
-    pub tabled : {b : ℕ} {c : Cursor} {r : Walked} → Took s p x (among low high (drop p s)) → x ≡ got b c
+    pub tabled : {b : ℕ} {c : Cursor} {r : Walked} → Took s p (Ok (b, c)) (among low high (drop p s))
         → (low ≤ b → b ≤ high → Ends s c.at r (g (or_else (get_or t b absent) d, drop c.at s))) → Ends s p r (one_of t (drop p s) >>= g)
-    tabled k e n = let o = entry k e in after g o.0 (n o.1 o.2)
+    tabled k n = let o = entry k in after g o.0 (n o.1 o.2)
 
-    pub untabled : {f : Fault} → Took s p x (among low high (drop p s)) → x ≡ none f → Ends s p (Refused f) (one_of t (drop p s) >>= g)
-    untabled {f} k e = stops g (fails_as (one_of t (drop p s)) (took_none f k e) (λ c w. one_bad t d low high sp (drop p s) c _ w))
+    pub unread : {f : Fault} → Took s p (Err f) (among low high (drop p s)) → Ends s p (Err f) (one_of t (drop p s) >>= g)
+    unread k = stops g (fails_as (one_of t (drop p s)) k.told (λ c w. one_bad t d low high sp (drop p s) c _ w))
+
+    -- what `?` hands on
+    pub untabled : {f : Fault} {r : Walked} → Took s p (Err f) (among low high (drop p s)) → IsErrAnd r (λ h. h ≡ f) → Ends s p r (one_of t (drop p s) >>= g)
+    untabled {r = r} k h = rw (handed r h) (unread k)
 
 -- the tables of document 01
 pub of_flags : Spans flags false 0 1
@@ -118,8 +121,8 @@ of_cases = from_one _ arrays 3 tt refl
 pub of_fields : Spans field_kinds is_const 1 3
 of_fields = from_one _ is_const 3 tt refl
 
-pub flag_on : (b : ℕ) → (b ≡ 0 → ⊥) → b ≤ 1 → b ≡ 1
-flag_on b f h = omega arith
+pub flag_off : (b : ℕ) → (b ≡ 1 → ⊥) → b ≤ 1 → b ≡ 0
+flag_off b f h = omega arith
 
 -- a field's kind but Const
 pub field_holds : (b : ℕ) → 1 ≤ b → b ≤ 3 → (b ≡ 3 → ⊥) → (k : FieldKind) × (or_else (get_or field_kinds b absent) is_const ≡ holds k)
@@ -142,19 +145,11 @@ all : (ℕ → Bool) → ℕ → Bool
 all f zero = true
 all f (suc n) = f n && all f n
 
-and_left : (a b : Bool) → (a && b) ≡ true → a ≡ true
-and_left true b e = refl
-and_left false b e = e
-
-and_right : (a b : Bool) → (a && b) ≡ true → b ≡ true
-and_right true b e = e
-and_right false b e = let z : ◌≡◌ {A = ℕ} 0 1 = cc in absurd (omega arith)
-
 all_at : (f : ℕ → Bool) (n : ℕ) → all f n ≡ true → (i : ℕ) → i < n → f i ≡ true
 unfolding all
 all_at f zero e i h = absurd (omega arith)
 all_at f (suc n) e i h =
-    ⊎_elim (λ (g : n ≤ i). let w : i ≡ n = omega arith in rw w (and_left (f n) (all f n) e)) (λ (g : i < n). all_at f n (and_right (f n) (all f n) e) i g) (within n i)
+    ⊎_elim (λ (g : i < n). all_at f n (both_true (f n) (all f n) e).1 i g) (λ (g : n ≤ i). let w : i ≡ n = omega arith in rw w (both_true (f n) (all f n) e).0) (cases_lt i n)
 
 leafy : Tag → Bool
 leafy (is_leaf k) = true
@@ -194,8 +189,8 @@ pub leaf_tag : (b : ℕ) → (b ≡ 4 → ⊥) → (b ≡ 5 → ⊥) → (b ≡ 
 unfolding tag_of
 leaf_tag b f₄ f₅ f₇ f₈ f₉ f₁₀ f₁₂ f₁₅ f₁₆ =
     ⊎_elim
-    (λ (g : 17 ≤ b). (never, rw (get_or-eq_default tags absent {n = b} g)))
     (λ (g : b < 17). leaf_is (tag_of b)
     (rw (ne_eqb b 4 f₄, ne_eqb b 5 f₅, ne_eqb b 7 f₇, ne_eqb b 8 f₈, ne_eqb b 9 f₉, ne_eqb b 10 f₁₀, ne_eqb b 12 f₁₂, ne_eqb b 15 f₁₅, ne_eqb b 16 f₁₆)
     at (all_at leaf_test 17 leaf_test_lem b g)))
-    (within 17 b)
+    (λ (g : 17 ≤ b). (never, rw (get_or-eq_default tags absent {n = b} g)))
+    (cases_lt b 17)

@@ -1,9 +1,9 @@
 -- The entries, one after the other, and the bodies that they promise.
-use mathlib.Core.Path.{◌≡◌, refl, ap, sym, ◌∙◌, subst}
+use mathlib.Core.Path.{◌≡◌, refl, ap, sym, ◌∙◌}
 use mathlib.Core.List.{List, [], ◌∷◌}
 use mathlib.Core.Bool.{Bool, true, false, cond}
 use Prim.Native.Nat.{ℕ, zero, suc, ◌+◌, ◌-◌, ◌*◌, ◌≤◌, ◌<◌}
-use native.Mathlib.Nat.{add_assoc, add-zero, mul-suc, mul-zero, mul-le-mul}
+use native.Mathlib.Nat.{add_assoc, add-zero, mul-suc, mul-zero}
 use native.Mathlib.Numerals.{sub-one}
 use native.Mathlib.Omega.{arith}
 use borrow.Author.Tests.{eq-eqb, ne_eqb, eqb-true, eqb-false}
@@ -11,23 +11,22 @@ use lib.Arith.{lt_of_le-ne}
 use lib.Dec.{eqb}
 use lib.ListN.{length, take, drop, length-drop}
 use lib.Seq.{drop-cons, drop-length}
-use Rattle.definition.specs.Code.{Code, number, not_a_book}
+use Rattle.std.specs.Prelude.{Ok, Err}
+use Rattle.what_comes_back.specs.declared.Code.TheVariants.{NotABook}
+use Rattle.definition.specs.Code.{Code, not_a_book}
 use Rattle.definition.specs.Res.{Res, bad, ok, ◌>>=◌}
 use Rattle.definition.specs.Tree.{Entry}
 use Rattle.definition.specs.Contents.{entry, entries, cut, whole, at_end, count, contents, Body}
-use Rattle.read_book.specs.cursor.Ends.{Along, Ends}
+use Rattle.read_book.specs.cursor.Ends.{Along, Walked, Ends}
 use Rattle.read_book.specs.declared.cursor.Cursor.{Cursor}
 use Rattle.read_book.specs.declared.cursor.Fault.{Fault}
-use Rattle.read_book.specs.declared.cursor.Walked.{Walked}
-use Rattle.read_book.specs.declared.cursor.Walked.TheVariants.{Past, Refused}
 use Rattle.read_book.proofs.cursor.Lists.{along, part_at}
 use Rattle.read_book.proofs.cursor.Laws.{fails_as}
 use Rattle.read_book.proofs.cursor.Only.{no_value}
 use Rattle.read_book.proofs.name_list.Bind.{rebase, made, same_bad}
-use Rattle.read_book.specs.entry.Found.{Told, Found, FoundBy}
+use Rattle.read_book.specs.entry.Found.{Found}
 use Rattle.read_book.specs.contents.Table.{total, filled, row_of, Holds, table}
-use Rattle.read_book.specs.declared.entry.EntryStep.{EntryStep}
-use Rattle.read_book.specs.declared.entry.EntryStep.TheVariants.{Entry as Found-entry, NoEntry}
+use Rattle.read_book.specs.declared.entry.ContentsEntry.{ContentsEntry}
 use Rattle.read_book.proofs.entry.Entries.{opened}
 
 module _ {B C : Type 0} (h : B → C) (c : C) (z : List ℕ) where
@@ -111,40 +110,42 @@ module _ (s : List ℕ) (more : ℕ) where
   unfolding row_of entries
   row_bad n at l k r w = rw w
 
-  module _ {p want : ℕ} {x : EntryStep} (f : Found s p want (6 + more) x (entry (6 + more) (length s) want (drop p s))) where
-    pub told_by : (k q : ℕ) (c : Cursor) → x ≡ Found-entry k q c → Told s p want (6 + more) k q c (entry (6 + more) (length s) want (drop p s))
-    told_by k q c e = subst (λ (y : EntryStep). FoundBy s p want (6 + more) y (entry (6 + more) (length s) want (drop p s))) e f.told
+  -- the loop's invariant at its beginning
+  pub r-begins : (n want : ℕ) {p : ℕ} (r : Walked) → Ends s p r (row_of (6 + more) s (n - 0) want (drop p s)) → Ends s p r (row_of (6 + more) s n want (drop p s))
+  r-begins n want r e = let i : n - 0 ≡ n = omega arith in rw i at e
 
-    pub r-more : {k q : ℕ} {c : Cursor} (n : ℕ) (r : Walked) → x ≡ Found-entry k q c → 0 < n → Ends s c.at r (row_of (6 + more) s (n - 1) q (drop c.at s))
-        → Ends s p r (row_of (6 + more) s n want (drop p s))
-    r-more zero r e h w = absurd (omega arith)
-    r-more {k} {q} {c} (suc n) r e h w =
-        let t = told_by k q c e in
+  module _ {p want : ℕ} (n k : ℕ) (h : k < n) where
+    -- of n entries k are behind, and one is read
+    pub r-more : {e : ContentsEntry} → Found s p want (6 + more) (Ok e) (entry (6 + more) (length s) want (drop p s)) → (r : Walked)
+        → Ends s e.next.at r (row_of (6 + more) s (n - (k + 1)) e.end (drop e.next.at s)) → Ends s p r (row_of (6 + more) s (n - k) want (drop p s))
+    r-more {e} f r w =
+        let t = f.told in
+        let i : n - k ≡ suc (n - (k + 1)) = omega arith in
         let g : p + (6 + more) ≤ length s = rw (← t.past) t.within in
-        let a : Along s p c.at = rw t.past (along s p (6 + more) g) in
-        rw (row_more n want (drop p s) t.value (drop c.at s) t.gives)
-        (made _ (rebase r a (rw (sub-one, t.sized) at w)))
+        let a : Along s p e.next.at = rw t.past (along s p (6 + more) g) in
+        rw (i, row_more (n - (k + 1)) want (drop p s) t.value (drop e.next.at s) t.gives)
+        (made _ (rebase r a (rw t.sized at w)))
 
-    pub r_none : {g : Fault} (n : ℕ) → x ≡ NoEntry g → 0 < n → Ends s p (Refused g) (row_of (6 + more) s n want (drop p s))
-    r_none zero e h = absurd (omega arith)
-    r_none (suc n) e h =
-        record { told = fails_as _ (subst (λ (y : EntryStep). FoundBy s p want (6 + more) y (entry (6 + more) (length s) want (drop p s))) e f.told) (λ k w. row_bad n want (drop p s) k _ w) }
+    pub r_none : {g : Fault} → Found s p want (6 + more) (Err g) (entry (6 + more) (length s) want (drop p s)) → Ends s p (Err g) (row_of (6 + more) s (n - k) want (drop p s))
+    r_none f =
+        let i : n - k ≡ suc (n - (k + 1)) = omega arith in
+        rw i (record { told = fails_as _ f.told (λ c w. row_bad (n - (k + 1)) want (drop p s) c _ w) })
 
   -- no entry more
-  module _ {p want : ℕ} where
-    pub r_left : (n : ℕ) → n ≤ 0 → p ≤ length s → want < length s → Ends s p (Refused (record { code = 3; at = want })) (row_of (6 + more) s n want (drop p s))
-    unfolding row_of entries filled total number
-    r_left (suc n) z h w = absurd (omega arith)
-    r_left zero z h w =
-        rw (add-zero want, ne_eqb want (length s) (λ e. omega arith))
+  module _ {p want : ℕ} (n k : ℕ) (h : n ≤ k) where
+    pub r_left : p ≤ length s → want < length s → Ends s p (Err (record { code = NotABook; at = want })) (row_of (6 + more) s (n - k) want (drop p s))
+    unfolding row_of entries filled total
+    r_left z w =
+        let i : n - k ≡ 0 = omega arith in
+        rw (i, add-zero want, ne_eqb want (length s) (λ e. omega arith))
         (record { told = record { kind = not_a_book; coded = refl; fails = refl; along = simp length-drop (omega arith) } })
 
-    pub r_end : (n : ℕ) (c : Cursor) → c.at ≡ p → n ≤ 0 → length s ≤ want → want ≤ length s → Ends s p (Past c) (row_of (6 + more) s n want (drop p s))
+    pub r_end : (c : Cursor) → c.at ≡ p → length s ≤ want → want ≤ length s → Ends s p (Ok c) (row_of (6 + more) s (n - k) want (drop p s))
     unfolding row_of entries filled total
-    r_end (suc n) c q z h w = absurd (omega arith)
-    r_end zero c q z h w =
+    r_end c q g w =
+        let i : n - k ≡ 0 = omega arith in
         let e : want ≡ length s = omega arith in
-        rw (add-zero want, eq-eqb want (length s) e) (record { told = ([], record { gives = rw q; along = rw q }) })
+        rw (i, add-zero want, eq-eqb want (length s) e) (record { told = ([], record { gives = rw q; along = rw q }) })
 
   -- the contents: what the entries say is what the definition's table says
   module _ (n : ℕ) (c : count s ≡ ok n (drop 2 s)) (h : 2 ≤ length s) where
@@ -223,6 +224,3 @@ module _ (s : List ℕ) (more : ℕ) where
 -- where the loop starts
 pub start_row : (all more n : ℕ) → 2 ≤ all → n ≤ 0 → 2 + (6 + more) * n ≤ all
 start_row all more n h z = let q : n ≡ 0 = omega arith in rw (q, mul-zero) h
-
-pub small : (w n : ℕ) → w < 256 → n ≤ 512 → (6 + w) * n ≤ 134144
-small w n h g = mul-le-mul {n₁ = 6 + w} {m₁ = n} {n₂ = 262} {m₂ = 512} (omega arith) g

@@ -1,5 +1,5 @@
 -- The count, and the contents whole.
-use mathlib.Core.Path.{◌≡◌, refl, ap, ◌∙◌}
+use mathlib.Core.Path.{◌≡◌, refl, ◌∙◌}
 use mathlib.Core.List.{List}
 use mathlib.Core.Bool.{Bool, true, false}
 use Prim.Native.Nat.{ℕ, ◌+◌, ◌*◌, ◌≤◌, ◌<◌}
@@ -7,42 +7,38 @@ use native.Mathlib.Omega.{arith}
 use borrow.Author.Tests.{le-leb, lt-leb, leb-true}
 use lib.Dec.{leb}
 use lib.ListN.{length, drop, length-drop}
-use Rattle.definition.specs.Code.{number, not_a_book}
+use Rattle.std.specs.Prelude.{Result, Ok, Err, IsErrAnd}
+use Rattle.what_comes_back.specs.declared.Code.TheVariants.{NotABook}
+use Rattle.definition.specs.Code.{not_a_book}
 use Rattle.definition.specs.Res.{Res, bad, ok, ◌>>=◌, require, from}
 use Rattle.definition.specs.Read.{u16}
 use Rattle.definition.specs.Contents.{count, contents}
-use Rattle.read_book.specs.cursor.Ends.{Along, Gives, Step, got, none, Took, Ends}
+use Rattle.read_book.specs.cursor.Ends.{Along, Gives, Step, Took, Ends}
 use Rattle.read_book.specs.declared.cursor.Cursor.{Cursor}
 use Rattle.read_book.specs.declared.cursor.Fault.{Fault}
-use Rattle.read_book.specs.declared.cursor.NumberStep.TheVariants.{Number, NoNumber}
-use Rattle.read_book.specs.declared.cursor.Walked.{Walked}
-use Rattle.read_book.specs.declared.cursor.Walked.TheVariants.{Past, Refused}
 use Rattle.read_book.proofs.cursor.Lists.{u16_two, u16_whole}
-use Rattle.read_book.proofs.cursor.Laws.{took_got, took_none, fails_as}
+use Rattle.read_book.proofs.cursor.Laws.{handed, fails_as}
 use Rattle.read_book.proofs.cursor.Only.{no_value}
-use Rattle.read_book.proofs.name_list.Bind.{past, refused}
 use Rattle.read_book.specs.contents.Table.{row_of, table, Tabled}
 use Rattle.read_book.proofs.contents.Rows.{table-bad, table_holds}
 
 -- the count
-module _ (s : List ℕ) (x : Step) (t : Took s 0 x (u16 s)) where
-  pub k_none : (f : Fault) → x ≡ none f → Took s 0 (none f) (count s)
+module _ (s : List ℕ) where
+  pub k_none : {f : Fault} {r : Step} → Took s 0 (Err f) (u16 s) → IsErrAnd r (λ g. g ≡ f) → Took s 0 r (count s)
   unfolding count
-  k_none f e = record { told = fails_as _ (took_none f t e) (λ k w. rw (w, u16_whole s _ _ w)) }
+  k_none {r = r} t h = rw (handed r h) (record { told = fails_as _ t.told (λ k w. rw (w, u16_whole s _ _ w)) })
 
-  pub k_many : (n : ℕ) (c : Cursor) → x ≡ got n c → 512 < n → Took s 0 (none (record { code = 3; at = 0 })) (count s)
-  unfolding count number
-  k_many n c e h = let g = took_got n c t e in record { told = record { kind = not_a_book; coded = refl; fails = rw (g.gives, lt-leb n 512 h); along = refl } }
+  module _ {n : ℕ} {c : Cursor} (t : Took s 0 (Ok (n, c)) (u16 s)) where
+    pub k_many : 512 < n → Took s 0 (Err (record { code = NotABook; at = 0 })) (count s)
+    unfolding count
+    k_many h = record { told = record { kind = not_a_book; coded = refl; fails = rw (t.told.gives, lt-leb n 512 h); along = refl } }
 
-  pub k_ok : (n : ℕ) (c : Cursor) → x ≡ got n c → n ≤ 512 → Took s 0 (got n c) (count s)
-  unfolding count
-  k_ok n c e h = let g = took_got n c t e in record { told = record { gives = rw (g.gives, le-leb n 512 h); along = g.along } }
+    pub k_ok : n ≤ 512 → Took s 0 (Ok (n, c)) (count s)
+    unfolding count
+    k_ok h = record { told = record { gives = rw (t.told.gives, le-leb n 512 h); along = t.told.along } }
 
 two_in : (s : List ℕ) → 2 ≤ length s → Along s 0 2
 two_in s h = simp length-drop (omega arith)
-
-place_is : (s : List ℕ) (p q : ℕ) → 2 ≤ length s → q ≤ length s → Along s 2 p → drop p s ≡ drop q s → p ≡ q
-place_is s p q h g a e = omega (arith, ap length e, length-drop q s, length-drop 2 s)
 
 -- a count that was read
 few_by : (s l : List ℕ) (m : ℕ) (n : ℕ) (r : List ℕ) (t : Bool) → leb m 512 ≡ t → from s (require t not_a_book l >>= λ y. ok m y.1) ≡ ok n r → (m ≡ n) × (l ≡ r) × (m ≤ 512)
@@ -53,9 +49,9 @@ count_by : (s : List ℕ) (n : ℕ) (r : List ℕ) (m : Res (List ℕ) ℕ) → 
 count_by s n r (bad k l) e = absurd (no_value e)
 count_by s n r (ok m l) e = let f = few_by s l m n r (leb m 512) refl e in (rw (f.0, f.1), rw f.0 at f.2)
 
-module _ (s : List ℕ) {x : Step} {n : ℕ} {c : Cursor} (t : Took s 0 x (count s)) (e : x ≡ got n c) where
+module _ (s : List ℕ) {n : ℕ} {c : Cursor} (t : Took s 0 (Ok (n, c)) (count s)) where
   counted_by : Gives s 0 n c.at (count s)
-  counted_by = took_got n c t e
+  counted_by = t.told
 
   open-count : (u16 s ≡ ok n (drop c.at s)) × (n ≤ 512)
   unfolding count
@@ -73,20 +69,19 @@ module _ (s : List ℕ) {x : Step} {n : ℕ} {c : Cursor} (t : Took s 0 x (count
   counts : count s ≡ ok n (drop 2 s)
   counts = rw (← at_two.0) counted_by.gives
 
-  module _ (more : ℕ) {r : Walked} (i : Ends s 2 r (row_of (6 + more) s n (2 + (6 + more) * n) (drop 2 s))) where
-    pub no_table : {f : Fault} → r ≡ Refused f → Tabled s (6 + more) (NoNumber f)
-    no_table {f} w =
-        let d = refused f i w in
+  module _ (more : ℕ) where
+    pub no_table : {f : Fault} {r : Result ℕ Fault} → Ends s 2 (Err f) (row_of (6 + more) s n (2 + (6 + more) * n) (drop 2 s)) → IsErrAnd r (λ g. g ≡ f) → Tabled s (6 + more) r
+    no_table {f} {r} i w =
+        let d = i.told in
         let a : Along s 0 f.at = d.along ∙ two_in s has_two in
-        record { told = record { kind = d.kind; coded = d.coded; fails = table-bad s more n counts has_two d.kind _ d.fails; along = a } }
+        rw (handed r w) (record { told = record { kind = d.kind; coded = d.coded; fails = table-bad s more n counts has_two d.kind _ d.fails; along = a } })
 
-    pub a_table : {v : Cursor} → r ≡ Past v → Tabled s (6 + more) (Number n v)
-    a_table {v} w =
-        let d = past v i w in
-        let h = table_holds s more n counts has_two is_few d.0 (drop v.at s) d.1.gives in
-        record { told = (h.0, place_is s v.at (2 + (6 + more) * n) has_two h.2 d.1.along h.1) }
+    pub a_table : {v : Cursor} → Ends s 2 (Ok v) (row_of (6 + more) s n (2 + (6 + more) * n) (drop 2 s)) → Tabled s (6 + more) (Ok n)
+    a_table {v} i =
+        let d = i.told in
+        record { told = (table_holds s more n counts has_two is_few d.0 (drop v.at s) d.1.gives).0 }
 
 module _ (s : List ℕ) (more : ℕ) where
-  pub no_count : {x : Step} {f : Fault} → Took s 0 x (count s) → x ≡ none f → Tabled s (6 + more) (NoNumber f)
+  pub no_count : {f : Fault} {r : Result ℕ Fault} → Took s 0 (Err f) (count s) → IsErrAnd r (λ g. g ≡ f) → Tabled s (6 + more) r
   unfolding table contents
-  no_count {f = f} t e = record { told = fails_as _ (took_none f t e) (λ k w. rw w) }
+  no_count {r = r} t h = rw (handed r h) (record { told = fails_as _ t.told (λ k w. rw w) })

@@ -32,11 +32,12 @@ module _ (s : List ℕ) (p : ℕ) where
   unfolding u16
   u16_one h g = rw (drop-cons s p 0 h, ← add-one, drop_of_length-le s g)
 
-  pub u16_at : p + 1 < length s → u16 (drop p s) ≡ ok (get_or s p 0 + 256 * get_or s (p + 1) 0) (drop (p + 1 + 1) s)
+  pub u16_at : p + 1 < length s → u16 (drop p s) ≡ ok (get_or s p 0 + 256 * get_or s (p + 1) 0) (drop (p + 2) s)
   unfolding u16
   u16_at h =
       let g : p < length s = omega arith in
-      rw (drop-cons s p 0 g, ← add-one p, drop-cons s (p + 1) 0 h, add-one (p + 1))
+      let q : suc (p + 1) ≡ p + 2 = omega arith in
+      rw (drop-cons s p 0 g, ← add-one p, drop-cons s (p + 1) 0 h, q)
 
 -- n bytes, where there are so many and where not
 pub part_is : (n : ℕ) (l : List ℕ) → n ≤ length l → part n l ≡ ok (take n l) (drop n l)
@@ -64,6 +65,22 @@ unfolding u16
 u16_whole [] k r e = cc
 u16_whole (a ∷ []) k r e = cc
 u16_whole (a ∷ b ∷ l) k r e = let z : ◌≡◌ {A = ℕ} 0 1 = cc in absurd (omega arith)
+
+-- the same of a byte
+pub byte_whole : (l : List ℕ) (k : Code) (r : List ℕ) → byte l ≡ bad k r → r ≡ l
+unfolding byte
+byte_whole [] k r e = cc
+byte_whole (a ∷ l) k r e = let z : ◌≡◌ {A = ℕ} 0 1 = cc in absurd (omega arith)
+
+byte-length : (l : List ℕ) (n : ℕ) (r : List ℕ) → byte l ≡ ok n r → length l ≡ 1 + length r
+unfolding byte
+byte-length [] n r e = let z : ◌≡◌ {A = ℕ} 0 1 = cc in absurd (omega arith)
+byte-length (a ∷ l) n r e = let z : l ≡ r = cc in rw z (omega arith)
+
+pub byte_one : (s : List ℕ) (p n q : ℕ) → byte (drop p s) ≡ ok n (drop q s) → Along s p q → (q ≡ p + 1) × (q ≤ length s)
+byte_one s p n q e a =
+    let z = byte-length (drop p s) n (drop q s) e in
+    (omega arith, omega (arith, length-drop p s))
 
 u16-length : (l : List ℕ) (n : ℕ) (r : List ℕ) → u16 l ≡ ok n r → length l ≡ 2 + length r
 unfolding u16

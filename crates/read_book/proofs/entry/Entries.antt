@@ -2,7 +2,7 @@
 use mathlib.Core.Path.{◌≡◌, refl, ap, sym, ◌∙◌}
 use mathlib.Core.List.{List, [], ◌∷◌}
 use mathlib.Core.Bool.{Bool, true, false, ◌&&◌, false≢true}
-use mathlib.Core.Logic.{⊎_elim}
+use mathlib.Core.Logic.{◌⊎◌, ⊎_elim}
 use Prim.Native.Nat.{ℕ, zero, suc, ◌+◌, ◌-◌, ◌*◌, ◌≤◌, ◌<◌}
 use native.Mathlib.Nat.{add-sub_cancel_left}
 use native.Mathlib.Numerals.{add-one}
@@ -11,16 +11,17 @@ use borrow.Author.Tests.{le-leb, lt-leb, eq-eqb, ne_eqb, leb-true}
 use lib.Dec.{eqb, leb}
 use lib.ListN.{length, get_or, take, drop, length-drop, get_or-eq_default}
 use lib.Seq.{drop-cons, drop-drop}
-use Rattle.definition.specs.Code.{number, not_a_book}
+use Rattle.std.specs.Prelude.{Ok, Err}
+use Rattle.definition.specs.Code.{not_a_book}
 use Rattle.definition.specs.Res.{Maybe, absent, just, Res, bad, ok, ◌>>=◌, require, from}
 use Rattle.definition.specs.Tree.{Kind, Entry}
 use Rattle.definition.specs.Read.{Reader, byte, u16, part, known, one_of, kinds}
 use Rattle.definition.specs.Contents.{entry}
 use Rattle.read_book.proofs.cursor.Lists.{part_is, part_short}
 use Rattle.read_book.proofs.cursor.Only.{no_value}
-use Rattle.buffer.proofs.numbers.Order.{within}
+use Rattle.std.proofs.lemmas.Bool.{cases_lt}
 use Rattle.read_book.specs.entry.Found.{Found}
-use Rattle.read_book.specs.declared.entry.EntryStep.TheVariants.{Entry as Found-entry, NoEntry}
+use Rattle.what_comes_back.specs.declared.Code.TheVariants.{NotABook}
 
 -- what stands behind the kind
 abbrev behind : ℕ → ℕ → ℕ → Kind → Reader Entry
@@ -132,38 +133,39 @@ none_below (suc a) h = absurd (omega arith)
 -- the answers of the code
 module _ (s : List ℕ) (p want more : ℕ) where
   refuses : entry (6 + more) (length s) want (drop p s) ≡ bad not_a_book (drop p s)
-      → Found s p want (6 + more) (NoEntry (record { code = 3; at = p })) (entry (6 + more) (length s) want (drop p s))
-  unfolding number
+      → Found s p want (6 + more) (Err (record { code = NotABook; at = p })) (entry (6 + more) (length s) want (drop p s))
   refuses e = record { told = record { kind = not_a_book; coded = refl; fails = e; along = refl } }
 
-  pub f_short : length s < p + (6 + more) → Found s p want (6 + more) (NoEntry (record { code = 3; at = p })) (entry (6 + more) (length s) want (drop p s))
+  pub f_short : length s < p + (6 + more) → Found s p want (6 + more) (Err (record { code = NotABook; at = p })) (entry (6 + more) (length s) want (drop p s))
   f_short h = refuses (at_short s p want more h)
 
   module _ (h : p + (6 + more) ≤ length s) where
-    pub f_low : get_or s p 0 < 1 → Found s p want (6 + more) (NoEntry (record { code = 3; at = p })) (entry (6 + more) (length s) want (drop p s))
-    f_low l = refuses (at_none s p want more h (none_below (get_or s p 0) l))
-
-    pub f_high : 4 < get_or s p 0 → Found s p want (6 + more) (NoEntry (record { code = 3; at = p })) (entry (6 + more) (length s) want (drop p s))
-    f_high l = refuses (at_none s p want more h (get_or-eq_default kinds absent {n = get_or s p 0} (omega arith)))
+    pub f_kind : (get_or s p 0 < 1) ⊎ ((1 ≤ get_or s p 0) × (4 < get_or s p 0)) → Found s p want (6 + more) (Err (record { code = NotABook; at = p })) (entry (6 + more) (length s) want (drop p s))
+    f_kind o =
+        refuses (at_none s p want more h
+        (⊎_elim
+        (λ (l : get_or s p 0 < 1). none_below (get_or s p 0) l)
+        (λ (l : (1 ≤ get_or s p 0) × (4 < get_or s p 0)). get_or-eq_default kinds absent {n = get_or s p 0} (omega arith))
+        o))
 
     module _ (l : 1 ≤ get_or s p 0) (g : get_or s p 0 ≤ 4) where
-      pub f_second : (get_or s (p + 1) 0 ≡ 0 → ⊥) → Found s p want (6 + more) (NoEntry (record { code = 3; at = p })) (entry (6 + more) (length s) want (drop p s))
+      pub f_second : (get_or s (p + 1) 0 ≡ 0 → ⊥) → Found s p want (6 + more) (Err (record { code = NotABook; at = p })) (entry (6 + more) (length s) want (drop p s))
       f_second f = let k = some_kind (get_or s p 0) l g in refuses (at_bad s p want more h k.0 k.1 (rw (ne_eqb (get_or s (p + 1) 0) 0 f)))
 
-      module _ (b : get_or s (p + 1) 0 ≡ 0) where
-        pub f_third : (o : ℕ) → o ≡ offset s p → (o ≡ want → ⊥) → Found s p want (6 + more) (NoEntry (record { code = 3; at = p })) (entry (6 + more) (length s) want (drop p s))
-        f_third o e f =
+      module _ (b : get_or s (p + 1) 0 ≡ 0) (o : ℕ) (e : o ≡ offset s p) where
+        pub f_third : (o ≡ want → ⊥) → Found s p want (6 + more) (Err (record { code = NotABook; at = p })) (entry (6 + more) (length s) want (drop p s))
+        f_third f =
             let k = some_kind (get_or s p 0) l g in
             refuses (at_bad s p want more h k.0 k.1 (rw (eq-eqb (get_or s (p + 1) 0) 0 b, ne_eqb (offset s p) want (λ w. f (e ∙ w)))))
 
-        module _ (o n : ℕ) (e : o ≡ offset s p) (w : o ≡ want) (z : n ≡ size_at s p) where
-          pub f_end : length s < want + n → Found s p want (6 + more) (NoEntry (record { code = 3; at = p })) (entry (6 + more) (length s) want (drop p s))
+        module _ (w : o ≡ want) (n : ℕ) (z : n ≡ size_at s p) where
+          pub f_end : length s < want + n → Found s p want (6 + more) (Err (record { code = NotABook; at = p })) (entry (6 + more) (length s) want (drop p s))
           f_end f =
               let k = some_kind (get_or s p 0) l g in
               refuses (at_bad s p want more h k.0 k.1 (rw (eq-eqb (get_or s (p + 1) 0) 0 b, eq-eqb (offset s p) want (sym e ∙ w), ← z, lt-leb (want + n) (length s) f)))
 
           pub f_ok : (q : ℕ) → q ≡ p + (6 + more) → want + n ≤ length s
-              → Found s p want (6 + more) (Found-entry (get_or s p 0) (want + n) (record { at = q })) (entry (6 + more) (length s) want (drop p s))
+              → Found s p want (6 + more) (Ok (record { kind = get_or s p 0; end = want + n; next = record { at = q } })) (entry (6 + more) (length s) want (drop p s))
           unfolding value
           f_ok q u f =
               let k = some_kind (get_or s p 0) l g in
@@ -220,4 +222,4 @@ module _ (s : List ℕ) (p want more : ℕ) (e : Entry) (z : List ℕ) (w : entr
     kinded_by (just k) g = tested k g _ refl
 
   pub opened : Opened s p want more e z
-  opened = ⊎_elim (λ (h : p + (6 + more) ≤ length s). kinded_by h _ refl) (λ (h : length s < p + (6 + more)). absurd (not_bad (at_short s p want more h))) (within (p + (6 + more)) (length s))
+  opened = ⊎_elim (λ (h : length s < p + (6 + more)). absurd (not_bad (at_short s p want more h))) (λ (h : p + (6 + more) ≤ length s). kinded_by h _ refl) (cases_lt (length s) (p + (6 + more)))

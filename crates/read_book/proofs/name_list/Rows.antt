@@ -1,45 +1,61 @@
 -- A row read by a loop.
-use mathlib.Core.Path.{◌≡◌, refl, subst}
+use mathlib.Core.Path.{◌≡◌, refl}
 use mathlib.Core.List.{List}
 use mathlib.Core.Bool.{Bool}
-use Prim.Native.Nat.{ℕ, zero, suc, ◌-◌, ◌≤◌, ◌<◌}
-use native.Mathlib.Numerals.{sub-one}
+use Prim.Native.Nat.{ℕ, zero, suc, ◌+◌, ◌-◌, ◌≤◌, ◌<◌}
 use native.Mathlib.Omega.{arith}
 use lib.ListN.{drop}
+use Rattle.std.specs.Prelude.{Ok, Err, IsErrAnd}
 use Rattle.definition.specs.Res.{Res, ok, ◌>>=◌}
 use Rattle.definition.specs.Tree.{Inner}
-use Rattle.definition.specs.Read.{Reader, name_by, names_by, inners}
-use Rattle.read_book.specs.cursor.Ends.{Part, Ends}
+use Rattle.definition.specs.Read.{Reader, u16, name_by, names_by, inners}
+use Rattle.read_book.specs.cursor.Ends.{Step, Walked, Took, Part, Ends}
 use Rattle.read_book.specs.declared.cursor.Cursor.{Cursor}
 use Rattle.read_book.specs.declared.cursor.Fault.{Fault}
-use Rattle.read_book.specs.declared.cursor.Walked.{Walked}
-use Rattle.read_book.specs.declared.cursor.Walked.TheVariants.{Past, Refused}
-use Rattle.read_book.specs.name_list.Rows.{LeadsBy, Leads}
-use Rattle.read_book.proofs.name_list.Bind.{then, fails, made_in, walked}
+use Rattle.read_book.specs.name_list.Rows.{counted, Leads, Run, done, stop, more, CountsBy, Counts}
+use Rattle.read_book.proofs.cursor.Laws.{handed}
+use Rattle.read_book.proofs.name_list.Bind.{then, stops, then_got, made_in, walked}
+
+-- the loop over the items: each is read as `reads` says
+module _ (reads : Cursor → Walked → Type 0) where
+  -- its invariant: what reads from here what is left of n behind k items reads all n from the start
+  abbrev pub RunsOn : ℕ → Cursor → ℕ → Cursor → Type 0
+  RunsOn n c₀ k c = (r : Walked) → Run reads (n - k) c r → Run reads n c₀ r
+
+  pub run_begins : {n : ℕ} {c : Cursor} → RunsOn n c 0 c
+  run_begins {n} r e = let i : n - 0 ≡ n = omega arith in rw i at e
+
+  module _ {n k : ℕ} {c₀ c : Cursor} (i : RunsOn n c₀ k c) where
+    pub run_goes : {d : Cursor} → k < n → reads c (Ok d) → RunsOn n c₀ (k + 1) d
+    run_goes h e r w = let j : n - k ≡ suc (n - (k + 1)) = omega arith in i r (rw j (more e w))
+
+    pub run_stops : {f : Fault} {r : Walked} → k < n → reads c (Err f) → IsErrAnd r (λ g. g ≡ f) → Run reads n c₀ r
+    run_stops {r = r} h e w = let j : n - k ≡ suc (n - (k + 1)) = omega arith in rw (handed r w) (i _ (rw j (stop e)))
+
+    pub run_ends : n ≤ k → Run reads n c₀ (Ok c)
+    run_ends h = let j : n - k ≡ 0 = omega arith in i _ (rw j done)
 
 module _ {A : Type 0} (row : ℕ → Reader A) where
-  -- the loop's invariant: whoever reads what is left from here has read all from the start
-  abbrev pub Reaches : List ℕ → ℕ → Cursor → ℕ → Cursor → Type 0
-  Reaches s n₀ c₀ n c = (r : Walked) → Ends s c.at r (row n (drop c.at s)) → Ends s c₀.at r (row n₀ (drop c₀.at s))
+  -- a count, and as many items, of which each leads on in the row
+  module _ {s : List ℕ} (reads : Cursor → Walked → Type 0) (a : A) (e : (l : List ℕ) → row 0 l ≡ ok a l) (lead : (c : Cursor) (r : Walked) → reads c r → Leads s c.at r row) where
+    run_row : (n : ℕ) (c : Cursor) (r : Walked) → Run reads n c r → Ends s c.at r (row n (drop c.at s))
+    run_row zero c r done = rw (e (drop c.at s)) (record { told = (a, record { gives = refl; along = refl }) })
+    run_row (suc n) c r (stop h) = (lead c _ h).told n
+    run_row (suc n) c r (more {d = d} h w) = (lead c _ h).told n r (run_row n d r w)
 
-  module _ {s : List ℕ} {p : ℕ} {x : Walked} (e : Leads s p x row) where
-    pub one_more : (c : Cursor) (n : ℕ) → x ≡ Past c → 0 < n → (r : Walked) → Ends s c.at r (row (n - 1) (drop c.at s)) → Ends s p r (row n (drop p s))
-    one_more c zero w h r k = absurd (omega arith)
-    one_more c (suc n) w h r k = subst (λ (y : Walked). LeadsBy s p y row) w e.told n r (rw sub-one at k)
+    counts_row : (p : ℕ) (r : Walked) (x : Step) → Took s p x (u16 (drop p s)) → CountsBy reads x r → Ends s p r (counted row (drop p s))
+    unfolding counted
+    counts_row p r (Ok x) t w = then_got _ t (run_row x.0 x.1 r w)
+    counts_row p r (Err f) t w = rw w (stops _ t.told)
 
-    pub no_more : (f : Fault) (n : ℕ) → x ≡ Refused f → 0 < n → Ends s p (Refused f) (row n (drop p s))
-    no_more f zero w h = absurd (omega arith)
-    no_more f (suc n) w h = subst (λ (y : Walked). LeadsBy s p y row) w e.told n
-
-  pub none_left : (a : A) → ((l : List ℕ) → row 0 l ≡ ok a l) → {s : List ℕ} (c : Cursor) (n : ℕ) → n ≤ 0 → Ends s c.at (Past c) (row n (drop c.at s))
-  none_left a e {s} c zero h = rw (e (drop c.at s)) (record { told = (a, record { gives = refl; along = refl }) })
-  none_left a e c (suc n) h = absurd (omega arith)
+    pub a_row : {p : ℕ} {r : Walked} → Counts s p reads r → Ends s p r (counted row (drop p s))
+    a_row {p} {r} c = counts_row p r c.count c.took c.told
 
   -- an item whose last part is read by m
   pub last : {B : Type 0} {s : List ℕ} {p q : ℕ} {m : Res (List ℕ) B} {x : Walked} → Ends s q x m
       → ((n : ℕ) (r : Walked) → Ends s q r (m >>= λ y. row n y.1) → Ends s p r (row (suc n) (drop p s))) → Leads s p x row
-  last {x = Past c} e k = record { told = λ n r w. k n r (then _ e refl (λ a. w)) }
-  last {x = Refused f} e k = record { told = λ n. k n (Refused f) (fails _ e refl) }
+  last {x = Ok c} e k = record { told = λ n r w. k n r (then _ e (λ a. w)) }
+  last {x = Err f} e k = record { told = λ n. k n (Err f) (stops _ e.told) }
 
 pub a_name : (t : List ℕ → Bool) {s : List ℕ} {p from : ℕ} {x : Walked} → Part s p from x (name_by t (drop p s)) → Leads s p x (names_by t)
 unfolding names_by

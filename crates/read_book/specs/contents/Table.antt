@@ -1,13 +1,12 @@
 -- What the code says of the contents.
-use Rattle.std.specs.Prelude.{◌≡◌, List, [], ◌∷◌, cond, ℕ, ◌+◌, ◌*◌, ◌≤◌, eqb, length, drop}
+use Rattle.std.specs.Prelude.{◌≡◌, List, [], ◌∷◌, cond, ℕ, ◌+◌, ◌*◌, ◌≤◌, eqb, length, drop, Result, Ok, Err}
 use Rattle.definition.specs.Code.{not_a_book}
 use Rattle.definition.specs.Res.{bad, ok, ◌>>=◌}
 use Rattle.definition.specs.Tree.{Entry}
 use Rattle.definition.specs.Read.{Reader}
 use Rattle.definition.specs.Contents.{entries, contents, count, cut, whole, Body}
 use Rattle.read_book.specs.cursor.Ends.{Fails}
-use Rattle.read_book.specs.declared.cursor.NumberStep.{NumberStep}
-use Rattle.read_book.specs.declared.cursor.NumberStep.TheVariants.{Number, NoNumber}
+use Rattle.read_book.specs.declared.cursor.Fault.{Fault}
 
 -- the bytes of all bodies
 unfoldable pub total : List Entry → ℕ
@@ -40,9 +39,9 @@ table width s = do
   (es, r) ← contents width s
   whole (cut es r)
 
-abbrev pub TabledBy : List ℕ → ℕ → NumberStep → Type 0
-TabledBy s width (Number n c) = (Holds s width n) × (c.at ≡ 2 + width * n)
-TabledBy s width (NoNumber f) = Fails s 0 f (table width s)
+abbrev pub TabledBy : List ℕ → ℕ → Result ℕ Fault → Type 0
+TabledBy s width (Ok n) = Holds s width n
+TabledBy s width (Err f) = Fails s 0 f (table width s)
 
-pub record Tabled (s : List ℕ) (width : ℕ) (r : NumberStep) : Type 0 where
+pub record Tabled (s : List ℕ) (width : ℕ) (r : Result ℕ Fault) : Type 0 where
   pub told : TabledBy s width r

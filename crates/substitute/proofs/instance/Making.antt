@@ -7,6 +7,7 @@ use mathlib.Core.Bool.{Bool, true, false}
 use Prim.Native.Nat.{ℕ, ◌-◌, ◌≤◌, ◌<◌, min}
 use native.Mathlib.Omega.{arith}
 use lib.Dec.{leb}
+use Rattle.std.proofs.Common.{Option, None, Some}
 use lib.ListN.{length}
 use borrow.Author.Tests.{leb-true, leb-false}
 use Rattle.definition.specs.Code.{macro_growth}
@@ -26,55 +27,53 @@ use Rattle.substitute.specs.substitution.Turned.{Areas, Holds, marks_of, limited
 use Rattle.substitute.specs.instance.Instance.{instance_by, Made, Instanced}
 
 module _ {macros book areas marks : List ℕ} {t : Turn} where
-  pub instanced_none : (left : ℕ) → left ≤ 0 → t.good ≡ true → Instanced macros book areas marks t left areas marks t
+  pub instanced_none : (left : ℕ) → left ≤ 0 → Instanced macros book areas marks t left areas marks (Some t)
   unfolding instance_by count_a
-  instanced_none left k g = record { says = λ ar ps xs c z y hp hx dx e hc. none ps xs c e hc }
+  instanced_none left k = record { says = λ ar ps xs c z y hp hx dx e hc. none ps xs c e hc }
     where
-      none : (ps : List Name) (xs : Inners) (c : Combinator) → left ≡ min (length ps) (count_a xs) → Holds (first areas) marks t.len t.n c → Made (first areas) marks t (instance_by (length marks) ps xs c)
-      none [] xs c e hc = (g, hc)
-      none (p ∷ ps) no_inner c e hc = (g, hc)
+      none : (ps : List Name) (xs : Inners) (c : Combinator) → left ≡ min (length ps) (count_a xs) → Holds (first areas) marks t.len t.n c → Made (first areas) marks (Some t) (instance_by (length marks) ps xs c)
+      none [] xs c e hc = hc
+      none (p ∷ ps) no_inner c e hc = hc
       none (p ∷ ps) (inner x xs) c e hc = absurd (omega arith)
 
-  module _ {areas₁ m₁ : List ℕ} {t₁ : Turn} {left : ℕ} (v : Turned macros book areas marks t areas₁ m₁ t₁) where
-    pub instanced_stop : 0 < left → t₁.good ≡ false → Instanced macros book areas marks t left areas₁ m₁ t₁
-    unfolding instance_by count_a w_all w_inners levels_a
-    instanced_stop k g = record { says = λ ar ps xs c z y hp hx dx e hc. stop ar ps xs c z y hp hx dx e hc }
-      where
-        refusal : (o : Out Combinator) (ps : List Name) (xs : Inners) (z y : List ℕ) → Went macros book (first areas₁) m₁ t₁ z y o → Made (first areas₁) m₁ t₁ (o >>= instance_by (length marks) ps xs)
-        refusal (refused k) ps xs z y w = w
-        refusal (done d) ps xs z y w = not_both _ w.0 g
+  pub instanced_stop : {areas₁ m₁ : List ℕ} {left : ℕ} → Turned macros book areas marks t areas₁ m₁ None → 0 < left → Instanced macros book areas marks t left areas₁ m₁ None
+  unfolding instance_by count_a w_all w_inners levels_a
+  instanced_stop {areas₁} {m₁} {left} v k = record { says = λ ar ps xs c z y hp hx dx e hc. stop ar ps xs c z y hp hx dx e hc }
+    where
+      refusal : (o : Out Combinator) (ps : List Name) (xs : Inners) (z y : List ℕ) → Went macros book (first areas₁) m₁ None z y o → Made (first areas₁) m₁ None (o >>= instance_by (length marks) ps xs)
+      refusal (refused k) ps xs z y w = w
+      refusal (done d) ps xs z y w = absurd w
 
-        stop : Areas macros book areas → (ps : List Name) (xs : Inners) (c : Combinator) (z y : List ℕ) → Here macros t.param (w_all w_name ps z) → Here book t.arg (w_inners xs y) → levels_a xs ≤ 64
-            → left ≡ min (length ps) (count_a xs) → Holds (first areas) marks t.len t.n c → Made (first areas₁) m₁ t₁ (instance_by (length marks) ps xs c)
-        stop ar [] xs c z y hp hx dx e hc = absurd (omega arith)
-        stop ar (p ∷ ps) no_inner c z y hp hx dx e hc = absurd (omega arith)
-        stop ar (p ∷ ps) (inner x xs) c z y hp hx dx e hc =
-            refusal (limited_by (length marks) (subst c p x)) ps xs (w_all w_name ps z) (w_inners xs y) (v.says ar p x c (w_all w_name ps z) (w_inners xs y) hp hx (omega arith) hc)
+      stop : Areas macros book areas → (ps : List Name) (xs : Inners) (c : Combinator) (z y : List ℕ) → Here macros t.param (w_all w_name ps z) → Here book t.arg (w_inners xs y) → levels_a xs ≤ 64
+          → left ≡ min (length ps) (count_a xs) → Holds (first areas) marks t.len t.n c → Made (first areas₁) m₁ None (instance_by (length marks) ps xs c)
+      stop ar [] xs c z y hp hx dx e hc = absurd (omega arith)
+      stop ar (p ∷ ps) no_inner c z y hp hx dx e hc = absurd (omega arith)
+      stop ar (p ∷ ps) (inner x xs) c z y hp hx dx e hc =
+          refusal (limited_by (length marks) (subst c p x)) ps xs (w_all w_name ps z) (w_inners xs y) (v.says ar p x c (w_all w_name ps z) (w_inners xs y) hp hx (omega arith) hc)
 
-    pub instanced_step : 0 < left → t₁.good ≡ true → length areas₁ ≡ length areas → length m₁ ≡ length marks
-        → {areas₂ m₂ : List ℕ} {r : Turn} → Instanced macros book areas₁ m₁ t₁ (left - 1) areas₂ m₂ r → Instanced macros book areas marks t left areas₂ m₂ r
-    unfolding instance_by count_a w_all w_inners levels_a
-    instanced_step k g la lm {areas₂} {m₂} {r} next = record { says = λ ar ps xs c z y hp hx dx e hc. step ar ps xs c z y hp hx dx e hc }
-      where
-        go : Areas macros book areas → (o : Out Combinator) (ps : List Name) (xs : Inners) (z y : List ℕ) → levels_a xs ≤ 64 → left - 1 ≡ min (length ps) (count_a xs)
-            → Went macros book (first areas₁) m₁ t₁ (w_all w_name ps z) (w_inners xs y) o → Made (first areas₂) m₂ r (o >>= instance_by (length marks) ps xs)
-        go ar (refused k) ps xs z y dx e w = not_both _ g w
-        go ar (done d) ps xs z y dx e w =
-            rw lm at (next.says (record { macros_short = ar.macros_short; book_short = ar.book_short; areas_long = la ∙ ar.areas_long }) ps xs d z y w.1 w.2 dx e w.3)
+  pub instanced_step : {areas₁ m₁ : List ℕ} {t₁ : Turn} {left : ℕ} → Turned macros book areas marks t areas₁ m₁ (Some t₁) → 0 < left → length areas₁ ≡ length areas → length m₁ ≡ length marks
+      → {areas₂ m₂ : List ℕ} {r : Option Turn} → Instanced macros book areas₁ m₁ t₁ (left - 1) areas₂ m₂ r → Instanced macros book areas marks t left areas₂ m₂ r
+  unfolding instance_by count_a w_all w_inners levels_a
+  instanced_step {areas₁} {m₁} {t₁} {left} v k la lm {areas₂} {m₂} {r} next = record { says = λ ar ps xs c z y hp hx dx e hc. step ar ps xs c z y hp hx dx e hc }
+    where
+      go : Areas macros book areas → (o : Out Combinator) (ps : List Name) (xs : Inners) (z y : List ℕ) → levels_a xs ≤ 64 → left - 1 ≡ min (length ps) (count_a xs)
+          → Went macros book (first areas₁) m₁ (Some t₁) (w_all w_name ps z) (w_inners xs y) o → Made (first areas₂) m₂ r (o >>= instance_by (length marks) ps xs)
+      go ar (refused k) ps xs z y dx e w = not_both true refl w
+      go ar (done d) ps xs z y dx e w =
+          rw lm at (next.says (record { macros_short = ar.macros_short; book_short = ar.book_short; areas_long = la ∙ ar.areas_long }) ps xs d z y w.0 w.1 dx e w.2)
 
-        step : Areas macros book areas → (ps : List Name) (xs : Inners) (c : Combinator) (z y : List ℕ) → Here macros t.param (w_all w_name ps z) → Here book t.arg (w_inners xs y) → levels_a xs ≤ 64
-            → left ≡ min (length ps) (count_a xs) → Holds (first areas) marks t.len t.n c → Made (first areas₂) m₂ r (instance_by (length marks) ps xs c)
-        step ar [] xs c z y hp hx dx e hc = absurd (omega arith)
-        step ar (p ∷ ps) no_inner c z y hp hx dx e hc = absurd (omega arith)
-        step ar (p ∷ ps) (inner x xs) c z y hp hx dx e hc =
-            go ar (limited_by (length marks) (subst c p x)) ps xs z y (omega arith) (omega arith) (v.says ar p x c (w_all w_name ps z) (w_inners xs y) hp hx (omega arith) hc)
+      step : Areas macros book areas → (ps : List Name) (xs : Inners) (c : Combinator) (z y : List ℕ) → Here macros t.param (w_all w_name ps z) → Here book t.arg (w_inners xs y) → levels_a xs ≤ 64
+          → left ≡ min (length ps) (count_a xs) → Holds (first areas) marks t.len t.n c → Made (first areas₂) m₂ r (instance_by (length marks) ps xs c)
+      step ar [] xs c z y hp hx dx e hc = absurd (omega arith)
+      step ar (p ∷ ps) no_inner c z y hp hx dx e hc = absurd (omega arith)
+      step ar (p ∷ ps) (inner x xs) c z y hp hx dx e hc =
+          go ar (limited_by (length marks) (subst c p x)) ps xs z y (omega arith) (omega arith) (v.says ar p x c (w_all w_name ps z) (w_inners xs y) hp hx (omega arith) hc)
 
 -- the loop of turns: whoever goes on from here has gone from the start
 pub record Making (macros book areas₀ marks₀ : List ℕ) (t₀ : Turn) (left₀ : ℕ) (areas marks : List ℕ) (t : Turn) (left : ℕ) : Type 0 where
-  pub good : t.good ≡ true
   pub areas_long : length areas ≡ length areas₀
   pub marks_long : length marks ≡ length marks₀
-  pub goes : (a' m' : List ℕ) (r : Turn) → Instanced macros book areas marks t left a' m' r → Instanced macros book areas₀ marks₀ t₀ left₀ a' m' r
+  pub goes : (a' m' : List ℕ) (r : Option Turn) → Instanced macros book areas marks t left a' m' r → Instanced macros book areas₀ marks₀ t₀ left₀ a' m' r
 
 -- ---- what a row says of the rule itself
 -- a row of 8,192 has room for every combinator within the limits

@@ -3,11 +3,12 @@
 use mathlib.Core.Path.{◌≡◌, refl, ap, ◌∙◌}
 use mathlib.Core.List.{List, [], ◌∷◌, ◌++◌}
 use mathlib.Core.Bool.{true, false}
-use Prim.Native.Nat.{ℕ, suc, ◌+◌, ◌≤◌, ◌<◌, min}
+use Prim.Native.Nat.{ℕ, zero, suc, ◌+◌, ◌*◌, ◌/◌, ◌≤◌, ◌<◌, min}
 use native.Mathlib.Numerals.{add-one}
 use native.Mathlib.Omega.{arith}
-use lib.ListN.{length, get_or, drop, length-drop}
-use lib.Seq.{drop-cons}
+use lib.ListN.{length, get_or, take, drop, length-drop}
+use lib.Seq.{drop-cons, drop-drop}
+use Rattle.std.specs.Simd.{first_chunks}
 use Rattle.definition.specs.Tree.{Name}
 use Rattle.buffer.specs.writes.Buf.{Wrote, part}
 use Rattle.buffer.proofs.writes.Wrote.{glue, place_is, same_length}
@@ -20,6 +21,21 @@ pub drop_two : (l : List ℕ) (i : ℕ) → i + 1 < length l → drop i l ≡ ge
 drop_two l i h =
     let k : i + 2 ≡ suc (suc i) = omega arith in
     drop-cons l i 0 (omega arith) ∙ ap (λ (t : List ℕ). get_or l i 0 ∷ t) (drop-cons l (suc i) 0 (omega arith)) ∙ rw (k, add-one i)
+
+-- the pairs of a list
+pub pair_at : (l : List ℕ) (k i : ℕ) → i < k → get_or (first_chunks 2 k l) i [] ≡ take 2 (drop (2 * i) l)
+pair_at l zero i h = absurd (omega arith)
+pair_at l (suc k) zero h = refl
+pair_at l (suc k) (suc i) h =
+    let e : 2 * suc i ≡ 2 + 2 * i = omega arith in
+    rw (e, pair_at (drop 2 l) k i (omega arith), drop-drop)
+
+module _ (l : List ℕ) (i : ℕ) (h : i < length l / 2) where
+  pub first_of_pair : get_or (get_or (first_chunks 2 (length l / 2) l) i []) 0 0 ≡ get_or l (2 * i) 0
+  first_of_pair = rw (pair_at l (length l / 2) i h, drop_two l (2 * i) (omega arith))
+
+  pub last_of_pair : get_or (get_or (first_chunks 2 (length l / 2) l) i []) 1 0 ≡ get_or l (2 * i + 1) 0
+  last_of_pair = rw (pair_at l (length l / 2) i h, drop_two l (2 * i) (omega arith))
 
 module _ (s : List ℕ) (p : Name) (a : List ℕ) (to : ℕ) where
   last : (l : List ℕ) (at : ℕ) → length l ≤ 1 → substituted s p a to l at ≡ part at to s
@@ -66,3 +82,22 @@ module _ (p : Name) (a : List ℕ) (to : ℕ) (marks d₀ : List ℕ) where
 
     pub copied_all : length marks ≤ i + 1 → {e : List ℕ} {r : ℕ} → Wrote d o (part at to (first d)) e r → Wrote d₀ 16384 (substituted (first d₀) p a to marks 0) e r
     copied_all h w = v.goes _ _ (rw (last (first d₀) p a to (drop i marks) at (rw length-drop (omega arith))) (rw v.kept at w))
+
+  -- the marks as pairs
+  module _ {d : List ℕ} {at o i : ℕ} (v : Copied d at o (2 * i)) {calls : List (List ℕ)} (ec : calls ≡ first_chunks 2 (length marks / 2) marks) (h : i < length calls) (long : length calls ≡ length marks / 2) {x : ℕ} (ex : x ≡ get_or (get_or calls i []) 0 0) where
+    within : i < length marks / 2
+    within = omega arith
+
+    two_on : 2 * (i + 1) ≡ 2 * i + 2
+    two_on = omega arith
+
+    call_at : x ≡ get_or marks (2 * i) 0
+    call_at = ex ∙ ap (λ (m : List (List ℕ)). get_or (get_or m i []) 0 0) ec ∙ first_of_pair marks i within
+
+    pub paired_call : calls_name_of (first d) x p ≡ true → {d₁ d₂ : List ℕ} {q o₂ y : ℕ} → Wrote d o (part at x (first d)) d₁ q → Wrote d₁ q a d₂ o₂ → y ≡ get_or (get_or calls i []) 1 0 → Copied d₂ y o₂ (2 * (i + 1))
+    paired_call e w₁ w₂ ey =
+        let end_at = ey ∙ ap (λ (m : List (List ℕ)). get_or (get_or m i []) 1 0) ec ∙ last_of_pair marks i within in
+        rw (two_on, end_at) (copied_call v (omega (arith, within)) (rw call_at at e) (rw call_at at w₁) w₂)
+
+    pub paired_other : calls_name_of (first d) x p ≡ false → Copied d at o (2 * (i + 1))
+    paired_other e = rw two_on (copied_other v (omega (arith, within)) (rw call_at at e))

@@ -1,12 +1,13 @@
 -- A parameter's turn.
 -- Assumes nothing.
 use mathlib.Core.Path.{◌≡◌, refl, sym, ap, ◌∙◌}
-use mathlib.Core.Logic.{⊎_elim}
+use mathlib.Core.Logic.{◌⊎◌, ⊎_elim}
 use mathlib.Core.List.{List, []}
 use mathlib.Core.Bool.{Bool, true, false, ◌&&◌}
 use Prim.Native.Nat.{ℕ, ◌+◌, ◌-◌, ◌≤◌, ◌<◌, min}
 use native.Mathlib.Omega.{arith}
 use lib.Dec.{leb}
+use Rattle.std.proofs.Common.{None, Some}
 use lib.ListN.{length, take, drop}
 use borrow.Author.Tests.{le-leb, lt-leb, leb-true, leb-false}
 use Rattle.definition.specs.Code.{macro_growth}
@@ -128,33 +129,39 @@ module _ {macros book areas marks : List ℕ} (t : Turn) where
         (substitution (first areas) p x t.len c 0 hc.rest hc.here (hc.end ∙ from_zero (size c)))
 
     -- the combinator d that was made in the second area, and copied back to the first
-    module _ (d : Combinator) (dd : levels d ≤ 127) (r : Turn) (a₁ m : List ℕ) (w : Walk) (m₂ : List ℕ) (fits : size d ≤ 16384) (ha : a₁ ≡ put (first areas) 0 (w_combinator d [])) (hm : m ≡ marks)
+    module _ (d : Combinator) (dd : levels d ≤ 127) (a₁ m : List ℕ) (w : Walk) (m₂ : List ℕ) (fits : size d ≤ 16384) (ha : a₁ ≡ put (first areas) 0 (w_combinator d [])) (hm : m ≡ marks)
         (hw : w ≡ (combinator_at 129 a₁ (walk 0 0 129 true) m).0) (hm₂ : m₂ ≡ (combinator_at 129 a₁ (walk 0 0 129 true) m).1) where
-      -- the tests tell what `limited_by` says
-      went : w.n ≤ length m → r.good ≡ leb 65 w.left → r.len ≡ w.at → r.n ≡ w.n → Here macros r.param z → Here book r.arg y → Went macros book a₁ m₂ r z y (limited_by (length marks) d)
-      went few e₁ e₂ e₃ g₁ g₂ =
-          let lm = ap length hm in
-          let la = first_long areas ar.areas_long in
-          let q : leb 65 w.left ≡ leb (levels d) 64 = deep_test (levels d) w.left (over_made d dd fits (first areas) m la w ha hw hm₂).deep in
-          let k : limited_by (length marks) d ≡ limited d = roomy d (length marks) (omega (arith, marks_fit d dd fits (first areas) m la w ha hw hm₂ few)) in
-          ⊎_elim
-          (λ (h : leb (levels d) 64 ≡ true). rw (k, within_size d fits, h) (e₁ ∙ q ∙ h, g₁, g₂, rw (e₂, e₃) (holds d dd fits (first areas) m la w ha hw hm₂ (leb-true (levels d) 64 h) few)))
-          (λ (h : leb (levels d) 64 ≡ false). rw (k, within_size d fits, h) (e₁ ∙ q ∙ h))
-          (yes_no (leb (levels d) 64))
+      deep_of : leb 65 w.left ≡ leb (levels d) 64
+      deep_of = deep_test (levels d) w.left (over_made d dd fits (first areas) m (first_long areas ar.areas_long) w ha hw hm₂).deep
 
-      stuck : length m < w.n → r.good ≡ false → Went macros book a₁ m₂ r z y (limited_by (length marks) d)
-      stuck many e =
+      room_of : w.n ≤ length m → limited_by (length marks) d ≡ limited d
+      room_of few =
           let lm = ap length hm in
-          rw (crowded d (length marks) (omega (arith, marks_cut d dd fits (first areas) m (first_long areas ar.areas_long) w ha hw hm₂ many))) e
+          roomy d (length marks) (omega (arith, marks_fit d dd fits (first areas) m (first_long areas ar.areas_long) w ha hw hm₂ few))
+
+      -- the tests tell what `limited_by` says
+      went : w.n ≤ length m → 65 ≤ w.left → (r : Turn) → r.len ≡ w.at → r.n ≡ w.n → Here macros r.param z → Here book r.arg y → Went macros book a₁ m₂ (Some r) z y (limited_by (length marks) d)
+      went few h r e₂ e₃ g₁ g₂ =
+          let q : leb (levels d) 64 ≡ true = sym deep_of ∙ le-leb 65 w.left h in
+          rw (room_of few, within_size d fits, q) (g₁, g₂, rw (e₂, e₃) (holds d dd fits (first areas) m (first_long areas ar.areas_long) w ha hw hm₂ (leb-true (levels d) 64 q) few))
+
+      stuck : (length m < w.n) ⊎ ((w.n ≤ length m) × (w.left < 65)) → Went macros book a₁ m₂ None z y (limited_by (length marks) d)
+      stuck = ⊎_elim
+          (λ (many : length m < w.n).
+          let lm = ap length hm in
+          rw (crowded d (length marks) (omega (arith, marks_cut d dd fits (first areas) m (first_long areas ar.areas_long) w ha hw hm₂ many))) refl)
+          (λ (k : (w.n ≤ length m) × (w.left < 65)).
+          let q : leb (levels d) 64 ≡ false = sym deep_of ∙ lt-leb 65 w.left k.1 in
+          rw (room_of k.0, within_size d fits, q) refl)
 
   module _ (u : Walk) (m : List ℕ) (hu : u ≡ (skip_at 64 book (walk t.arg 0 64 true) marks).0) (hm : m ≡ (skip_at 64 book (walk t.arg 0 64 true) marks).1)
       {nm bt fm made : List ℕ} {o : ℕ} (e : nm ≡ name_at macros t.param) (f : bt ≡ part t.arg u.at book) (g : fm ≡ take t.n m)
       (wb : Wrote areas 16384 (substituted (first areas) nm bt t.len fm 0) made o) where
-    pub turned_cut : length areas < o → (a' m' : List ℕ) (r : Turn) → r.good ≡ false → Turned macros book areas marks t a' m' r
-    turned_cut k a' m' r q = record {
+    pub turned_cut : length areas < o → (a' m' : List ℕ) → Turned macros book areas marks t a' m' None
+    turned_cut k a' m' = record {
       says = λ ar p x c z y hp hx dx hc.
           let v = ap length (sym (bytes_are ar p x c z y hp hx dx hc u m hu hm e f g)) in
-          rw (cut_by (subst c p x) (length marks) (over_size (subst c p x) (omega (arith, place_is wb, ar.areas_long, long_size (subst c p x))))) q;
+          rw (cut_by (subst c p x) (length marks) (over_size (subst c p x) (omega (arith, place_is wb, ar.areas_long, long_size (subst c p x))))) refl;
     }
 
     module _ (k : o ≤ length areas) {areas' m₂ : List ℕ} (wa : areas' ≡ put made 0 (part 16384 o made)) (w : Walk) (hw : w ≡ (combinator_at 129 (first areas') (walk 0 0 129 true) m).0)
@@ -176,19 +183,19 @@ module _ {macros book areas marks : List ℕ} (t : Turn) where
             let whole : areas' ≡ put made 0 (w_combinator d []) = wa ∙ rw back in
             ap first whole ∙ first-put made (w_combinator d []) (omega (arith, ar.areas_long, made_fits)) (omega (arith, same_length wb, made_fits)) ∙ rw (first_kept wb (omega arith))
 
-      pub turned_whole : w.n ≤ length m → (r : Turn) → r.param ≡ name_past_of macros t.param → r.arg ≡ u.at → r.len ≡ w.at → r.n ≡ w.n → r.good ≡ leb 65 w.left → Turned macros book areas marks t areas' m₂ r
-      turned_whole few r r₁ r₂ r₃ r₄ r₅ = record {
+      pub turned_whole : w.n ≤ length m → 65 ≤ w.left → (r : Turn) → r.param ≡ name_past_of macros t.param → r.arg ≡ u.at → r.len ≡ w.at → r.n ≡ w.n → Turned macros book areas marks t areas' m₂ (Some r)
+      turned_whole few h r r₁ r₂ r₃ r₄ = record {
         says = λ ar p x c z y hp hx dx hc.
             let d = subst c p x in
             let sk = over_arg ar p x c z y hp hx dx hc in
-            went ar p x c z y hp hx dx hc d (omega (arith, deeper p x c, hc.deep)) r (first areas') m w m₂ (omega (arith, long_size d, ar.areas_long, made_fits ar p x c z y hp hx dx hc)) (made_first ar p x c z y hp hx dx hc) (hm ∙ sk.marks) hw hm₂
-            few r₅ r₃ r₄ (rw r₁ (name_here p hp)) (rw (r₂, hu) sk.rest);
+            went ar p x c z y hp hx dx hc d (omega (arith, deeper p x c, hc.deep)) (first areas') m w m₂ (omega (arith, long_size d, ar.areas_long, made_fits ar p x c z y hp hx dx hc)) (made_first ar p x c z y hp hx dx hc) (hm ∙ sk.marks) hw hm₂
+            few h r r₃ r₄ (rw r₁ (name_here p hp)) (rw (r₂, hu) sk.rest);
       }
 
-      pub turned_crowded : length m < w.n → (r : Turn) → r.good ≡ false → Turned macros book areas marks t areas' m₂ r
-      turned_crowded many r q = record {
+      pub turned_over : (length m < w.n) ⊎ ((w.n ≤ length m) × (w.left < 65)) → Turned macros book areas marks t areas' m₂ None
+      turned_over over = record {
         says = λ ar p x c z y hp hx dx hc.
             let d = subst c p x in
             let sk = over_arg ar p x c z y hp hx dx hc in
-            stuck ar p x c z y hp hx dx hc d (omega (arith, deeper p x c, hc.deep)) r (first areas') m w m₂ (omega (arith, long_size d, ar.areas_long, made_fits ar p x c z y hp hx dx hc)) (made_first ar p x c z y hp hx dx hc) (hm ∙ sk.marks) hw hm₂ many q;
+            stuck ar p x c z y hp hx dx hc d (omega (arith, deeper p x c, hc.deep)) (first areas') m w m₂ (omega (arith, long_size d, ar.areas_long, made_fits ar p x c z y hp hx dx hc)) (made_first ar p x c z y hp hx dx hc) (hm ∙ sk.marks) hw hm₂ over;
       }

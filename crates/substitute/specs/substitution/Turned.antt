@@ -1,5 +1,5 @@
 -- What the turn of a parameter says of the trees that stand in the bytes.
-use Rattle.std.specs.Prelude.{◌≡◌, List, [], true, false, ℕ, ◌≤◌, leb, length, take}
+use Rattle.std.specs.Prelude.{◌≡◌, List, [], Option, IsNone, IsSomeAnd, ℕ, ◌≤◌, leb, length, take}
 use Rattle.definition.specs.Tree.{Name, Combinator, Inner}
 use Rattle.definition.specs.Code.{macro_growth}
 use Rattle.definition.specs.Out.{Out, refused, done, ◌>>=◌, given}
@@ -36,11 +36,11 @@ pub record Holds (a marks : List ℕ) (len n : ℕ) (c : Combinator) : Type 0 wh
   pub deep : levels c ≤ 64
 
 -- the turn of a parameter after which d stands in a, with what follows the parameter and the argument
-abbrev pub Went : List ℕ → List ℕ → List ℕ → List ℕ → Turn → List ℕ → List ℕ → Out Combinator → Type 0
-Went macros book a marks r z y (refused k) = r.good ≡ false
-Went macros book a marks r z y (done d) = (r.good ≡ true) × Here macros r.param z × Here book r.arg y × Holds a marks r.len r.n d
+abbrev pub Went : List ℕ → List ℕ → List ℕ → List ℕ → Option Turn → List ℕ → List ℕ → Out Combinator → Type 0
+Went macros book a marks r z y (refused k) = IsNone r
+Went macros book a marks r z y (done d) = IsSomeAnd r (λ t. Here macros t.param z × Here book t.arg y × Holds a marks t.len t.n d)
 
 -- rule 4: one parameter
-pub record Turned (macros book areas marks : List ℕ) (t : Turn) (areas' marks' : List ℕ) (r : Turn) : Type 0 where
+pub record Turned (macros book areas marks : List ℕ) (t : Turn) (areas' marks' : List ℕ) (r : Option Turn) : Type 0 where
   pub says : Areas macros book areas → (p : Name) (x : Inner) (c : Combinator) (z y : List ℕ) → Here macros t.param (w_name p z) → Here book t.arg (w_inner x y) → levels_i x ≤ 63
       → Holds (first areas) marks t.len t.n c → Went macros book (first areas') marks' r z y (limited_by (length marks) (subst c p x))

@@ -22,7 +22,8 @@ use Rattle.walker.specs.pieces.Pieces.{pieces, places}
 use Rattle.walker.proofs.calls.Link.{walked}
 use Rattle.walker.proofs.pieces.Room.{size_here, room_enough}
 use Rattle.walker.specs.declared.definitions.Definitions.{Definitions}
-use Rattle.walker.specs.definitions.Listed.{all_of, next_of, Left}
+use Rattle.walker.specs.declared.definitions.Entry.{Entry}
+use Rattle.walker.specs.definitions.Listed.{all_of, next_of, Left, First}
 use Rattle.walker.specs.definitions.Params.{ParamsPast}
 use Rattle.walker.proofs.definitions.Listed.{listed_kind, listed_body, listed_deep, all_left, next_left, no_more, some_more}
 use Rattle.walker.specs.bodies.Tested.{FormatTested, DefinitionTested, BodiesLeft, BodiesTested}
@@ -104,6 +105,14 @@ module _ {s : List ℕ} {test : Combinator → Bool} {row : ℕ} {d : Definition
         step : length s ≤ 16384 → row ≡ 8192 → (ds : List Definition) → Left s d ds → r ≡ every_body test ds
         step l q [] w = absurd (some_more k w)
         step l q (x ∷ ds) w = next.says l q ds (next_left he w) ∙ rw (every_step test x ds, sym (first l q x ds w), t)
+
+-- the same, by what a step over the definitions tells of the first
+module _ {s : List ℕ} {test : Combinator → Bool} {row : ℕ} {d e : Definitions} {x : Entry} (f : First s d x e) {long : ℕ} (hl : long ≡ row) {b : Bool} (v : DefinitionTested s x.kind x.at test long b) where
+  pub entry_out : b ≡ false → BodiesLeft s test row d false
+  entry_out t = left_out f.some f.kind hl (rw f.at at v) t
+
+  pub entry_step : b ≡ true → {r : Bool} → BodiesLeft s test row e r → BodiesLeft s test row d r
+  entry_step t n = left_step f.some f.kind hl (rw f.at at v) t f.others n
 
 pub bodies_tested : {s : List ℕ} {test : Combinator → Bool} {row : ℕ} {d : Definitions} {r : Bool} → d ≡ all_of s → BodiesLeft s test row d r → BodiesTested s test row r
 unfolding size_book

@@ -2,7 +2,7 @@
 -- Assumes nothing.
 use mathlib.Core.List.{List}
 use mathlib.Core.Path.{◌≡◌, refl}
-use Prim.Native.Nat.{ℕ, zero, suc, ◌-◌, ◌≤◌, ◌<◌}
+use Prim.Native.Nat.{ℕ, zero, suc, ◌+◌, ◌-◌, ◌≤◌, ◌<◌}
 use lib.Dec.{eqb, eqb-suc-zero}
 use native.Mathlib.Numerals.{sub-one}
 use native.Mathlib.Omega.{arith}
@@ -19,13 +19,15 @@ unfolding argument_at argument_by
 argument_level zero s w m = refl
 argument_level (suc k) s w m = rw (eqb-suc-zero, sub-one)
 
-module _ (step : Step) where
-  pub more : (n : ℕ) (w : Walk) (m : List ℕ) → 0 < n → times step n w m ≡ times step (n - 1) (step w m).0 (step w m).1
+-- of n steps i are done
+module _ (step : Step) (n i : ℕ) (w : Walk) (m : List ℕ) where
+  pub more : i < n → times step (n - i) w m ≡ times step (n - (i + 1)) (step w m).0 (step w m).1
   unfolding times
-  more zero w m h = absurd (omega arith)
-  more (suc n) w m h = rw sub-one
+  more h = let e : n - i ≡ suc (n - (i + 1)) = omega arith in rw e
 
-  pub done : (n : ℕ) (w : Walk) (m : List ℕ) → n ≤ 0 → times step n w m ≡ (w, m)
+  pub done : n ≤ i → times step (n - i) w m ≡ (w, m)
   unfolding times
-  done zero w m h = refl
-  done (suc n) w m h = absurd (omega arith)
+  done h = let e : n - i ≡ 0 = omega arith in rw e
+
+pub all_steps : (step : Step) (n : ℕ) (w : Walk) (m : List ℕ) {g : Walk × List ℕ} → times step (n - 0) w m ≡ g → times step n w m ≡ g
+all_steps step n w m e = let z : n - 0 ≡ n = omega arith in rw z at e

@@ -1,8 +1,8 @@
 -- Definitions as a book's contents list them, from the first to the last.
 -- Assumes nothing.
-use mathlib.Core.Path.{◌≡◌, refl, ◌∙◌}
+use mathlib.Core.Path.{◌≡◌, refl, ap, ◌∙◌}
 use mathlib.Core.List.{List, [], ◌∷◌, ◌++◌, map}
-use Prim.Native.Nat.{ℕ, ◌+◌, ◌-◌, ◌*◌, ◌/◌, ◌%◌, ◌≤◌, ◌<◌}
+use Prim.Native.Nat.{ℕ, ◌-◌, ◌+◌, ◌*◌, ◌/◌, ◌%◌, ◌≤◌, ◌<◌}
 use native.Mathlib.Omega.{arith}
 use lib.ListN.{length, length-append, length-map}
 use Rattle.definition.specs.Tree.{Definition, format, constant, byte_order, macro}
@@ -14,6 +14,7 @@ use Rattle.layout.specs.items.At.{byte_at, past_at, number_at}
 use Rattle.layout.specs.items.Here.{Here}
 use Rattle.layout.proofs.items.Here.{here_length, past_here, byte_here, number_here, number_past}
 use Rattle.walker.specs.declared.definitions.Definitions.{Definitions}
+use Rattle.walker.specs.declared.definitions.Entries.{Entries}
 use Rattle.walker.specs.definitions.Listed.{Listed, all_of, next_of, Left}
 
 deep_head : (d : Definition) (ds : List Definition) → levels_book (d ∷ ds) ≤ 64 → levels_book (d ∷ []) ≤ 64
@@ -106,18 +107,13 @@ book_listed s ds e b =
     )
 
 -- a book's definitions, all and one after the other
-pub all_is : (s : List ℕ) {left entry at : ℕ} → left ≡ number_at s 0 → entry ≡ past_at s 0 2 → at ≡ past_at s 2 (6 * left) → record { left = left; entry = entry; at = at } ≡ all_of s
-unfolding all_of
-all_is s l e a = rw (a, e, l)
-
-pub next_is : (s : List ℕ) (d : Definitions) {sized size left entry at : ℕ} → sized ≡ past_at s d.entry 4 → size ≡ number_at s sized → left ≡ d.left - 1 → entry ≡ past_at s d.entry 6 → at ≡ past_at s d.at size
-    → record { left = left; entry = entry; at = at } ≡ next_of s d
-unfolding next_of
-next_is s d p z l e a = rw (a, e, l, z, p)
-
 pub all_left : {s : List ℕ} {d : Definitions} → d ≡ all_of s → (ds : List Definition) → s ≡ w_book ds → IsBook ds → Left s d ds
 unfolding all_of
 all_left {s} e ds h b = let w = book_listed s ds h b in rw e (record { listed = rw w.0 w.1; count = w.0 })
+
+-- a `for` over a book's definitions begins with all of them
+pub begun : {s : List ℕ} {i j : Entries} → i ≡ j → (j.book.now ≡ s) × (j.ahead ≡ all_of s) → (i.book.now ≡ s) × (i.ahead ≡ all_of s)
+begun e h = rw e h
 
 module _ {s : List ℕ} {d : Definitions} where
   pub next_left : {e : Definitions} → e ≡ next_of s d → {x : Definition} {ds : List Definition} → Left s d (x ∷ ds) → Left s e ds
@@ -133,3 +129,7 @@ module _ {s : List ℕ} {d : Definitions} where
 pub next_less : (s : List ℕ) (d : Definitions) {e : Definitions} → e ≡ next_of s d → 0 < d.left → e.left < d.left
 unfolding next_of
 next_less s d h k = rw h (omega arith)
+
+pub next_count : (s : List ℕ) (d : Definitions) {e : Definitions} → e ≡ next_of s d → e.left ≡ d.left - 1
+unfolding next_of
+next_count s d h = ap (λ (x : Definitions). x.left) h

@@ -2,7 +2,7 @@
 -- Assumes nothing.
 use mathlib.Core.List.{List}
 use mathlib.Core.Path.{◌≡◌, refl}
-use Prim.Native.Nat.{ℕ, zero, suc, ◌-◌, ◌≤◌, ◌<◌}
+use Prim.Native.Nat.{ℕ, zero, suc, ◌+◌, ◌-◌, ◌≤◌, ◌<◌}
 use lib.Dec.{eqb, eqb-suc-zero}
 use native.Mathlib.Numerals.{sub-one}
 use native.Mathlib.Omega.{arith}
@@ -18,13 +18,15 @@ unfolding argument_at argument_by
 argument_level zero s at t = refl
 argument_level (suc k) s at t = rw (eqb-suc-zero, sub-one)
 
-module _ (step : Step) where
-  pub more : (n at : ℕ) (t : List ℕ) → 0 < n → times step n at t ≡ times step (n - 1) (step at t).0 (step at t).1
+-- of n steps i are done
+module _ (step : Step) (n i : ℕ) (at : ℕ) (t : List ℕ) where
+  pub more : i < n → times step (n - i) at t ≡ times step (n - (i + 1)) (step at t).0 (step at t).1
   unfolding times
-  more zero at t h = absurd (omega arith)
-  more (suc n) at t h = rw sub-one
+  more h = let e : n - i ≡ suc (n - (i + 1)) = omega arith in rw e
 
-  pub done : (n at : ℕ) (t : List ℕ) → n ≤ 0 → times step n at t ≡ (at, t)
+  pub done : n ≤ i → times step (n - i) at t ≡ (at, t)
   unfolding times
-  done zero at t h = refl
-  done (suc n) at t h = absurd (omega arith)
+  done h = let e : n - i ≡ 0 = omega arith in rw e
+
+pub all_steps : (step : Step) (n : ℕ) (at : ℕ) (t : List ℕ) {g : ℕ × List ℕ} → times step (n - 0) at t ≡ g → times step n at t ≡ g
+all_steps step n at t e = let z : n - 0 ≡ n = omega arith in rw z at e

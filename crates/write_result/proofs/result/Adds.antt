@@ -1,7 +1,6 @@
 -- Definitions added one after the other: entries grow at one place of the buffer, bodies at another behind it.
 -- Assumes nothing.
 use mathlib.Core.Path.{◌≡◌, refl, sym, ap, ◌∙◌}
-use mathlib.Core.Logic.{⊎_elim}
 use mathlib.Core.List.{List, [], ◌∷◌, ◌++◌, append_assoc, append-nil}
 use Prim.Native.Nat.{ℕ, zero, suc, ◌+◌, ◌*◌, ◌-◌, ◌%◌, ◌≤◌, ◌<◌}
 use native.Mathlib.Numerals.{add-one}
@@ -10,7 +9,7 @@ use lib.ListN.{length, get_or, take, drop, length-append, length-take}
 use lib.Seq.{take-add, length-take-le, drop_at, take-append-add}
 use Rattle.definition.specs.Write.{w_u16}
 use Rattle.buffer.specs.writes.Buf.{put, Wrote}
-use Rattle.buffer.proofs.writes.Put.{length-put, put-nil, put-put, put_fits, take_put, drop-put, within}
+use Rattle.buffer.proofs.writes.Put.{length-put, put-nil, put-put, put_fits, take_put, drop-put}
 use Rattle.buffer.proofs.writes.Wrote.{same_length, place_fits}
 use Rattle.laws.proofs.Sizes.{length_u16}
 use Rattle.layout.specs.items.At.{byte_at, number_at}
@@ -18,7 +17,7 @@ use Rattle.buffer.specs.writer.Entry.{entry_bytes}
 use Rattle.write_result.specs.splice.Model.{Tables, row, spliced}
 use Rattle.write_result.specs.lifted.Model.{lifted_bytes}
 use Rattle.write_result.specs.result.Model.{kept_bytes, Piece, entries, bodies, kept_from, lifted_from, definitions_from, book_bytes, result_bytes}
-use Rattle.write_result.specs.result.Adds.{Adds, AddsNext, Filled}
+use Rattle.write_result.specs.result.Adds.{Adds, Filled}
 
 -- two writes that do not meet
 module _ (d : List ℕ) (x : ℕ) (p : List ℕ) (o : ℕ) (q : List ℕ) (h : x + length p ≤ o) (k : o + length q ≤ length d) where
@@ -176,13 +175,6 @@ module _ (t : Tables) where
     length_lifted i zero = refl
     length_lifted i (suc n) = ap suc (length_lifted (suc i) n)
 
--- definition i of the result, behind `kept` others, was added as a lift
-pub next_lifted : (t : Tables) (order : List ℕ) {kept i k o o' : ℕ} {d d' : List ℕ} → kept ≤ i → k ≡ (i - kept) % 65536 → Adds d (kept + k) o (lifted_from t order k 1) d' o' → AddsNext t order kept i d o d' o'
-next_lifted t order {kept} {i} {k} m e a = record {
-  of_kept = λ h. absurd (omega arith);
-  of_lifts = λ _ h. let f : k ≡ i - kept = omega arith in let g : kept + (i - kept) ≡ i = omega arith in rw g at (rw f at a);
-}
-
 -- all definitions of the result, one after the other
 module _ (t : Tables) (order : List ℕ) (kept all : ℕ) where
   pub all_start : definitions_from t order kept all 0 ≡ kept_from t 0 kept ++ lifted_from t order 0 (all - kept)
@@ -219,13 +211,17 @@ module _ (t : Tables) (order : List ℕ) (kept all : ℕ) where
       ∙ ap (λ (j : ℕ). lifted_from t order (i - kept) 1 ++ lifted_from t order j (all - kept - j)) u
       ∙ ap (λ (k : ℕ). lifted_from t order (i - kept) 1 ++ (kept_from t (i + 1) k ++ lifted_from t order (i + 1 - kept) (all - kept - (i + 1 - kept)))) y
 
-  -- one turn
-  pub next_left : {d : List ℕ} {at i o : ℕ} {ps : List Piece} {d' d'' : List ℕ} {o' : ℕ} → Left d 0 at ps d' i o (definitions_from t order kept all i) → i < all → all ≤ kept + 65535 → AddsNext t order kept i d' o d'' o'
-      → Left d 0 at ps d'' (i + 1) o' (definitions_from t order kept all (i + 1))
-  next_left {d} {at} {i} g h k a = ⊎_elim
-      (λ (m : kept ≤ i). left_on g (a.of_lifts m (omega arith)) (lifted_one t order (i - kept)) (all_lifted i m h))
-      (λ (m : i < kept). left_on g (a.of_kept m) (kept_one t i) (all-kept i m))
-      (within kept i)
+  -- one of the kept ones, and one of the lifts
+  module _ {d : List ℕ} {at o : ℕ} {ps : List Piece} {d' d'' : List ℕ} {o' : ℕ} (i : ℕ) where
+    pub left_kept : Left d 0 at ps d' i o (definitions_from t order kept all i) → i < kept → Adds d' i o (kept_from t i 1) d'' o' → Left d 0 at ps d'' (i + 1) o' (definitions_from t order kept all (i + 1))
+    left_kept g h a = left_on g a (kept_one t i) (all-kept i h)
+
+    pub left_lifted : Left d 0 at ps d' (kept + i) o (definitions_from t order kept all (kept + i)) → kept + i < all → Adds d' (kept + i) o (lifted_from t order i 1) d'' o'
+        → Left d 0 at ps d'' (kept + (i + 1)) o' (definitions_from t order kept all (kept + (i + 1)))
+    left_lifted g h a =
+        let e : kept + i - kept ≡ i = omega arith in
+        let f : kept + i + 1 ≡ kept + (i + 1) = omega arith in
+        rw f at (left_on g a (lifted_one t order i) (rw e at (all_lifted (kept + i) (omega arith) h)))
 
 -- the count, then all definitions
 pub filled : {d d' d'' : List ℕ} {x o n : ℕ} (ps : List Piece) → length ps ≡ n → Wrote d 0 (w_u16 (n % 65536) []) d' x → Adds d' 0 (2 + 6 * n) ps d'' o → Filled d (book_bytes n ps) d'' o

@@ -3,7 +3,7 @@
 use mathlib.Core.Path.{◌≡◌, refl, sym, ap, ◌∙◌}
 use mathlib.Core.List.{List, [], ◌++◌, append_assoc, append-nil}
 use mathlib.Core.Bool.{Bool, true, false, cond}
-use Prim.Native.Nat.{ℕ, zero, suc, ◌+◌, ◌*◌, ◌-◌, ◌≤◌, ◌<◌, min, max}
+use Prim.Native.Nat.{ℕ, zero, suc, ◌+◌, ◌-◌, ◌≤◌, ◌<◌, min, max}
 use native.Mathlib.Numerals.{add-one, sub-one}
 use native.Mathlib.Omega.{arith}
 use lib.Dec.{leb, eqb}
@@ -14,6 +14,8 @@ use Rattle.buffer.proofs.writes.Put.{part_back, part_split}
 use Rattle.lift_tables.specs.tables.Rows.{row_at}
 use Rattle.write_result.specs.invocation.Invocation.{call_bytes}
 use Rattle.write_result.specs.splice.Model.{Tables, row, placed, goes, on_from, spliced}
+use Rattle.write_result.specs.declared.tables.Row.{Row}
+use Rattle.write_result.specs.tables.Numbers.{row_numbers}
 use Rattle.write_result.specs.next_lift.Next.{next_of, next_lift_of}
 
 -- a range with its calls
@@ -84,10 +86,10 @@ module _ (t : Tables) where
   gap_next gap p to q g e = rw e (gap_of gap to (to - p) p g refl)
 
   -- it is written, the call behind it, and the next gap begins where the lift ends
-  pub gap_call : (gap p to k : ℕ) → p < to → get_or t.number p 0 ≡ k → (k ≡ 0 → ⊥) → (end e : ℕ) → end ≡ get_or t.rows (5 * (k - 1) + 1) 0 → e ≡ max end (p + 1)
+  pub gap_call : (gap p to k : ℕ) → p < to → get_or t.number p 0 ≡ k → (k ≡ 0 → ⊥) → (r : Row) (e : ℕ) → r ≡ row_numbers t.rows (k - 1) → e ≡ max r.end (p + 1)
       → part gap (min p to) t.book ++ on_from t p to ≡ part gap p t.book ++ (call_bytes (row t (k - 1)) ++ (part e (min e to) t.book ++ on_from t e to))
   unfolding row_at
-  gap_call gap p to k h e f end stop v q =
+  gap_call gap p to k h e f r stop v q =
       let a : min p to ≡ p = omega arith in
       let b : stop ≡ max (row t (k - 1)).end (suc p) = q ∙ rw (v, add-one p) in
       rw (a, on_call p to k h e f, part_back stop (min stop to) t.book (omega arith), b)

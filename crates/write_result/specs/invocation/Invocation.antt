@@ -5,9 +5,13 @@ use Rattle.definition.specs.Write.{w_u16}
 use Rattle.buffer.specs.writes.Buf.{name_bytes}
 use Rattle.lift_tables.specs.tables.Rows.{Row}
 
+-- so many bytes from a place on
+abbrev pub bytes_from : List ℕ → ℕ → ℕ → List ℕ
+bytes_from s at n = take n (drop at s)
+
 -- the name of parameter j
 abbrev pub param_name_of : List ℕ → List ℕ → ℕ → Name
-param_name_of s params j = take (get_or params (4 * j + 1) 0) (drop (get_or params (4 * j) 0) s)
+param_name_of s params j = bytes_from s (get_or params (4 * j) 0) (get_or params (4 * j + 1) 0)
 
 unfoldable pub names_bytes : List Name → List ℕ
 names_bytes [] = []

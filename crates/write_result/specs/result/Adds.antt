@@ -1,7 +1,7 @@
 -- What a buffer holds after definitions were added to the book in it.
-use Rattle.std.specs.Prelude.{List, ◌++◌, ◌≡◌, ℕ, ◌+◌, ◌-◌, ◌*◌, ◌≤◌, ◌<◌, length, drop}
+use Rattle.std.specs.Prelude.{List, ◌++◌, ◌≡◌, ℕ, ◌+◌, ◌*◌, ◌≤◌, length, drop}
 use Rattle.buffer.specs.writes.Buf.{put}
-use Rattle.write_result.specs.result.Model.{Tables, Piece, entries, bodies, kept_from, lifted_from}
+use Rattle.write_result.specs.result.Model.{Piece, entries, bodies}
 
 -- definitions were added, the first of them the i-th, its body at o: where the buffer holds them all, it holds their entries and their bodies,
 -- and the next body begins at o'
@@ -9,11 +9,6 @@ pub record Adds (d : List ℕ) (i o : ℕ) (ps : List Piece) (d' : List ℕ) (o'
   pub long : length d' ≡ length d
   pub holds : 2 + 6 * (i + length ps) ≤ o → o + length (bodies ps) ≤ length d → d' ≡ put (put d (2 + 6 * i) (entries o ps)) o (bodies ps)
   pub place : 2 + 6 * (i + length ps) ≤ o → o + length (bodies ps) ≤ length d → o' ≡ o + length (bodies ps)
-
--- definition i of the result was added, its body at o: it is one of the `kept` ones, or of the lifts behind them
-pub record AddsNext (t : Tables) (order : List ℕ) (kept i : ℕ) (d : List ℕ) (o : ℕ) (d' : List ℕ) (o' : ℕ) : Type 0 where
-  pub of_kept : i < kept → Adds d i o (kept_from t i 1) d' o'
-  pub of_lifts : kept ≤ i → i < kept + 65536 → Adds d i o (lifted_from t order (i - kept) 1) d' o'
 
 -- the book r was written into a buffer that holds it: "the result fills the output's first bytes and the rest is as before"
 pub record Filled (d r d' : List ℕ) (n : ℕ) : Type 0 where

@@ -3,4 +3,4 @@ use Rattle.buffer.proofs.writer.put_entry.Goals as goal
 
 pub returns : goal.returns
 unfolding entry_bytes
-returns c = rw (← c.minus-n.ensures) c.entry_at.ensures
+returns c = rw (← c.saturating_sub-n.ensures) c.entry_at.ensures

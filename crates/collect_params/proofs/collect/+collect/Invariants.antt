@@ -1,4 +1,4 @@
-use Rattle.std.proofs.Common.{◌≡◌, ◌+◌, ◌*◌}
+use Rattle.std.proofs.Common.{◌≡◌, ◌+◌, ◌-◌, ◌*◌}
 use Rattle.collect_params.specs.collect.Walk.{times, argument_at, case_at, field_at}
 use Rattle.collect_params.proofs.collect.+collect.Given as goal
 
@@ -41,23 +41,14 @@ decreases-macro_call l = 8 * l.levels + 3
 abbrev pub decreases-wrap : goal.decreases-wrap
 decreases-wrap l = 8 * l.levels + 1
 
-abbrev pub invariant-arguments-loop-left : goal.invariant-arguments-loop-left
-invariant-arguments-loop-left l =
-    times (argument_at l.levels l.s) l.initial.left l.initial.here l.initial.bound l.initial.uses ≡ times (argument_at l.levels l.s) l.left l.here l.bound l.uses
+abbrev pub invariant-arguments-loop : goal.invariant-arguments-loop
+invariant-arguments-loop l =
+    times (argument_at l.levels l.s) l.k l.initial.here l.initial.bound l.initial.uses ≡ times (argument_at l.levels l.s) (l.k - l.counter) l.here l.bound l.uses
 
-abbrev pub decreases-arguments-loop-left : goal.decreases-arguments-loop-left
-decreases-arguments-loop-left l = l.left
+abbrev pub invariant-cases-loop : goal.invariant-cases-loop
+invariant-cases-loop l =
+    times (case_at l.levels l.s l.kind) l.k l.initial.here l.initial.bound l.initial.uses ≡ times (case_at l.levels l.s l.kind) (l.k - l.counter) l.here l.bound l.uses
 
-abbrev pub invariant-cases-loop-left : goal.invariant-cases-loop-left
-invariant-cases-loop-left l =
-    times (case_at l.levels l.s l.kind) l.initial.left l.initial.here l.initial.bound l.initial.uses ≡ times (case_at l.levels l.s l.kind) l.left l.here l.bound l.uses
-
-abbrev pub decreases-cases-loop-left : goal.decreases-cases-loop-left
-decreases-cases-loop-left l = l.left
-
-abbrev pub invariant-fields-loop-left : goal.invariant-fields-loop-left
-invariant-fields-loop-left l =
-    times (field_at l.levels l.s) l.initial.left l.initial.here l.initial.bound l.initial.uses ≡ times (field_at l.levels l.s) l.left l.here l.bound l.uses
-
-abbrev pub decreases-fields-loop-left : goal.decreases-fields-loop-left
-decreases-fields-loop-left l = l.left
+abbrev pub invariant-fields-loop : goal.invariant-fields-loop
+invariant-fields-loop l =
+    times (field_at l.levels l.s) l.k l.initial.here l.initial.bound l.initial.uses ≡ times (field_at l.levels l.s) (l.k - l.counter) l.here l.bound l.uses

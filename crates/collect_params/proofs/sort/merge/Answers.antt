@@ -1,34 +1,36 @@
-use mathlib.Core.Path.{sym, ◌∙◌}
+use mathlib.Core.Path.{ap, sym, ◌∙◌}
 use native.Mathlib.Omega.{arith}
 use Rattle.collect_params.proofs.sort.Merging.{merging_all, merging_done, left_there, right_there, merge_left, merge_right}
 use Rattle.collect_params.proofs.sort.merge.Goals as goal
+use Rattle.collect_params.proofs.sort.merge.Goals.{then-takes_left, else-takes_left}
 
-pub loop-k-init : goal.loop-k-init
-loop-k-init c = merging_all _ _ _ _ _ _ c.requires.0 c.requires.1
+pub loop-slot-init : goal.loop-slot-init
+loop-slot-init c = merging_all _ _ _ _ c.requires
 
-pub offset_bounds-src-i : goal.offset_bounds-src-i
-offset_bounds-src-i c = let g = left_there c.loop-k.invariant c.loop-k-test.true c.requires.2 c.requires.1 c.requires.3 (sym c.if-takes_left.true ∙ c.takes_left.ensures) in omega arith
+pub bounds-l-0 : goal.bounds-l-0
+bounds-l-0 c = let g = left_there c.loop-slot.invariant c.loop-slot-test.true (sym c.if-takes_left.true ∙ c.takes_left.ensures) in omega arith
 
-pub bounds-src-i : goal.bounds-src-i
-bounds-src-i c = let g = left_there c.loop-k.invariant c.loop-k-test.true c.requires.2 c.requires.1 c.requires.3 (sym c.if-takes_left.true ∙ c.takes_left.ensures) in omega arith
+pub slice_bounds-l-count : goal.slice_bounds-l-count
+slice_bounds-l-count c = let g = left_there c.loop-slot.invariant c.loop-slot-test.true (sym c.if-takes_left.true ∙ c.takes_left.ensures) in omega arith
 
-pub overflow_add-i : goal.overflow_add-i
-overflow_add-i c = let g = left_there c.loop-k.invariant c.loop-k-test.true c.requires.2 c.requires.1 c.requires.3 (sym c.if-takes_left.true ∙ c.takes_left.ensures) in omega arith
+pub slice_bounds-l-start : goal.slice_bounds-l-start
+slice_bounds-l-start c = let g = left_there c.loop-slot.invariant c.loop-slot-test.true (sym c.if-takes_left.true ∙ c.takes_left.ensures) in omega arith
 
-pub loop-k-preserved-then-takes_left : goal.loop-k-preserved-then-takes_left
-loop-k-preserved-then-takes_left c = merge_left c.loop-k.invariant c.loop-k-test.true c.requires.2 c.requires.1 c.requires.3 (sym c.if-takes_left.true ∙ c.takes_left.ensures)
+pub bounds-r-0 : goal.bounds-r-0
+bounds-r-0 c = let g = right_there c.loop-slot.invariant c.loop-slot-test.true (sym c.if-takes_left.false ∙ c.takes_left.ensures) in omega arith
 
-pub offset_bounds-src-j : goal.offset_bounds-src-j
-offset_bounds-src-j c = let g = right_there c.loop-k.invariant c.loop-k-test.true c.requires.2 c.requires.1 c.requires.3 (sym c.if-takes_left.false ∙ c.takes_left.ensures) in omega arith
+pub slice_bounds-r-count : goal.slice_bounds-r-count
+slice_bounds-r-count c = let g = right_there c.loop-slot.invariant c.loop-slot-test.true (sym c.if-takes_left.false ∙ c.takes_left.ensures) in omega arith
 
-pub bounds-src-j : goal.bounds-src-j
-bounds-src-j c = let g = right_there c.loop-k.invariant c.loop-k-test.true c.requires.2 c.requires.1 c.requires.3 (sym c.if-takes_left.false ∙ c.takes_left.ensures) in omega arith
+pub slice_bounds-r-start : goal.slice_bounds-r-start
+slice_bounds-r-start c = let g = right_there c.loop-slot.invariant c.loop-slot-test.true (sym c.if-takes_left.false ∙ c.takes_left.ensures) in omega arith
 
-pub overflow_add-j : goal.overflow_add-j
-overflow_add-j c = let g = right_there c.loop-k.invariant c.loop-k-test.true c.requires.2 c.requires.1 c.requires.3 (sym c.if-takes_left.false ∙ c.takes_left.ensures) in omega arith
-
-pub loop-k-preserved : goal.loop-k-preserved
-loop-k-preserved c = merge_right c.loop-k.invariant c.loop-k-test.true c.requires.2 c.requires.1 c.requires.3 (sym c.if-takes_left.false ∙ c.takes_left.ensures)
+pub loop-slot-preserved : goal.loop-slot-preserved
+loop-slot-preserved c =
+    elim c.if-takes_left.branch [
+      | then-takes_left w ↦ rw (w.dst-is, ap (λ b. b.now) w.r-is) (merge_left c.loop-slot.invariant c.loop-slot-test.true (sym w.if-takes_left.true ∙ c.takes_left.ensures) (ap (λ b. b.now) w.l-is))
+      | else-takes_left w ↦ rw (w.dst-is, ap (λ b. b.now) w.l-is) (merge_right c.loop-slot.invariant c.loop-slot-test.true (sym w.if-takes_left.false ∙ c.takes_left.ensures) (ap (λ b. b.now) w.r-is))
+    ]
 
 pub returns : goal.returns
-returns c = merging_done c.loop-k.invariant (omega arith)
+returns c = merging_done c.loop-slot.invariant c.requires c.loop-slot-test.false

@@ -1,18 +1,14 @@
-use native.Mathlib.Omega.{arith}
-use mathlib.Core.Path.{sym, ◌∙◌}
-use Rattle.buffer.proofs.writes.Put.{part_back}
-use Rattle.collect_params.proofs.sort.Tables.{part-cons}
-use Rattle.collect_params.proofs.sort.Merging.{left_none, left_only, left_not, left_yes}
+use mathlib.Core.Bool.{not}
+use mathlib.Core.Path.{ap, sym, ◌∙◌}
+use borrow.Author.Tests.{eqb-true, eqb-false}
+use Rattle.collect_params.proofs.sort.Merging.{left_none, left_only, left_two}
 use Rattle.collect_params.proofs.sort.takes_left.Goals as goal
 
-pub returns-then-mid-i : goal.returns-then-mid-i
-returns-then-mid-i c = rw (part_back c.args.i c.args.mid c.args.src.now c.if-mid-i.true) (left_none _ _)
+pub returns-then-is_empty : goal.returns-then-is_empty
+returns-then-is_empty c = left_none _ _ _ (eqb-true _ 0 (sym c.is_empty.ensures ∙ c.if-is_empty.true))
 
-pub returns-then-hi-j : goal.returns-then-hi-j
-returns-then-hi-j c = rw (part-cons c.args.i c.args.mid c.args.src.now (omega arith) c.requires.0, part_back c.args.j c.args.hi c.args.src.now c.if-hi-j.true) (left_only _ _ _)
+pub returns-then-is_empty-2 : goal.returns-then-is_empty-2
+returns-then-is_empty-2 c = c.if-is_empty-2.true ∙ left_only _ _ _ (eqb-false _ 0 (sym c.is_empty.ensures ∙ c.if-is_empty.false)) (eqb-true _ 0 (sym c.is_empty-2.ensures ∙ c.if-is_empty-2.true))
 
-pub returns-then-use_before : goal.returns-then-use_before
-returns-then-use_before c = rw (part-cons c.args.i c.args.mid c.args.src.now (omega arith) c.requires.0, part-cons c.args.j c.args.hi c.args.src.now (omega arith) c.requires.1) (left_not _ _ _ _ _ (sym c.use_before.ensures ∙ c.if-use_before.true))
-
-pub returns : goal.returns
-returns c = rw (part-cons c.args.i c.args.mid c.args.src.now (omega arith) c.requires.0, part-cons c.args.j c.args.hi c.args.src.now (omega arith) c.requires.1) (left_yes _ _ _ _ _ (sym c.use_before.ensures ∙ c.if-use_before.false))
+pub returns-else-is_empty-2 : goal.returns-else-is_empty-2
+returns-else-is_empty-2 c = ap not c.use_before.ensures ∙ left_two _ _ _ (eqb-false _ 0 (sym c.is_empty.ensures ∙ c.if-is_empty.false)) (eqb-false _ 0 (sym c.is_empty-2.ensures ∙ c.if-is_empty-2.false))

@@ -1,15 +1,16 @@
 use native.Mathlib.Omega.{arith}
 use Rattle.expand_macros.proofs.kept.Counting.{counting_none, counting_kept, counting_macro, counted}
 use Rattle.expand_macros.proofs.kept.count_kept.Goals as goal
+use Rattle.expand_macros.proofs.kept.count_kept.Goals.{then-kind-ne-MACRO, else-kind-ne-MACRO}
 
-pub loop-left-init : goal.loop-left-init
-loop-left-init c = (omega arith, λ r p. p)
-
-pub loop-left-preserved-then-kind-ne4 : goal.loop-left-preserved-then-kind-ne4
-loop-left-preserved-then-kind-ne4 c = (omega arith, λ r p. c.loop-left.invariant.1 r (counting_kept c.loop-left-test.true c.byte-kind.ensures c.past-entry-in-loop-left.ensures c.if-kind-ne4.true p))
-
-pub loop-left-preserved : goal.loop-left-preserved
-loop-left-preserved c = (omega arith, λ r p. c.loop-left.invariant.1 r (counting_macro c.loop-left-test.true c.byte-kind.ensures c.past-entry-in-loop-left.ensures c.if-kind-ne4.false p))
+pub loop-preserved : goal.loop-preserved
+loop-preserved c = (
+  omega arith,
+  λ r p. c.loop.invariant.1 r (elim c.if-kind-ne-MACRO.branch [
+    | then-kind-ne-MACRO w ↦ counting_kept (omega arith) c.byte-kind.ensures c.past-entry-in-loop.ensures w.if-kind-ne-MACRO.true (rw w.n-is at p)
+    | else-kind-ne-MACRO w ↦ counting_macro (omega arith) c.byte-kind.ensures c.past-entry-in-loop.ensures w.if-kind-ne-MACRO.false (rw w.n-is at p)
+  ]),
+)
 
 pub returns : goal.returns
-returns c = counted c.number-left.ensures c.past-entry.ensures (c.loop-left.invariant.1 _ (counting_none (omega arith)))
+returns c = counted c.number-all.ensures c.past-entry.ensures (c.loop.invariant.1 _ (counting_none (omega arith)))

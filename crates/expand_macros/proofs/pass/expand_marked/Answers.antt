@@ -7,14 +7,14 @@ use Rattle.expand_macros.proofs.pass.Passing.{passed_short, passed_grown, passed
 use Rattle.expand_macros.proofs.pass.expand_marked.Goals as goal
 
 pub returns-then-out-bodies : goal.returns-then-out-bodies
-returns-then-out-bodies c = passed_short c.count_kept.ensures c.least-n.ensures c.if-out-bodies.true
+returns-then-out-bodies c = passed_short c.count_kept.ensures c.min-n.ensures c.if-out-bodies.true
 
 pub returns-then-out-end : goal.returns-then-out-end
 returns-then-out-end c =
     passed_grown c.table-rows.ensures (length-replicate {0} {A = ℕ} 512 0) (length-replicate {0} {A = ℕ} 1280 0) (clear_new 1280 (omega arith))
-    c.count_kept.ensures c.least-n.ensures c.put_u16.ensures refl c.if-out-bodies.false c.expand_all-end.ensures c.expand_all-end.auto.out c.if-out-end.true
+    c.count_kept.ensures c.min-n.ensures c.put_u16.ensures refl c.if-out-bodies.false c.expand_all-end.ensures c.expand_all-end.auto.out c.if-out-end.true
 
 pub returns : goal.returns
 returns c =
     passed_book c.table-rows.ensures (length-replicate {0} {A = ℕ} 512 0) (length-replicate {0} {A = ℕ} 1280 0) (clear_new 1280 (omega arith))
-    c.count_kept.ensures c.least-n.ensures c.put_u16.ensures refl c.if-out-bodies.false c.expand_all-end.ensures c.expand_all-end.auto.out c.if-out-end.false
+    c.count_kept.ensures c.min-n.ensures c.put_u16.ensures refl c.if-out-bodies.false c.expand_all-end.ensures c.expand_all-end.auto.out c.if-out-end.false

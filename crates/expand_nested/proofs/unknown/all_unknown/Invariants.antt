@@ -1,10 +1,12 @@
+use mathlib.Core.Path.{◌≡◌}
+use Rattle.std.specs.Slice.Iter.{chunks_exact_rest, chunks_exact_size}
 use Rattle.expand_nested.proofs.unknown.Calls.{Marked}
-use lib.ListN.{length}
-use Prim.Native.Nat.{◌-◌, ◌≤◌}
 use Rattle.expand_nested.proofs.unknown.all_unknown.Given as goal
 
-abbrev pub invariant-loop-i : goal.invariant-loop-i
-invariant-loop-i l = (l.i ≤ length l.marks) × Marked l.macros l.places l.ways l.rows l.book l.marks l.i
-
-abbrev pub decreases-loop-i : goal.decreases-loop-i
-decreases-loop-i l = length l.marks - l.i
+abbrev pub invariant-loop-pair : goal.invariant-loop-pair
+invariant-loop-pair l = record {
+  can_next : (goal.iterator-loop-pair).can_next l.pair-iterator;
+  is_finite : (goal.iterator-loop-pair).is_finite l.pair-iterator;
+  size : chunks_exact_size l.pair-iterator ≡ 2;
+  marked : Marked l.macros l.book l.marks (chunks_exact_rest l.pair-iterator);
+}

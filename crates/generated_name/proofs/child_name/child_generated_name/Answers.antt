@@ -3,4 +3,4 @@ use Rattle.generated_name.proofs.child_name.Held.{extend}
 use Rattle.generated_name.proofs.child_name.child_generated_name.Goals as goal
 
 pub returns : goal.returns
-returns c = extend (glue c.put_byte-first.ensures c.generated_segment.ensures)
+returns c = extend (glue c.put_item-first.ensures c.generated_segment.ensures)

@@ -3,4 +3,4 @@ use Rattle.generated_name.proofs.child_name.Held.{extend}
 use Rattle.generated_name.proofs.child_name.numbered_name.Goals as goal
 
 pub returns : goal.returns
-returns c = extend (glue c.put_byte-o.ensures c.put_decimal.ensures)
+returns c = extend (glue c.put_item-o.ensures c.put_decimal.ensures)

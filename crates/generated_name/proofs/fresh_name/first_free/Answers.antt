@@ -8,14 +8,13 @@ loop-number-init c = trying_none _ _ _ _ _ (omega arith)
 
 pub is_free-requires : goal.is_free-requires
 is_free-requires c =
-    let p = c.requires in
-    (p.0, let a = c.loop-number.invariant.long in let b = written.same_length c.numbered_name-len.ensures.wrote in omega arith)
+    let a = c.loop-number.invariant.long in let b = written.same_length c.numbered_name-len.ensures.wrote in omega arith
 
 pub returns-then-is_free : goal.returns-then-is_free
-returns-then-is_free c = search_stops c.loop-number.invariant c.numbered_name-len.ensures c.requires.2 (λ h. rw c.if-is_free.true at c.is_free.ensures)
+returns-then-is_free c = search_stops c.loop-number.invariant c.numbered_name-len.ensures c.requires.1 (λ h. rw c.if-is_free.true at c.is_free.ensures)
 
 pub loop-number-preserved : goal.loop-number-preserved
-loop-number-preserved c = search_goes_on c.loop-number.invariant c.numbered_name-len.ensures c.requires.2 c.loop-number-test.true (rw c.if-is_free.false at c.is_free.ensures)
+loop-number-preserved c = search_goes_on c.loop-number.invariant c.numbered_name-len.ensures c.requires.1 c.loop-number-test.true (rw c.if-is_free.false at c.is_free.ensures)
 
 pub returns : goal.returns
-returns c = search_stops (search_ends c.loop-number.invariant c.loop-number-test.false) c.numbered_name-len-2.ensures c.requires.2 (λ h. absurd (omega arith))
+returns c = search_stops (search_ends c.loop-number.invariant c.loop-number-test.false) c.numbered_name-len-2.ensures c.requires.1 (λ h. absurd (omega arith))

@@ -1,9 +1,14 @@
-use mathlib.Core.Path.{sym, ◌∙◌}
+use mathlib.Core.Path.{◌≡◌, sym, ◌∙◌}
+use Prim.Native.Nat.{◌+◌, ◌-◌}
+use native.Mathlib.Omega.{arith}
 use Rattle.layout.proofs.items.Laws.{more, done}
 use Rattle.layout.proofs.items.names_past.Goals as goal
 
-pub loop-left-preserved : goal.loop-left-preserved
-loop-left-preserved c = c.loop-left.invariant ∙ more _ _ _ c.loop-left-test.true ∙ rw (← c.name_past-here.ensures)
+pub loop-preserved : goal.loop-preserved
+loop-preserved c =
+    let l = c.loop in
+    let e : c.args.count - l.counter - 1 ≡ c.args.count - (l.counter + 1) = omega arith in
+    l.invariant ∙ more _ _ _ (omega arith) ∙ rw (e, c.name_past-here.ensures)
 
 pub returns : goal.returns
-returns c = sym (c.loop-left.invariant ∙ done _ _ _ c.loop-left-test.false)
+returns c = sym (c.loop.invariant ∙ done _ _ _ (omega arith))

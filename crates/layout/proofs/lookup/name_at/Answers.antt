@@ -1,25 +1,18 @@
-use Prim.Native.Nat.{◌+◌, ◌-◌}
-use lib.Seq.{take_all}
-use lib.ListN.{length, drop, length-drop}
-use native.Mathlib.Nat.{add-sub_cancel_left}
+use Rattle.std.proofs.Common.{◌≡◌, sym, get_or, ◌+◌, ◌-◌, length, take, drop, length-drop, arith, rules}
+use Rattle.std.proofs.lemmas.List.{take_min}
+use Rattle.std.proofs.Math.Seq.{take_all}
 use Rattle.layout.specs.lookup.Name.{name_at}
-use Rattle.layout.proofs.lookup.Names.{name_none, name_cut}
-use mathlib.Core.Path.{sym, ◌∙◌}
-use native.Mathlib.Omega.{arith}
+use Rattle.layout.proofs.lookup.Names.{name_none}
 use Rattle.layout.proofs.lookup.name_at.Goals as goal
 
-pub returns-then-s-at : goal.returns-then-s-at
-returns-then-s-at c = sym (name_none _ _ (omega arith))
-
-pub overflow_cast-n : goal.overflow_cast-n
-overflow_cast-n c = omega (arith, c.type_inv.s c.args.at)
-
-pub returns-then-s-first : goal.returns-then-s-first
-returns-then-s-first c =
+pub returns-in-Some : goal.returns-in-Some
+unfolding name_at
+returns-in-Some c =
     let s = c.args.s.now in
     let at = c.args.at in
-    take_all (length s - (at + 1)) (drop (at + 1) s) (rw length-drop (omega arith)) ∙ sym (name_cut s at (omega arith))
+    let whole : take (length s - (at + 1)) (drop (at + 1) s) ≡ drop (at + 1) s = take_all _ _ (rw length-drop (omega arith)) in
+    let n : c.in-Some.field-0.now ≡ get_or s at 0 = c.in-Some.ensures.lookup.4 (omega arith) 0 in
+    rw (c.min.ensures, whole, n, take_min)
 
-pub returns : goal.returns
-unfolding name_at
-returns c = rw add-sub_cancel_left
+pub returns-in-None : goal.returns-in-None
+returns-in-None c = sym (name_none _ _ (search rules))

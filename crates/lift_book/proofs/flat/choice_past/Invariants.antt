@@ -1,9 +1,6 @@
-use mathlib.Core.Path.{◌≡◌}
-use Rattle.lift_book.specs.flat.Past.{times, case_past}
+use Rattle.std.proofs.Common.{◌≡◌, ◌-◌}
+use Rattle.lift_book.specs.flat.Past.{times, case_past, choice_past_of}
 use Rattle.lift_book.proofs.flat.choice_past.Given as goal
 
-abbrev pub invariant-loop-left : goal.invariant-loop-left
-invariant-loop-left l = times (case_past l.s l.kind) l.initial.left l.initial.here ≡ times (case_past l.s l.kind) l.left l.here
-
-abbrev pub decreases-loop-left : goal.decreases-loop-left
-decreases-loop-left l = l.left
+abbrev pub invariant-loop : goal.invariant-loop
+invariant-loop l = choice_past_of l.s l.at ≡ times (case_past l.s l.kind) (l.end - l.counter) l.here

@@ -1,30 +1,30 @@
 use native.Mathlib.Omega.{arith}
+use Rattle.std.proofs.lemmas.Result.{err_from_is_err_and}
 use Rattle.lift_book.proofs.lift_with.Lifting.{starts, lifts_refused, lifts_short, lifts_written, small}
 use Rattle.lift_book.proofs.lift_with.lift_with.Goals as goal
 
-pub expand_definitions-body-requires : goal.expand_definitions-body-requires
-expand_definitions-body-requires c =
+pub expand_definitions-requires : goal.expand_definitions-requires
+expand_definitions-requires c =
     let p = c.requires in
     let q = p.1 in
     (starts c.args.sheet.now p.0 q p.2, q.scratch, q.binders_long, q.right)
 
+pub returns-in_err-counts : goal.returns-in_err-counts
+returns-in_err-counts c =
+    let p = err_from_is_err_and c.from_residual.result c.from_residual.ensures.1 in
+    rw (p.1, p.2) (lifts_refused c.in_err-counts.ensures)
+
 pub returns-then-out-counts : goal.returns-then-out-counts
-returns-then-out-counts c = lifts_short (rw c.in-Named.is at c.expand_definitions-body.ensures) c.if-out-counts.true
-
-pub overflow_cast-length : goal.overflow_cast-length
-overflow_cast-length c = omega (arith, (small (rw c.in-Named.is at c.expand_definitions-body.ensures) c.requires.0).bytes)
-
-pub overflow_cast-definitions : goal.overflow_cast-definitions
-overflow_cast-definitions c = omega (arith, (small (rw c.in-Named.is at c.expand_definitions-body.ensures) c.requires.0).defns)
+returns-then-out-counts c = rw c.from.ensures (lifts_short c.in_ok-counts.ensures c.if-out-counts.true)
 
 pub overflow_cast-lifted : goal.overflow_cast-lifted
-overflow_cast-lifted c = omega (arith, (small (rw c.in-Named.is at c.expand_definitions-body.ensures) c.requires.0).lifts)
+overflow_cast-lifted c = omega (arith, (small c.in_ok-counts.ensures c.requires.0).lifts)
 
-pub write_parts-requires : goal.write_parts-requires
-write_parts-requires c = omega (arith, c.expand_definitions-body.auto.sheet, c.requires.2)
+pub overflow_cast-result : goal.overflow_cast-result
+overflow_cast-result c = omega (arith, (small c.in_ok-counts.ensures c.requires.0).bytes)
 
-pub returns-in-Refused : goal.returns-in-Refused
-returns-in-Refused c = lifts_refused (rw c.in-Refused.is at c.expand_definitions-body.ensures)
+pub overflow_cast-result-2 : goal.overflow_cast-result-2
+overflow_cast-result-2 c = omega (arith, (small c.in_ok-counts.ensures c.requires.0).defns)
 
-pub returns-else-out-counts : goal.returns-else-out-counts
-returns-else-out-counts c = lifts_written (rw c.in-Named.is at c.expand_definitions-body.ensures) c.if-out-counts.false c.write_parts.ensures
+pub returns : goal.returns
+returns c = lifts_written c.in_ok-counts.ensures c.if-out-counts.false c.write_parts.ensures

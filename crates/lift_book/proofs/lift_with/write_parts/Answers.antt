@@ -4,8 +4,8 @@ use Rattle.lift_tables.specs.tables.Parts.{order_in, rows_in_of, params_in}
 use Rattle.lift_tables.proofs.tables.Parts.{made_lent}
 use Rattle.lift_book.proofs.lift_with.write_parts.Goals as goal
 
-pub slice_bounds-write_result-end-4 : goal.slice_bounds-write_result-end-4
-slice_bounds-write_result-end-4 c = simp length-take (omega (arith, c.requires))
+pub slice_bounds-write_result-end : goal.slice_bounds-write_result-end
+slice_bounds-write_result-end c = simp length-take (omega (arith, c.requires))
 
 pub returns : goal.returns
 unfolding order_in rows_in_of params_in

@@ -1,56 +1,97 @@
 use mathlib.Core.Path.{refl, sym, ◌∙◌}
 use native.Mathlib.Omega.{arith}
-use Rattle.lift_combinator.proofs.naming.Lifting.{clear, left_over, count_short, are_sorted, tables_hinted, whole_within, refused_name, refused_macro, entered_lift}
+use lib.ListN.{length-take}
+use Rattle.std.proofs.lemmas.Result.{err_from_is_err_and}
+use Rattle.std.specs.Prelude.{Ok, Err}
+use Rattle.lift_combinator.proofs.naming.Lifting.{clear, left_over, left_code, count_short, are_sorted, tables_hinted, whole_within, refused_name, refused_macro, entered_lift}
 use Rattle.lift_tables.proofs.tables.Parts.{made_lent}
 use Rattle.lift_tables.proofs.enter_lift.Rows.{sheet_long}
 use Rattle.lift_combinator.proofs.naming.lift_anonymous_combinator.Goals as goal
 
-pub slice_bounds-fresh_generated_name-count : goal.slice_bounds-fresh_generated_name-count
-slice_bounds-fresh_generated_name-count c = omega (arith, sheet_long c.args.sheet.now c.requires.0.made_long)
+pub slice_bounds-names-count : goal.slice_bounds-names-count
+slice_bounds-names-count c = omega (arith, sheet_long c.args.sheet.now c.requires.0.made_long)
 
-pub slice_bounds-fresh_generated_name-start : goal.slice_bounds-fresh_generated_name-start
-slice_bounds-fresh_generated_name-start c = omega (arith, sheet_long c.args.sheet.now c.requires.0.made_long)
+pub slice_bounds-names-start : goal.slice_bounds-names-start
+slice_bounds-names-start c = omega (arith, sheet_long c.args.sheet.now c.requires.0.made_long)
+
+pub invariant_of-names : goal.invariant_of-names
+invariant_of-names c = record { table = rw (made_lent c.args.sheet.now) c.requires.0.table }
 
 pub fresh_generated_name-n-requires : goal.fresh_generated_name-n-requires
 fresh_generated_name-n-requires c =
     let t = c.requires.0 in
-    rw (made_lent c.args.sheet.now) (t.table, t.hinted, omega (arith, c.requires.3), omega (arith, t.few.1, t.defns_most))
+    rw (made_lent c.args.sheet.now) (t.hinted, omega (arith, c.requires.3), omega (arith, t.few.1, t.defns_most))
 
 pub returns-then-path-n : goal.returns-then-path-n
-returns-then-path-n c = (refused_name (rw (made_lent c.args.sheet.now) at c.fresh_generated_name-n.ensures.fresh).named (rw (made_lent c.args.sheet.now) at c.fresh_generated_name-n.ensures.fresh).kept (omega (arith, c.requires.3, c.fresh_generated_name-n.auto.path)) (omega (arith, c.requires.3, c.fresh_generated_name-n.auto.path, c.if-path-n.true)), refl)
+returns-then-path-n c =
+    let f = c.fresh_generated_name-n in
+    let g = rw (made_lent c.args.sheet.now) at f.ensures.fresh in
+    (refused_name g.named g.kept (omega (arith, c.requires.3, f.auto.path)) (omega (arith, c.requires.3, f.auto.path, c.if-path-n.true)), refl)
 
-pub enter_lift-entered-requires : goal.enter_lift-entered-requires
-enter_lift-entered-requires c =
+pub returns-in_err-k : goal.returns-in_err-k
+returns-in_err-k c =
     let p = c.requires in
-    let e = sym c.lift_params-found.ensures.0 ∙ c.in-Sorted.is in
-    let w = p.1.whole in
-    let m = whole_within w in
-    let k = count_short w c.args.bound.now c.args.uses.now c.args.spare.now p.2 p.0.source e in (
-      tables_hinted p.0 (rw (made_lent c.args.sheet.now) at c.fresh_generated_name-n.ensures.hints) (omega (arith, c.fresh_generated_name-n.auto.hints)),
-      omega (arith, w.is.reach, p.0.source),
+    let f = c.fresh_generated_name-n in
+    let g = rw (made_lent c.args.sheet.now) at f.ensures.fresh in
+    let r = err_from_is_err_and c.from_residual.result c.from_residual.ensures.1 in
+    let e = sym c.lift_params.ensures.0 ∙ c.in_err-k.was in
+    let d = left_code p.1.whole c.args.bound.now c.args.uses.now c.args.spare.now p.2 p.0.source e in
+    rw (r.1, r.2, d) (
+      refused_macro g.named g.kept (omega (arith, p.3, f.auto.path)) (omega (arith, p.3, f.auto.path, c.if-path-n.false)) (λ a w. left_over w c.args.bound.now c.args.uses.now c.args.spare.now p.2 p.0.source e),
+      refl,
+    )
+
+pub slice_bounds-enter_lift-end-3 : goal.slice_bounds-enter_lift-end-3
+slice_bounds-enter_lift-end-3 c =
+    let p = c.requires in
+    let k = count_short p.1.whole c.args.bound.now c.args.uses.now c.args.spare.now p.2 p.0.source (sym c.lift_params.ensures.0 ∙ c.in_ok-k.was) in
+    omega (arith, p.2.uses_long, c.lift_params.auto.uses)
+
+pub slice_bounds-enter_lift-end-4 : goal.slice_bounds-enter_lift-end-4
+slice_bounds-enter_lift-end-4 c =
+    let p = c.requires in
+    let k = count_short p.1.whole c.args.bound.now c.args.uses.now c.args.spare.now p.2 p.0.source (sym c.lift_params.ensures.0 ∙ c.in_ok-k.was) in
+    simp length-take (omega (arith, p.2.uses_long, c.lift_params.auto.uses))
+
+pub enter_lift-requires : goal.enter_lift-requires
+enter_lift-requires c =
+    let p = c.requires in
+    let f = c.fresh_generated_name-n in
+    let k = count_short p.1.whole c.args.bound.now c.args.uses.now c.args.spare.now p.2 p.0.source (sym c.lift_params.ensures.0 ∙ c.in_ok-k.was) in
+    let m = whole_within p.1.whole in (
+      tables_hinted p.0 (rw (made_lent c.args.sheet.now) at f.ensures.hints) (omega (arith, f.auto.hints)),
+      omega (arith, p.1.whole.is.reach, p.0.source),
       omega (arith, p.0.source),
-      c.if-path-n.false,
-      omega (arith, p.3, c.fresh_generated_name-n.auto.path, c.if-path-n.false),
-      omega (arith, p.2.uses_long, c.lift_params-found.auto.uses),
-      omega (arith, p.0.source),
+      simp length-take (omega (arith, p.3, f.auto.path, c.if-path-n.false)),
+      simp length-take (omega (arith, p.0.source)),
       p.4,
       p.5,
     )
 
-pub returns-in-Leftover : goal.returns-in-Leftover
-returns-in-Leftover c =
+pub returns-in_err-call : goal.returns-in_err-call
+returns-in_err-call c =
     let p = c.requires in
-    let e = c.lift_params-found.ensures.0 in
-    (refused_macro (rw (made_lent c.args.sheet.now) at c.fresh_generated_name-n.ensures.fresh).named (rw (made_lent c.args.sheet.now) at c.fresh_generated_name-n.ensures.fresh).kept (omega (arith, p.3, c.fresh_generated_name-n.auto.path)) (omega (arith, p.3, c.fresh_generated_name-n.auto.path, c.if-path-n.false)) (λ a w. left_over w c.args.bound.now c.args.uses.now c.args.spare.now p.2 p.0.source (sym e ∙ c.in-Leftover.is)), refl)
+    let f = c.fresh_generated_name-n in
+    let g = rw (made_lent c.args.sheet.now) at f.ensures.fresh in
+    let u = c.lift_params.ensures in
+    let e = sym u.0 ∙ c.in_ok-k.was in
+    let r = err_from_is_err_and c.from_residual-in_err-call.result c.from_residual-in_err-call.ensures.1 in
+    rw (r.1, r.2) (
+      entered_lift g.named g.kept (omega (arith, p.3, f.auto.path)) (omega (arith, p.3, f.auto.path, c.if-path-n.false)) _ (Err c.in_err-call.field-0.0)
+          (λ a w. (clear w c.args.bound.now c.args.uses.now c.args.spare.now p.2 p.0.source e, rw u.2 (are_sorted w c.args.bound.now c.args.uses.now c.args.spare.now p.2 p.0.source e)))
+          c.in_err-call.ensures.0,
+      c.in_err-call.ensures.1,
+    )
 
-pub returns-in-Sorted : goal.returns-in-Sorted
-returns-in-Sorted c =
+pub returns : goal.returns
+returns c =
     let p = c.requires in
-    let g = c.lift_params-found.ensures in
-    let e = sym g.0 ∙ c.in-Sorted.is in
-    rw c.named_of.ensures (
-      (entered_lift (rw (made_lent c.args.sheet.now) at c.fresh_generated_name-n.ensures.fresh).named (rw (made_lent c.args.sheet.now) at c.fresh_generated_name-n.ensures.fresh).kept (omega (arith, p.3, c.fresh_generated_name-n.auto.path)) (omega (arith, p.3, c.fresh_generated_name-n.auto.path, c.if-path-n.false)) _ _
-          (λ a w. (clear w c.args.bound.now c.args.uses.now c.args.spare.now p.2 p.0.source e, rw g.2 (are_sorted w c.args.bound.now c.args.uses.now c.args.spare.now p.2 p.0.source e)))
-          c.enter_lift-entered.ensures.0),
-      c.enter_lift-entered.ensures.1,
+    let f = c.fresh_generated_name-n in
+    let g = rw (made_lent c.args.sheet.now) at f.ensures.fresh in
+    let u = c.lift_params.ensures in
+    let e = sym u.0 ∙ c.in_ok-k.was in (
+      entered_lift g.named g.kept (omega (arith, p.3, f.auto.path)) (omega (arith, p.3, f.auto.path, c.if-path-n.false)) _ (Ok c.in_ok-call.field-0)
+          (λ a w. (clear w c.args.bound.now c.args.uses.now c.args.spare.now p.2 p.0.source e, rw u.2 (are_sorted w c.args.bound.now c.args.uses.now c.args.spare.now p.2 p.0.source e)))
+          c.in_ok-call.ensures.0,
+      c.in_ok-call.ensures.1,
     )

@@ -1,22 +1,15 @@
-use Prim.Native.Nat.{◌+◌}
 use native.Mathlib.Omega.{arith}
-use Rattle.lift_tables.proofs.binders.Windows.{clear_more, found_here, found_end}
+use Rattle.lift_tables.proofs.binders.Found.{row_has, row_has_none, no_row}
 use Rattle.lift_tables.proofs.binders.find_binder.Goals as goal
 
-pub loop-j-init : goal.loop-j-init
-loop-j-init c k h g = absurd (omega arith)
+pub row_from-row-requires : goal.row_from-row-requires
+row_from-row-requires c = omega (arith, c.loop-k-test.true)
 
-pub returns-then-b-j : goal.returns-then-b-j
-returns-then-b-j c =
-    let l = c.loop-j in
-    let f = c.first_in_window-i in
-    found_end _ _ _ _ (l.j + f.result) (omega arith) (clear_more _ _ _ _ c.window_from-w.ensures f.result (omega arith) (omega (arith, f.ensures)) l.invariant)
+pub returns-in-Some : goal.returns-in-Some
+returns-in-Some c = row_has _ _ _ _ _ c.loop-k.invariant _ _ c.row_from-row.ensures c.min-n.ensures c.in-Some.ensures
 
-pub returns-then-i-lt8 : goal.returns-then-i-lt8
-returns-then-i-lt8 c = found_here _ _ _ _ c.window_from-w.ensures _ c.first_in_window-i.ensures (omega arith) (omega arith) c.loop-j.invariant
-
-pub loop-j-preserved : goal.loop-j-preserved
-loop-j-preserved c = clear_more _ _ _ _ c.window_from-w.ensures _ (omega arith) (omega (arith, c.first_in_window-i.ensures)) c.loop-j.invariant
+pub loop-k-preserved : goal.loop-k-preserved
+loop-k-preserved c = row_has_none _ _ _ _ _ c.loop-k.invariant _ _ c.row_from-row.ensures c.min-n.ensures c.in_default.ensures
 
 pub returns : goal.returns
-returns c = found_end _ _ _ _ _ c.loop-j-test.false c.loop-j.invariant
+returns c = no_row _ _ _ _ _ c.loop-k.invariant (omega (arith, c.loop-k-test.false))

@@ -1,15 +1,13 @@
 use mathlib.Core.Path.{sym, ◌∙◌}
-use Rattle.lift_tables.proofs.binders.Passed.{passed_none, at_end_of, at_hit, at_miss}
+use native.Mathlib.Omega.{arith}
+use Rattle.lift_tables.proofs.binders.Found.{no_binder, here, on, none}
 use Rattle.lift_tables.proofs.binders.first_named.Goals as goal
 
-pub loop-i-init : goal.loop-i-init
-loop-i-init c = passed_none c.args.s.now c.args.name.now c.args.row.now
+pub returns-then-same_name : goal.returns-then-same_name
+returns-then-same_name c = here _ _ _ _ c.loop-binder.invariant _ c.loop-binder-test.true (rw (← c.from.ensures, ← c.name_at.ensures) (sym c.same_name.ensures ∙ c.if-same_name.true))
 
-pub loop-i-preserved : goal.loop-i-preserved
-loop-i-preserved c = at_miss _ _ _ _ c.if-row-i.false c.loop-i.invariant (sym c.is_named.ensures ∙ c.if-is_named.false)
+pub loop-binder-preserved : goal.loop-binder-preserved
+loop-binder-preserved c = on _ _ _ _ c.loop-binder.invariant no_binder c.loop-binder-test.true (rw (← c.from.ensures, ← c.name_at.ensures) (sym c.same_name.ensures ∙ c.if-same_name.false))
 
-pub returns-then-row-i : goal.returns-then-row-i
-returns-then-row-i c = at_end_of c.args.s.now c.args.name.now c.args.row.now _ c.if-row-i.true c.loop-i.invariant
-
-pub returns-then-is_named : goal.returns-then-is_named
-returns-then-is_named c = at_hit _ _ _ _ c.if-row-i.false c.loop-i.invariant (sym c.is_named.ensures ∙ c.if-is_named.true)
+pub returns : goal.returns
+returns c = none _ _ _ _ c.loop-binder.invariant (omega arith)

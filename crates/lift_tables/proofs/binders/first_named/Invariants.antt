@@ -1,9 +1,7 @@
-use Rattle.std.proofs.Common.{length, ◌-◌}
-use Rattle.lift_tables.proofs.binders.Passed.{Passed}
+use mathlib.Core.Path.{◌≡◌}
+use lib.ListN.{drop}
+use Rattle.lift_tables.specs.binders.Row.{found_in}
 use Rattle.lift_tables.proofs.binders.first_named.Given as goal
 
-abbrev pub invariant-loop-i : goal.invariant-loop-i
-invariant-loop-i l = Passed l.s l.name l.row l.i
-
-abbrev pub decreases-loop-i : goal.decreases-loop-i
-decreases-loop-i l = length l.row - l.i
+abbrev pub invariant-loop-binder : goal.invariant-loop-binder
+invariant-loop-binder l = found_in l.s l.name l.row ≡ found_in l.s l.name (drop l.binder-index l.row)

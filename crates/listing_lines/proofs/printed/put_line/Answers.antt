@@ -1,15 +1,18 @@
+use native.Mathlib.Omega.{arith}
 use Rattle.buffer.proofs.writes.Wrote.{glue}
 use Rattle.listing_lines.proofs.printed.Lines.{line_order, line_const, line_none, line_format}
 use Rattle.listing_lines.proofs.printed.put_line.Goals as goal
 
-pub returns-then-kind-eq3 : goal.returns-then-kind-eq3
-returns-then-kind-eq3 c = line_order c.if-kind-eq3.true c.put_bytes.ensures
+pub returns-in-1 : goal.returns-in-1
+returns-in-1 c =
+    let w = glue (glue (glue (glue c.put_word-a.ensures c.put_byte-b.ensures) c.put_shown-c.ensures) c.put_count-d.ensures) c.put_byte.ensures in
+    line_format c.in-1.is (rw (c.name_at-name.ensures, c.from-params.ensures, c.number.ensures, c.name_past.ensures) at w)
 
-pub returns-then-kind-eq2 : goal.returns-then-kind-eq2
-returns-then-kind-eq2 c = line_const c.if-kind-eq2.true (rw c.name_at-name.ensures at (glue c.put_bytes-a.ensures (glue c.put_shown-b.ensures c.put_byte.ensures)))
+pub returns-in-2 : goal.returns-in-2
+returns-in-2 c = line_const c.in-2.is (rw c.name_at-name.ensures at (glue c.put_bytes-a.ensures (glue c.put_shown-b.ensures c.put_byte-in-2.ensures)))
 
-pub returns-then-kind-ne1 : goal.returns-then-kind-ne1
-returns-then-kind-ne1 c = line_none c.if-kind-ne1.true c.if-kind-eq2.false c.if-kind-eq3.false c.put_bytes-then-kind-ne1.ensures
+pub returns-in-3 : goal.returns-in-3
+returns-in-3 c = line_order c.in-3.is c.put_bytes.ensures
 
-pub returns : goal.returns
-returns c = line_format c.if-kind-ne1.false (rw (c.name_at-name.ensures, c.number-params.ensures, c.name_past-params_at.ensures) at (glue (glue (glue (glue c.put_word-a.ensures c.put_byte-b.ensures) c.put_shown-c.ensures) c.put_count-d.ensures) c.put_byte-2.ensures))
+pub returns-in_default : goal.returns-in_default
+returns-in_default c = line_none (λ e. omega arith) (λ e. omega arith) (λ e. omega arith) c.put_bytes-in_default.ensures

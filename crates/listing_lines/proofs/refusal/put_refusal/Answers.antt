@@ -3,7 +3,11 @@ use Rattle.listing_lines.proofs.refusal.put_refusal.Goals as goal
 
 pub returns-then-has_place : goal.returns-then-has_place
 returns-then-has_place c =
-    with_place _ _ c.has_place.ensures c.put_bytes-a.ensures c.put_count-b.ensures c.if-has_place.true c.put_bytes-c.ensures c.put_count-d.ensures c.put_byte.ensures
+    let b = rw (c.from-2.ensures, c.from.ensures) at c.put_count-b.ensures in
+    let d = rw c.from-then-has_place.ensures at c.put_count-d.ensures in
+    with_place _ _ c.has_place.ensures c.put_bytes-a.ensures b c.if-has_place.true c.put_bytes-c.ensures d c.put_byte.ensures
 
 pub returns : goal.returns
-returns c = without_place _ _ c.has_place.ensures c.put_bytes-a.ensures c.put_count-b.ensures c.if-has_place.false c.put_byte-2.ensures
+returns c =
+    let b = rw (c.from-2.ensures, c.from.ensures) at c.put_count-b.ensures in
+    without_place _ _ c.has_place.ensures c.put_bytes-a.ensures b c.if-has_place.false c.put_byte-2.ensures

@@ -1,4 +1,5 @@
 use Rattle.walker.specs.bodies.Tested.{BodiesLeft}
+use Rattle.walker.specs.definitions.Listed.{all_of}
 use Rattle.name_table.specs.kinds.Rows.{row_names}
 use Rattle.premise.specs.holds.Holds.{passes}
 use lib.ListN.{length}
@@ -7,7 +8,9 @@ use mathlib.Core.Path.{◌≡◌}
 use Rattle.premise.proofs.holds.bodies_hold.Given as goal
 
 abbrev pub invariant-loop-d : goal.invariant-loop-d
-invariant-loop-d l = (length l.marks ≡ length l.initial.marks) × ((r : Bool) → BodiesLeft l.s (passes (row_names l.s l.places l.n)) (length l.initial.marks) l.d r → BodiesLeft l.s (passes (row_names l.s l.places l.n)) (length l.initial.marks) l.initial.d r)
-
-abbrev pub decreases-loop-d : goal.decreases-loop-d
-decreases-loop-d l = l.d.left
+invariant-loop-d l = record {
+  book : l.d-iterator.book.now ≡ l.t.book.now;
+  marks_long : length l.marks ≡ length l.initial.marks;
+  goes : (r : Bool) → BodiesLeft l.t.book.now (passes (row_names l.t.book.now l.t.places.now l.t.n)) (length l.initial.marks) l.d-iterator.ahead r
+      → BodiesLeft l.t.book.now (passes (row_names l.t.book.now l.t.places.now l.t.n)) (length l.initial.marks) (all_of l.t.book.now) r;
+}

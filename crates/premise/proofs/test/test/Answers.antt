@@ -1,17 +1,17 @@
 use Prim.Native.Nat.{ℕ}
-use lib.ListN.{length-replicate}
-use Rattle.premise.proofs.test.Telling.{tells_code, tells_yes, tells_no}
 use native.Mathlib.Omega.{arith}
+use lib.ListN.{length-replicate, length-take}
+use Rattle.std.proofs.lemmas.Result.{err_from_is_err_and}
+use Rattle.premise.proofs.test.Telling.{tells_code, tells}
 use Rattle.premise.proofs.test.test.Goals as goal
 
-pub slice_bounds-expanded-end : goal.slice_bounds-expanded-end
-slice_bounds-expanded-end c = omega (arith, ((rw c.in-Book.is at c.open_book-opened.ensures).by (length-replicate {0} {A = ℕ} 16384 0)).fits, (length-replicate {0} {A = ℕ} 16384 0))
+pub slice_bounds-holds-end : goal.slice_bounds-holds-end
+slice_bounds-holds-end c = simp length-take (omega (arith, (c.in_ok-len.ensures.by (length-replicate {0} {A = ℕ} 16384 0)).fits, length-replicate {0} {A = ℕ} 16384 0, c.open_book.auto.out))
 
-pub returns-then-holds : goal.returns-then-holds
-returns-then-holds c = tells_yes (length-replicate {0} {A = ℕ} 16384 0) (rw c.in-Book.is at c.open_book-opened.ensures) c.holds.ensures c.if-holds.true
+pub returns-in_err-len : goal.returns-in_err-len
+returns-in_err-len c =
+    let e = err_from_is_err_and c.from_residual.result c.from_residual.ensures.1 in
+    rw (e.1, e.2) (tells_code (length-replicate {0} {A = ℕ} 16384 0) c.in_err-len.ensures)
 
-pub returns-in-Refused : goal.returns-in-Refused
-returns-in-Refused c = tells_code (length-replicate {0} {A = ℕ} 16384 0) (rw c.in-Refused.is at c.open_book-opened.ensures)
-
-pub returns-else-holds : goal.returns-else-holds
-returns-else-holds c = tells_no (length-replicate {0} {A = ℕ} 16384 0) (rw c.in-Book.is at c.open_book-opened.ensures) c.holds.ensures c.if-holds.false
+pub returns : goal.returns
+returns c = tells (length-replicate {0} {A = ℕ} 16384 0) c.in_ok-len.ensures c.holds.ensures

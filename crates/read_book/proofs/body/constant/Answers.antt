@@ -2,10 +2,10 @@ use Rattle.definition.specs.Read.{name, definition}
 use Rattle.read_book.proofs.name_list.Bind.{then, fails, made, walked}
 use Rattle.read_book.proofs.body.constant.Goals as goal
 
-pub returns-in-Refused : goal.returns-in-Refused
+pub returns-in_err-d : goal.returns-in_err-d
 unfolding definition name
-returns-in-Refused c = fails _ (walked c.name.ensures) c.in-Refused.is
+returns-in_err-d c = fails _ (walked c.in_err-d.ensures) c.from_residual.ensures.1
 
-pub returns-in-Past : goal.returns-in-Past
+pub returns : goal.returns
 unfolding definition name
-returns-in-Past c = then _ (walked c.name.ensures) c.in-Past.is (λ a. (made _ (walked c.text.ensures)))
+returns c = then _ (walked c.in_ok-d.ensures) (λ a. made _ (walked c.text.ensures))

@@ -2,14 +2,14 @@ use Rattle.definition.specs.Read.{name, definition}
 use Rattle.read_book.proofs.name_list.Bind.{then, fails, made, walked, counts}
 use Rattle.read_book.proofs.body.format.Goals as goal
 
-pub returns-in-Refused : goal.returns-in-Refused
+pub returns-in_err-d : goal.returns-in_err-d
 unfolding definition name
-returns-in-Refused c = fails _ (walked c.name.ensures) c.in-Refused.is
+returns-in_err-d c = fails _ (walked c.in_err-d.ensures) c.from_residual.ensures.1
 
-pub returns-in-Refused-params : goal.returns-in-Refused-params
+pub returns-in_err-e : goal.returns-in_err-e
 unfolding definition name
-returns-in-Refused-params c = then _ (walked c.name.ensures) c.in-Past.is (λ a. (counts _ _ _ (fails _ c.params.ensures c.in-Refused-params.is)))
+returns-in_err-e c = then _ (walked c.in_ok-d.ensures) (λ a. counts _ _ _ (fails _ c.in_err-e.ensures c.from_residual-in_err-e.ensures.1))
 
-pub returns-in-Past-params : goal.returns-in-Past-params
+pub returns : goal.returns
 unfolding definition name
-returns-in-Past-params c = then _ (walked c.name.ensures) c.in-Past.is (λ a. (counts _ _ _ (then _ c.params.ensures c.in-Past-params.is (λ a. (made _ c.combinator.ensures)))))
+returns c = then _ (walked c.in_ok-d.ensures) (λ a. counts _ _ _ (then _ c.in_ok-e.ensures (λ a. made _ c.combinator.ensures)))

@@ -2,14 +2,14 @@ use Rattle.definition.specs.Read.{name, definition}
 use Rattle.read_book.proofs.name_list.Bind.{then, fails, made, walked, counts}
 use Rattle.read_book.proofs.body.macro_body.Goals as goal
 
-pub returns-in-Refused : goal.returns-in-Refused
+pub returns-in_err-d : goal.returns-in_err-d
 unfolding definition name
-returns-in-Refused c = fails _ (walked c.name.ensures) c.in-Refused.is
+returns-in_err-d c = fails _ (walked c.in_err-d.ensures) c.from_residual.ensures.1
 
-pub returns-in-Refused-names : goal.returns-in-Refused-names
+pub returns-in_err-e : goal.returns-in_err-e
 unfolding definition name
-returns-in-Refused-names c = then _ (walked c.name.ensures) c.in-Past.is (λ a. (counts _ _ _ (fails _ c.names.ensures c.in-Refused-names.is)))
+returns-in_err-e c = then _ (walked c.in_ok-d.ensures) (λ a. counts _ _ _ (fails _ c.in_err-e.ensures c.from_residual-in_err-e.ensures.1))
 
-pub returns-in-Past-names : goal.returns-in-Past-names
+pub returns : goal.returns
 unfolding definition name
-returns-in-Past-names c = then _ (walked c.name.ensures) c.in-Past.is (λ a. (counts _ _ _ (then _ c.names.ensures c.in-Past-names.is (λ a. (made _ c.combinator.ensures)))))
+returns c = then _ (walked c.in_ok-d.ensures) (λ a. counts _ _ _ (then _ c.in_ok-e.ensures (λ a. made _ c.combinator.ensures)))

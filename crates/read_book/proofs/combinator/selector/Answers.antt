@@ -1,14 +1,12 @@
-use mathlib.Core.Path.{ap}
-use Rattle.read_book.specs.cursor.Ends.{of_byte}
 use Rattle.read_book.proofs.name_list.Bind.{walked}
 use Rattle.read_book.proofs.combinator.Laws.{no_selector, unselected, selected}
 use Rattle.read_book.proofs.combinator.selector.Goals as goal
 
-pub returns-then-flag-eq0 : goal.returns-then-flag-eq0
-returns-then-flag-eq0 c = unselected c.among.ensures (ap of_byte c.in-Byte.is) c.if-flag-eq0.true
+pub returns-in_err-flag : goal.returns-in_err-flag
+returns-in_err-flag c = no_selector c.in_err-flag.ensures c.from_residual.ensures.1
 
-pub returns-in-NoByte : goal.returns-in-NoByte
-returns-in-NoByte c = no_selector c.among.ensures (ap of_byte c.in-NoByte.is)
+pub returns-then-flag-ne-MORE : goal.returns-then-flag-ne-MORE
+returns-then-flag-ne-MORE c = unselected c.in_ok-flag.ensures c.if-flag-ne-MORE.true
 
-pub returns-else-flag-eq0 : goal.returns-else-flag-eq0
-returns-else-flag-eq0 c = selected c.among.ensures (ap of_byte c.in-Byte.is) c.if-flag-eq0.false (walked c.name.ensures)
+pub returns : goal.returns
+returns c = selected c.in_ok-flag.ensures c.if-flag-ne-MORE.false (walked c.name.ensures)

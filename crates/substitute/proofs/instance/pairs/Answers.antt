@@ -1,5 +1,6 @@
+use mathlib.Core.Path.{◌∙◌}
 use Rattle.substitute.proofs.instance.Pairing.{paired}
 use Rattle.substitute.proofs.instance.pairs.Goals as goal
 
 pub returns : goal.returns
-returns c = paired c.name_past-p.ensures c.number-k.ensures c.past-q.ensures c.name_past-j.ensures c.number-n.ensures c.least.ensures
+returns c = paired c.name_past.ensures c.number-params.ensures c.past.ensures c.name_past-2.ensures c.number-args.ensures (c.from.ensures ∙ c.min.ensures)

@@ -1,23 +1,18 @@
 use mathlib.Core.Path.{◌∙◌, sym}
-use Prim.Native.Nat.{◌+◌}
 use native.Mathlib.Omega.{arith}
-use Rattle.substitute.proofs.substitution.Copied.{copied_none, copied_call, copied_other, copied_all}
+use Rattle.substitute.proofs.substitution.Copied.{copied_none, copied_all, paired_call, paired_other}
 use Rattle.substitute.proofs.substitution.substitute_in_combinator.Goals as goal
+use Rattle.substitute.proofs.substitution.substitute_in_combinator.Goals.{then-calls_name, else-calls_name}
 
-pub loop-i-init : goal.loop-i-init
-loop-i-init c = copied_none _ _ _ _ _
+pub loop-call-init : goal.loop-call-init
+loop-call-init c = copied_none _ _ _ _ _
 
-pub overflow_cast-call : goal.overflow_cast-call
-overflow_cast-call c = omega (arith, c.type_inv.marks c.loop-i.i)
-
-pub overflow_cast-end : goal.overflow_cast-end
-overflow_cast-end c = omega (arith, c.type_inv.marks (c.loop-i.i + 1))
-
-pub loop-i-preserved-then-calls_name : goal.loop-i-preserved-then-calls_name
-loop-i-preserved-then-calls_name c = copied_call _ _ _ _ _ c.loop-i.invariant c.loop-i-test.true (sym (c.calls_name.ensures ∙ rw c.first_area.ensures) ∙ c.if-calls_name.true) c.put_across-q.ensures c.put_bytes-o.ensures
-
-pub loop-i-preserved : goal.loop-i-preserved
-loop-i-preserved c = copied_other _ _ _ _ _ c.loop-i.invariant c.loop-i-test.true (sym (c.calls_name.ensures ∙ rw c.first_area.ensures) ∙ c.if-calls_name.false)
+pub loop-call-preserved : goal.loop-call-preserved
+loop-call-preserved c =
+    elim c.if-calls_name.branch [
+      | then-calls_name w ↦ rw (w.areas-is, w.at-is, w.o-is) (paired_call _ _ _ _ _ c.loop-call.invariant c.as_chunks.ensures.front c.loop-call-test.true c.as_chunks.ensures.front_len c.from-place.ensures (sym (c.calls_name.ensures ∙ rw c.first_area.ensures) ∙ w.if-calls_name.true) w.put_across-q.ensures w.put_bytes-o.ensures w.from-at.ensures)
+      | else-calls_name w ↦ rw (w.areas-is, w.at-is, w.o-is) (paired_other _ _ _ _ _ c.loop-call.invariant c.as_chunks.ensures.front c.loop-call-test.true c.as_chunks.ensures.front_len c.from-place.ensures (sym (c.calls_name.ensures ∙ rw c.first_area.ensures) ∙ w.if-calls_name.false))
+    ]
 
 pub returns : goal.returns
-returns c = copied_all _ _ _ _ _ c.loop-i.invariant (omega arith) c.put_across.ensures
+returns c = copied_all _ _ _ _ _ c.loop-call.invariant (omega arith) c.put_across.ensures

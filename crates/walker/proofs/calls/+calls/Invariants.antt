@@ -1,4 +1,4 @@
-use Prim.Native.Nat.{◌+◌, ◌*◌}
+use Prim.Native.Nat.{◌+◌, ◌-◌, ◌*◌}
 use mathlib.Core.Path.{◌≡◌}
 use lib.ListN.{length}
 use Rattle.walker.specs.calls.Walk.{times, argument_at, field_at, case_at}
@@ -40,20 +40,11 @@ decreases-macro_call l = 8 * l.levels + 3
 abbrev pub decreases-wrap : goal.decreases-wrap
 decreases-wrap l = 8 * l.levels + 1
 
-abbrev pub invariant-arguments-loop-left : goal.invariant-arguments-loop-left
-invariant-arguments-loop-left l = (length l.marks ≡ length l.initial.marks) × (times (argument_at l.levels l.s) l.initial.left l.initial.here l.initial.marks ≡ times (argument_at l.levels l.s) l.left l.here l.marks)
+abbrev pub invariant-arguments-loop : goal.invariant-arguments-loop
+invariant-arguments-loop l = (length l.marks ≡ length l.initial.marks) × (times (argument_at l.levels l.s) (l.k - l.initial.counter) l.initial.here l.initial.marks ≡ times (argument_at l.levels l.s) (l.k - l.counter) l.here l.marks)
 
-abbrev pub decreases-arguments-loop-left : goal.decreases-arguments-loop-left
-decreases-arguments-loop-left l = l.left
+abbrev pub invariant-cases-loop : goal.invariant-cases-loop
+invariant-cases-loop l = (length l.marks ≡ length l.initial.marks) × (times (case_at l.levels l.s l.kind) (l.k - l.initial.counter) l.initial.here l.initial.marks ≡ times (case_at l.levels l.s l.kind) (l.k - l.counter) l.here l.marks)
 
-abbrev pub invariant-cases-loop-left : goal.invariant-cases-loop-left
-invariant-cases-loop-left l = (length l.marks ≡ length l.initial.marks) × (times (case_at l.levels l.s l.kind) l.initial.left l.initial.here l.initial.marks ≡ times (case_at l.levels l.s l.kind) l.left l.here l.marks)
-
-abbrev pub decreases-cases-loop-left : goal.decreases-cases-loop-left
-decreases-cases-loop-left l = l.left
-
-abbrev pub invariant-fields-loop-left : goal.invariant-fields-loop-left
-invariant-fields-loop-left l = (length l.marks ≡ length l.initial.marks) × (times (field_at l.levels l.s) l.initial.left l.initial.here l.initial.marks ≡ times (field_at l.levels l.s) l.left l.here l.marks)
-
-abbrev pub decreases-fields-loop-left : goal.decreases-fields-loop-left
-decreases-fields-loop-left l = l.left
+abbrev pub invariant-fields-loop : goal.invariant-fields-loop
+invariant-fields-loop l = (length l.marks ≡ length l.initial.marks) × (times (field_at l.levels l.s) (l.k - l.initial.counter) l.initial.here l.initial.marks ≡ times (field_at l.levels l.s) (l.k - l.counter) l.here l.marks)

@@ -1,4 +1,4 @@
-use Prim.Native.Nat.{◌+◌, ◌*◌}
+use Prim.Native.Nat.{◌+◌, ◌-◌, ◌*◌}
 use mathlib.Core.Path.{◌≡◌}
 use lib.ListN.{length}
 use Rattle.walker.specs.measure.Measure.{times, argument_at, field_at, case_at}
@@ -31,20 +31,11 @@ decreases-measure_inner l = 8 * l.levels + 4
 abbrev pub decreases-wrap : goal.decreases-wrap
 decreases-wrap l = 8 * l.levels + 1
 
-abbrev pub invariant-arguments-loop-left : goal.invariant-arguments-loop-left
-invariant-arguments-loop-left l = (length l.ends ≡ length l.initial.ends) × (times (argument_at l.levels l.s) l.initial.left l.initial.here l.initial.ends ≡ times (argument_at l.levels l.s) l.left l.here l.ends)
+abbrev pub invariant-arguments-loop : goal.invariant-arguments-loop
+invariant-arguments-loop l = (length l.ends ≡ length l.initial.ends) × (times (argument_at l.levels l.s) (l.k - l.initial.counter) l.initial.here l.initial.ends ≡ times (argument_at l.levels l.s) (l.k - l.counter) l.here l.ends)
 
-abbrev pub decreases-arguments-loop-left : goal.decreases-arguments-loop-left
-decreases-arguments-loop-left l = l.left
+abbrev pub invariant-choice-loop : goal.invariant-choice-loop
+invariant-choice-loop l = (length l.ends ≡ length l.initial.ends) × (times (case_at l.levels l.s l.kind) (l.k - l.initial.counter) l.initial.here l.initial.ends ≡ times (case_at l.levels l.s l.kind) (l.k - l.counter) l.here l.ends)
 
-abbrev pub invariant-choice-loop-left : goal.invariant-choice-loop-left
-invariant-choice-loop-left l = (length l.ends ≡ length l.initial.ends) × (times (case_at l.levels l.s l.kind) l.initial.left l.initial.here l.initial.ends ≡ times (case_at l.levels l.s l.kind) l.left l.here l.ends)
-
-abbrev pub decreases-choice-loop-left : goal.decreases-choice-loop-left
-decreases-choice-loop-left l = l.left
-
-abbrev pub invariant-fields-loop-left : goal.invariant-fields-loop-left
-invariant-fields-loop-left l = (length l.ends ≡ length l.initial.ends) × (times (field_at l.levels l.s) l.initial.left l.initial.here l.initial.ends ≡ times (field_at l.levels l.s) l.left l.here l.ends)
-
-abbrev pub decreases-fields-loop-left : goal.decreases-fields-loop-left
-decreases-fields-loop-left l = l.left
+abbrev pub invariant-fields-loop : goal.invariant-fields-loop
+invariant-fields-loop l = (length l.ends ≡ length l.initial.ends) × (times (field_at l.levels l.s) (l.k - l.initial.counter) l.initial.here l.initial.ends ≡ times (field_at l.levels l.s) (l.k - l.counter) l.here l.ends)

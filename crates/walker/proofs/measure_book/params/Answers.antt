@@ -1,17 +1,17 @@
 use mathlib.Core.Path.{refl, ◌∙◌}
 use native.Mathlib.Omega.{arith}
 use Rattle.walker.specs.measure.Measure.{many}
-use Rattle.walker.proofs.measure.Level.{more, done}
+use Rattle.walker.proofs.measure.Level.{more, done, all_steps}
 use Rattle.walker.specs.measure_book.Measure.{param_at}
 use Rattle.walker.proofs.measure_book.params.Goals as goal
 
-pub loop-left-preserved : goal.loop-left-preserved
+pub loop-preserved : goal.loop-preserved
 unfolding param_at
-loop-left-preserved c = (omega arith, c.loop-left.invariant.1 ∙ more _ _ _ _ c.loop-left-test.true ∙ rw (← c.name_past-a.ensures, ← c.measure_inner-here.ensures.0, ← c.measure_inner-here.ensures.1))
+loop-preserved c = (omega arith, c.loop.invariant.1 ∙ more _ _ _ _ _ c.loop-test.true ∙ rw (← c.name_past.ensures, ← c.measure_inner-here.ensures.0, ← c.measure_inner-here.ensures.1))
 
 pub returns : goal.returns
 unfolding many
-returns c = rw (← c.number-left.ensures, ← c.past-here.ensures, c.loop-left.invariant.1 ∙ done _ _ _ _ c.loop-left-test.false) (refl, refl)
+returns c = rw (← c.number-k.ensures, ← c.past-here.ensures, all_steps _ _ _ _ (c.loop.invariant.1 ∙ done _ _ _ _ _ c.loop-test.false)) (refl, refl)
 
-pub loop-left-init : goal.loop-left-init
-loop-left-init c = (refl, refl)
+pub loop-init : goal.loop-init
+loop-init c = (refl, refl)

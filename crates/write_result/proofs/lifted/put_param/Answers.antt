@@ -5,4 +5,4 @@ use Rattle.buffer.proofs.writes.Rest.{wrote_as}
 use Rattle.write_result.proofs.lifted.put_param.Goals as goal
 
 pub returns : goal.returns
-returns c = glue (wrote_as (ap name_bytes (sym c.param_name-name.ensures)) c.put_name-a.ensures) c.put_type.ensures
+returns c = rw c.param-p.ensures at (glue (wrote_as (ap name_bytes (sym c.param_name.ensures)) c.put_name-a.ensures) c.put_type.ensures)

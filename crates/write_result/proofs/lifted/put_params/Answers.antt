@@ -1,18 +1,14 @@
-use mathlib.Core.Path.{refl, ◌∙◌}
-use native.Mathlib.Omega.{arith}
-use Rattle.buffer.proofs.writes.Wrote.{glue, place_within, same_length as wrote-long}
-use Rattle.buffer.proofs.writes.Rest.{rest_all, rest_on, rest_end}
+use native.Mathlib.Nat.{add-sub_cancel_left}
+use Rattle.buffer.proofs.writes.Wrote.{glue, place_within}
+use Rattle.buffer.proofs.writes.Rest.{rest_all, rest_on, rest_end, rest_same}
 use Rattle.write_result.proofs.lifted.Steps.{params_more, params_done}
 use Rattle.write_result.proofs.lifted.put_params.Goals as goal
 
-pub loop-left-init : goal.loop-left-init
-loop-left-init c = (refl, refl, place_within c.put_u16-o.ensures, rest_all _ _ _)
+pub loop-j-init : goal.loop-j-init
+loop-j-init c = record { within = place_within c.put_u16-o.ensures; rest = rest_same (rest_all _ _ _) (rw (c.from-start.ensures, add-sub_cancel_left)) }
 
-pub loop-left-preserved : goal.loop-left-preserved
-loop-left-preserved c =
-    let l = c.loop-left in
-    let w = c.put_param-o.ensures in
-    (wrote-long w ∙ l.invariant.0, omega arith, place_within w, rest_on _ l.invariant.3 (params_more _ _ _ c.loop-left-test.true) w)
+pub loop-j-preserved : goal.loop-j-preserved
+loop-j-preserved c = let w = c.put_param-o.ensures in record { within = place_within w; rest = rest_on _ c.loop-j.invariant.rest (params_more _ _ _ (rw (c.from-start.ensures, c.from.ensures) at c.loop-j-test.true)) w }
 
 pub returns : goal.returns
-returns c = glue c.put_u16-o.ensures (rest_end c.loop-left.invariant.3 (params_done _ _ _ c.loop-left-test.false) c.loop-left.invariant.2)
+returns c = glue c.put_u16-o.ensures (rest_end c.loop-j.invariant.rest (params_done _ _ _ (rw (c.from-start.ensures, c.from.ensures) at c.loop-j-test.false)) c.loop-j.invariant.within)

@@ -5,17 +5,14 @@ use Rattle.expand_macros.proofs.pass.book.expand_format.Goals as goal
 pub returns-then-out-r : goal.returns-then-out-r
 returns-then-out-r c =
     formatted_cut c.name_past-params.ensures c.params_past-body.ensures c.put_part-q.ensures _ c.params_past-body.auto.marks _ c.walk_over-w.ensures.0 c.walk_over-w.ensures.1
-    c.first_marks.ensures c.expand_macros_in_combinator-r.ensures c.expand_macros_in_combinator-r.auto.out c.if-out-r.true
+    c.first-calls.ensures c.expand_macros_in_combinator-r.ensures c.expand_macros_in_combinator-r.auto.out c.if-out-r.true
 
-pub overflow_add-result : goal.overflow_add-result
-overflow_add-result c = let g = c.well_formed in omega (arith, c.expand_macros_in_combinator-r.auto.out, c.put_part-q.auto.dst)
-
-pub returns-then-left-lt65 : goal.returns-then-left-lt65
-returns-then-left-lt65 c =
+pub returns-then-v-lt65 : goal.returns-then-v-lt65
+returns-then-v-lt65 c =
     formatted_deep c.name_past-params.ensures c.params_past-body.ensures c.put_part-q.ensures _ c.params_past-body.auto.marks _ c.walk_over-w.ensures.0 c.walk_over-w.ensures.1
-    c.first_marks.ensures c.expand_macros_in_combinator-r.ensures c.expand_macros_in_combinator-r.auto.out c.if-out-r.false _ _ c.walk_over-v.ensures.0 c.if-left-lt65.true (omega arith)
+    c.first-calls.ensures c.expand_macros_in_combinator-r.ensures c.expand_macros_in_combinator-r.auto.out c.if-out-r.false _ _ c.walk_over-v.ensures.0 c.if-v-lt65.true (omega arith)
 
 pub returns : goal.returns
 returns c =
     formatted_done c.name_past-params.ensures c.params_past-body.ensures c.put_part-q.ensures _ c.params_past-body.auto.marks _ c.walk_over-w.ensures.0 c.walk_over-w.ensures.1
-    c.first_marks.ensures c.expand_macros_in_combinator-r.ensures c.expand_macros_in_combinator-r.auto.out c.if-out-r.false _ _ c.walk_over-v.ensures.0 c.if-left-lt65.false
+    c.first-calls.ensures c.expand_macros_in_combinator-r.ensures c.expand_macros_in_combinator-r.auto.out c.if-out-r.false _ _ c.walk_over-v.ensures.0 c.if-v-lt65.false

@@ -1,18 +1,15 @@
 use native.Mathlib.Omega.{arith}
-use mathlib.Core.Path.{ap}
-use Rattle.read_book.specs.cursor.Ends.{of_number}
-use Rattle.read_book.proofs.cursor.Laws.{t_none, t_short, t_at, took_got}
-use Rattle.read_book.proofs.cursor.Lists.{u16_two}
+use Rattle.read_book.proofs.cursor.Laws.{t_none, t_in, t_short, t_at}
 use Rattle.read_book.proofs.cursor.Cursor.text.Goals as goal
 
+pub returns-in_err-n : goal.returns-in_err-n
+returns-in_err-n c = t_none _ _ c.in_err-n.ensures c.from_residual.ensures.1
+
 pub overflow_sub-s : goal.overflow_sub-s
-overflow_sub-s c = let g = took_got _ _ c.u16.ensures (ap of_number c.in-Number.is) in omega (arith, u16_two _ _ _ _ g.gives g.along)
+overflow_sub-s c = t_in _ _ c.in_ok-n.ensures
 
 pub returns-then-s-from : goal.returns-then-s-from
-returns-then-s-from c = t_short _ _ _ c.u16.ensures _ _ (ap of_number c.in-Number.is) c.if-s-from.true
+returns-then-s-from c = t_short _ _ c.in_ok-n.ensures c.if-s-from.true
 
-pub returns-in-NoNumber : goal.returns-in-NoNumber
-returns-in-NoNumber c = t_none _ _ _ c.u16.ensures _ (ap of_number c.in-NoNumber.is)
-
-pub returns-else-s-from : goal.returns-else-s-from
-returns-else-s-from c = let g = took_got _ _ c.u16.ensures (ap of_number c.in-Number.is) in t_at _ _ _ c.u16.ensures _ _ (ap of_number c.in-Number.is) (omega (arith, u16_two _ _ _ _ g.gives g.along))
+pub returns : goal.returns
+returns c = t_at _ _ c.in_ok-n.ensures (omega (arith, t_in _ _ c.in_ok-n.ensures))
