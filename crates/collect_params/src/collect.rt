@@ -1,4 +1,5 @@
 // The names that are free in a combinator, by position over validated bytes.
+// A walk beside walker's: its state has labels and uses, which those would carry along.
 // The two tables go beside the walk from function to function: as fields of a struct they would be `&mut`, and each function would promise
 // besides that it hands the same references back. `fields`, `cases` and `arguments` count by themselves: a step that one loop is given would
 // borrow both tables, and stand in the cycle.

@@ -48,7 +48,8 @@ fn sorted_params(s: &[u8], uses: &mut [u32], n: usize, spare: &mut [u32]) -> usi
     each_once(s, &mut uses[..end])
 }
 
-// How many parameters a lift of the combinator at a place has: `uses` then holds them. Or code 7.
+// How many parameters a lift of the combinator at a place has: `uses` then holds them. Or code 7. The tables go one by one
+// for the reason at `expand_combinator`.
 #[tactic(auto, unfolding(crate::specs::params::Params::params_at, crate::specs::params::Params::sorted_or))]
 pub fn lift_params(
     s: &[u8],

@@ -22,7 +22,7 @@ impl Walk {
         Walk { at, ..self }
     }
 
-    // At another place and with another count of uses.
+    // At another place and with another count of uses: as walker's `silent`, on another struct.
     pub(crate) fn counted(self, at: usize, n: usize) -> Walk
         ensures { result ≡ counted self at n }
     {

@@ -6,7 +6,8 @@ use layout::lookup::{name_at, same_name};
 use name_table::forks::{row_at, slot_of};
 use name_table::kinds::take_kinds;
 
-// A book and the rows of its macros: the place of each, the ways from their names to the rows, and how many rows there are.
+// A book and the rows of its macros: the place of each, the ways from their names to the rows, and how many rows there are; the tables are of
+// fixed length, and filled on. Not `Names`: `FindsMacro` holds of any rows, and `Names` asks for `Table`.
 #[derive(Clone, Copy)]
 pub struct Macros<'a> {
     pub book: &'a [u8],

@@ -59,7 +59,8 @@ impl Call<'_> {
         instance(self.macros, self.book, t, n, areas, marks)
     }
 
-    // An instance that may have as many calls on the way as the limits let there be.
+    // An instance that may have as many calls on the way as the limits let there be. Where there is none, that is a place past out's end: `Called`
+    // says so.
     fn expand_longer(self, areas: &mut [u8], out: &mut [u8], o: usize) -> usize
         ensures { Called self.entry.macros.now self.entry.def self.entry.book.now self.entry.at areas.old out.old o out.new result }
     {

@@ -8,7 +8,8 @@ use buffer::writes::put_part;
 use expand_macros::pass::expand_macros;
 use what_comes_back::Code;
 
-// One pass over the book that stands in the first bytes; what it makes in next goes back there. Its length, or code 6.
+// One pass over the book that stands in the first bytes; what it makes in next goes back there. Its length, or code 6. The length goes beside the
+// buffer: a pass may make the book longer within it.
 fn pass_back(
     macros: &[u8],
     book: &mut [u8],

@@ -1,4 +1,5 @@
-// The tags of inners, by document 01's names: the whole list, named or not by the code.
+// The tags of inners, by document 01's names: the whole list, named or not by the code. Constants and no enum: the walks are total on any byte,
+// and each match ends in `_`.
 pub const CONSTRAINT_INT: u8 = 1;
 
 pub const CONSTRAINT_ENUM: u8 = 2;

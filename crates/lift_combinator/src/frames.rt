@@ -24,6 +24,7 @@ pub enum Kind {
 // sort, and the number of the next; the name's length in the path; how many binders are in force; what the inner takes up to `here` after
 // lifting; whether its chain is still to be walked, and what it takes after lifting; one more than the number of the lift if it is lifted, and the size of the call.
 // `own` and `chained` have their numbers beside them (fixed memory): 64 frames are cleared for each body, and an Option of 16 bits takes 32.
+// `chained` is a state: `link` is read in both.
 #[derive(Clone, Copy)]
 pub struct Frame<N = usize> {
     pub place: N,
@@ -178,7 +179,8 @@ fn children_of(s: &[u8], at: usize) -> Begin
     }
 }
 
-// The frame of the node whose combinator stands from `at` up to `last`, its inner up to `end`.
+// The frame of the node whose combinator stands from `at` up to `last`, its inner up to `end`; `own` and `call` are 0 where it is not lifted, as
+// `frame_at` takes them.
 #[tactic(auto, unfolding(crate::specs::frames::Frames::frame_at))]
 pub fn open_node(
     s: &[u8],

@@ -31,7 +31,8 @@ fn word_count(rt: &HostRuntime) -> usize {
     3
 }
 
-// The first word after the program's own name into buf, or nothing where there is none or it is longer.
+// The first word after the program's own name into buf, or nothing where there is none or it is longer: no such word is `--nested`, so 0 does
+// for both.
 fn first_word(rt: &HostRuntime, buf: &mut [u8]) -> usize
     ensures { result ≤ length buf.new }
 {

@@ -13,7 +13,8 @@ pub fn text_buffer() -> [u8; 65536]
     [0; 65536]
 }
 
-// The listing of a book, in either mode, cut where the text ends. A text of 65,536 bytes holds every listing.
+// The listing of a book, in either mode, cut where the text ends. A text of 65,536 bytes holds every listing. The mode is a bool: what may not
+// change is `TellsIn nested`.
 pub fn put_lines(nested: bool, book: &[u8], text: &mut [u8]) -> usize
     ensures { TellsIn nested book.now text.old text.new result }
 {

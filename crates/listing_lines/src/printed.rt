@@ -9,7 +9,7 @@ use layout::kinds::{BYTE_ORDER, CONSTANT, FORMAT};
 use layout::lookup::name_at;
 use walker::definitions::each_definition;
 
-// `format` for a definition that was there, `lifted` for one that was not.
+// `format` for a definition that was there, `lifted` for one that was not. A count and no bool: `word_of` takes it.
 #[tactic(auto, using(crate::proofs::printed::Lines::word_format), unfolding(crate::specs::printed::Lines::word_of))]
 fn put_word(kept: usize, out: &mut [u8], at: usize) -> usize
     ensures { Wrote out.old at (word_of kept) out.new result }

@@ -5,7 +5,7 @@ use crate::taken::list_name;
 use layout::items::{byte, number, past};
 
 // The definition whose entry stands at a place of the contents gets row n if its kind is one of these; the number of rows then. Where there is
-// no room the number stays as it is: the tables are made for the largest book, and `Takes` is total on any.
+// no room the number stays as it is: the tables are made for the largest book, and `Takes` is total on any. They go one by one: see `taken`.
 fn take_entry(
     s: &[u8],
     entry: usize,

@@ -46,6 +46,7 @@ enum Bytes<'a> {
 }
 
 // A record: its book, the answer of `elaborate` with the place of a fault and the result, the answer of the premise test and the expanded book.
+// Codes are numbers, as the data has them: one that no `Code` has must count as different.
 #[derive(Clone, Copy)]
 struct Case<'a> {
     book: &'a [u8],
@@ -83,7 +84,7 @@ impl<'a> Records<'a> {
         u16::from_le_bytes([low, high])
     }
 
-    // Where they are, u32 length (no book has more than two bytes' worth), and the bytes if they follow.
+    // Where they are (the data's own numbers), u32 length (no book has more than two bytes' worth), and the bytes if they follow.
     fn recorded(&mut self) -> Bytes<'a> {
         let within = self.byte();
         let n = self.number();

@@ -7,7 +7,8 @@ ghost use Rattle.walker.specs.definitions.Params.{ParamPast, ParamsPast};
 use crate::skip::skip_over;
 use layout::items::{byte, name_past, number, past};
 
-// Definitions that are left of a book's: how many, the entry of the first and where its body begins.
+// Definitions that are left of a book's: how many, the entry of the first and where its body begins. An entry has six bytes: the book's layout,
+// and no table of ours.
 #[derive(Clone, Copy)]
 pub struct Definitions {
     pub left: usize,

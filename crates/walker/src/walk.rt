@@ -6,7 +6,7 @@ use layout::items::{length_past, stands_on, text_past};
 use layout::tags::BYTES;
 
 // Where the walk stands: its place, how many numbers are recorded, the fewest levels that were left on the way, and whether
-// every chain so far stands on Bytes or Tail.
+// every chain so far stands on Bytes or Tail. `plain` is a state that the walk goes on with, beside no value that may be missing.
 #[derive(Clone, Copy)]
 pub struct Walk {
     pub at: usize,
