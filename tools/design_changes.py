@@ -7,7 +7,8 @@ import glob, json, os, re, subprocess, sys, tempfile
 PAGE, MARK = "docs/DESIGN-PASS.md", "## Old and new side by side\n"
 page = open(PAGE, encoding="utf-8").read()
 commit = page.split("\n", 1)[0]
-kit = os.environ.get("RATTLE_KIT", "/opt/rattle")
+# the folder of the page that `rt doc` names
+kit = os.path.dirname(subprocess.run(["rt", "doc"], capture_output=True, text=True, check=True).stdout.split("\n", 1)[0].strip())
 
 
 def squeezed(x):

@@ -29,7 +29,8 @@ fn fork(name: Hashed<'_>, depth: usize, i: usize) -> usize
     65 + 4 * i + name.bit(depth.min(4096) + 6)
 }
 
-// The labels in force, as far as they are read: the bytes in which their names stand, the table, and how many there are.
+// The labels in force, as far as they are read: the bytes in which their names stand, the table, and how many there are: the table is longer,
+// and filled on.
 #[derive(Clone, Copy)]
 pub(crate) struct Labels<'a> {
     pub s: &'a [u8],

@@ -10,7 +10,8 @@ use layout::lookup::name_at;
 use layout::tags::INVOCATION;
 use name_table::find::Names;
 
-// A book, and the names that may be called in rows, which stand in it: their places, the ways to their rows, and how many rows there are.
+// A book, and the names that may be called in rows, which stand in it: their places, the ways to their rows, and how many rows there are:
+// both tables are of fixed length, and filled so far.
 #[derive(Clone, Copy)]
 pub(crate) struct Callable<'a> {
     pub book: &'a [u8],

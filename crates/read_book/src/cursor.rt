@@ -9,8 +9,7 @@ use crate::utf8::is_name;
 use what_comes_back::Code;
 use what_comes_back::Code::{BadName, NotABook};
 
-// A place in the book. The book's bytes go along beside it: with them inside (tried), reading a book takes a fifth longer than before, which is
-// over what it took of the Rust's time.
+// A place in the book. The book's bytes go along beside it: with them inside, reading a book takes a fifth longer.
 #[derive(Clone, Copy)]
 pub(crate) struct Cursor {
     pub at: usize,

@@ -9,7 +9,6 @@ use native.Mathlib.Numerals.{add-one}
 use native.Mathlib.Omega.{arith}
 use borrow.Rule.Slice.PartMut.{put_mid}
 use Rattle.std.specs.List.{copy_within}
-use Rattle.std.proofs.lemmas.List.{take_min}
 use lib.ListN.{length, take, drop, get_or, set, length-append, length-take, length-drop, take-append-drop, get_or-append, drop_of_length-le}
 use lib.Seq.{set_split, take_at, drop_at, length-take-le, drop-drop, take-append-le, take-append-add, get_or-drop, get_or-take, get_or-append-add, take-suc, take-add, take_all, take-nil, take-take}
 pub use Rattle.buffer.proofs.numbers.Order.{within}
@@ -192,10 +191,6 @@ module _ {A : Type 0} where
       (λ (f : a ≤ end). let m : from ≡ a = omega arith in rw m (sym (part_clip a e l end h)))
       (λ (f : end < a). let m : from ≡ end = omega arith in let z : end - end ≡ 0 = omega arith in rw (m, z, part_short a e l end h (omega arith)))
       (within a end)
-
-  -- so many of a list, or all
-  pub take_least : (l : List A) (n e : ℕ) → e ≡ min n (length l) → take e l ≡ take n l
-  take_least l n e h = rw h (take_min n l)
 
   -- of a part that lies before a write
   pub part_put_before : (a n : ℕ) (d : List A) (at : ℕ) (p : List A) → a + n ≤ at → take n (drop a (put d at p)) ≡ take n (drop a d)

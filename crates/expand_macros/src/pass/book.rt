@@ -12,7 +12,8 @@ use layout::kinds::{FORMAT, MACRO};
 use walker::definitions::{Entry, each_definition, params_past};
 use walker::skip::walk_over;
 
-// A format: its name and its parameters are copied, and its body is expanded. Over 64 levels it is refused.
+// A format: its name and its parameters are copied, and its body is expanded. Over 64 levels it is refused, by a place past out's end: `Formatted`
+// says so, and the caller gives code 6 for that too.
 fn expand_format(
     macros: Macros<'_>,
     book: &[u8],

@@ -1,8 +1,8 @@
 -- Definitions as a book's contents list them, from the first to the last.
 -- Assumes nothing.
-use mathlib.Core.Path.{◌≡◌, refl, ap, ◌∙◌}
+use mathlib.Core.Path.{◌≡◌, refl, ◌∙◌}
 use mathlib.Core.List.{List, [], ◌∷◌, ◌++◌, map}
-use Prim.Native.Nat.{ℕ, ◌-◌, ◌+◌, ◌*◌, ◌/◌, ◌%◌, ◌≤◌, ◌<◌}
+use Prim.Native.Nat.{ℕ, ◌+◌, ◌*◌, ◌/◌, ◌%◌, ◌≤◌, ◌<◌}
 use native.Mathlib.Omega.{arith}
 use lib.ListN.{length, length-append, length-map}
 use Rattle.definition.specs.Tree.{Definition, format, constant, byte_order, macro}
@@ -125,11 +125,3 @@ module _ {s : List ℕ} {d : Definitions} where
 
   pub some_more : 0 < d.left → Left s d [] → ⊥
   some_more h l = omega (arith, l.count)
-
-pub next_less : (s : List ℕ) (d : Definitions) {e : Definitions} → e ≡ next_of s d → 0 < d.left → e.left < d.left
-unfolding next_of
-next_less s d h k = rw h (omega arith)
-
-pub next_count : (s : List ℕ) (d : Definitions) {e : Definitions} → e ≡ next_of s d → e.left ≡ d.left - 1
-unfolding next_of
-next_count s d h = ap (λ (x : Definitions). x.left) h
