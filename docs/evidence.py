@@ -158,6 +158,41 @@ def border():
                     yield f'{module(crate, path)}::{name}', ' × '.join(clauses).replace('|', '\\|')
 
 
+def facts():
+    """The `pub` structs with a fact that whoever makes one shows, and the fact."""
+    for crate in CRATES:
+        for path in sources(crate):
+            for name, fields in re.findall(r'(?m)^pub struct (\w+)[^\n]*\{\n(.*?)^\}', read(path), re.S):
+                for fact in re.findall(r'(?m)^ +ghost \w+: \{ (.*?) \}(?: by .*)?,$', fields):
+                    yield f'{module(crate, path)}::{name}', fact.replace('|', '\\|')
+
+
+def makers(key):
+    """The functions that make a struct of the type KEY, its fields written out."""
+    found = []
+    crate, name = key.split('::')[0], key.split('::')[-1]
+    for other in CRATES:
+        if other != crate and crate not in CRATES[other]:
+            continue
+        for path in sources(other):
+            at = module(other, path)
+            brought = used_in(read(path))
+            if at == key[: -len(name) - 2] or key in brought or 'crate::' + '::'.join(key.split('::')[1:]) in brought:
+                found += [f'{at}::{own}' for own, body in bodies_of(path).items() if re.search(rf'(?<!-> )\b{name} \{{$', body, re.M)]
+    return found
+
+
+def law(crate, contract):
+    """What the law of a conversion says, where a clause gives it by the name of a definition of the crate's specs/."""
+    found = []
+    for clause in contract:
+        m = re.match(r'ghost \w+ = \{ (\w+) \};$', clause)
+        for folder, _, files in sorted(os.walk(f'crates/{crate}/specs')) if m else []:
+            for f in sorted(files):
+                found += re.findall(rf'(?m)^{m[1]} \w[^\n]* = [^\n]*', read(os.path.join(folder, f)))
+    return found
+
+
 def callers(key):
     """The functions that call the one at KEY."""
     found = []
@@ -212,12 +247,14 @@ def main():
     out += ['## What a user can call', '',
             'No function here asks anything of its caller. Each contract fixes every number that comes back and every byte of every lent buffer. Left out is `read_full`, which says what it reads of any input whose bytes are known; those of standard input are unknown to the logic.', '']
     for key, (comment, contract) in sorted(user_calls().items()):
-        crate, name = key.split('::')[0], key.split('::')[-1]
+        crate = key.split('::')[0]
+        # a method stands behind its type's name
+        name = '::'.join(key.split('::')[-2:]) if key.split('::')[-2][0].isupper() else key.split('::')[-1]
         own = [e for (c, e), (_, place) in edits.items() if c == crate and any(w.endswith('.rt') and n == name for w, n in place)]
         there = called(crate, name)
         below = [e for (c, e), (_, place) in edits.items() if c == crate and e not in own and any(w.startswith('src/') and n in there for w, n in place)]
         asks = [c for c in contract if c.startswith('requires')]
-        out += [f'### `{key}`', '', comment, '', '```', *contract, '```', '']
+        out += [f'### `{key}`', '', comment, '', '```', *contract, *law(crate, contract), '```', '']
         if asks:
             out += ['**It asks something of its caller.**', '']
         if own:
@@ -230,9 +267,13 @@ def main():
         if below:
             out += ['Refused in what it calls there: ' + ', '.join(f'`{e}`' for e in below) + '.', '']
     out += ['## What stands at a crate\'s border and asks something of its callers', '',
-            'docs/DECISIONS.md says why. What is not in this table asks nothing.', '', '| function | asks | called by |', '|---|---|---|']
+            'docs/DECISIONS.md says why. What is in neither of these two tables asks nothing.', '', '| function | asks | called by |', '|---|---|---|']
     for key, asks in border():
         out.append(f'| `{key}` | `{asks}` | ' + ', '.join(f'`{c}`' for c in callers(key)) + ' |')
+    out += ['', 'A struct may hold a fact as well: whoever makes one shows it, and a function that takes one asks for it by its type.', '',
+            '| struct | asks of who makes one | made by |', '|---|---|---|']
+    for key, fact in facts():
+        out.append(f'| `{key}` | `{fact}` | ' + ', '.join(f'`{c}`' for c in makers(key)) + ' |')
     out.append('')
     out += ['## Must-fail edits', '', 'Each is a wrong program, or a wrong reading of a document, that the prover refuses in every gate.', '']
     for crate in CRATES:

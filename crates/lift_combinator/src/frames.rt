@@ -1,7 +1,7 @@
 // Frames: a node on the way, by places in the expanded book. Where its combinator ends, where its children begin, and its frame.
 ghost use Rattle.std.specs.Prelude.{◌≡◌, ◌≤◌, length};
 ghost use Rattle.walker.specs.ends.Ends.{inner_end_of, Right};
-ghost use Rattle.lift_combinator.specs.frames.Frames.{combinator_end_of, combinator_past_of, cases_begin, begin_at, Standing, Follows, frame_at, Narrow, narrowed, widened};
+ghost use Rattle.lift_combinator.specs.frames.Frames.{combinator_end_of, combinator_past_of, cases_begin, begin_at, Standing, Follows, frame_at, Narrow, narrowed, widened, kind_numbered};
 
 use layout::flags::MORE;
 use layout::items::{byte, number, past, selector_past};
@@ -18,6 +18,24 @@ pub enum Kind {
     Ints,
     Arrays,
     One,
+}
+
+// The sort by its number, as a caller may have it: 0 is none, 1 fields, 2 to 4 cases of Enums, Ints and Arrays, 5 the one child. Any other number
+// stands for cases that are numbered, as Arrays are.
+impl From<u8> for Kind {
+    ghost from_gives = { λ n k. k ≡ kind_numbered n };
+
+    #[tactic(auto, unfolding(crate::specs::frames::Frames::kind_numbered))]
+    fn from(number: u8) -> Kind {
+        match number {
+            0 => Kind::Nothing,
+            1 => Kind::Fields,
+            2 => Kind::Enums,
+            3 => Kind::Ints,
+            5 => Kind::One,
+            _ => Kind::Arrays,
+        }
+    }
 }
 
 // A node on the way: its combinator from `place` up to `last`; its inner's rest from `here` up to `end`; how many children are left, their

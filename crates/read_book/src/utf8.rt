@@ -1,6 +1,7 @@
 // UTF-8 and names. Document 01, "The definition book".
 ghost use Rattle.std.specs.Prelude.{◌≡◌};
 ghost use Rattle.definition.specs.Utf8.{well_formed};
+ghost use Rattle.definition.specs.Read.{no_dot_of};
 ghost use Rattle.read_book.specs.utf8.Tested.{tested};
 
 use crate::characters::{Awaits, next};
@@ -20,9 +21,22 @@ fn utf8(t: &[u8]) -> bool
     state.left == 0
 }
 
+// Whether no byte is a dot. Names are short, and a call of `contains` costs more than to go over a few bytes.
+fn no_dot(t: &[u8]) -> bool
+    ensures { result ≡ no_dot_of t.now }
+{
+    for b in t {
+        if *b == b'.' {
+            return false;
+        }
+    }
+    true
+}
+
 // Whether bytes are a name: one that may have dots, or a plain one.
+#[inline(always)]
 pub(crate) fn is_name(t: &[u8], dots: bool) -> bool
     ensures { result ≡ tested dots t.now }
 {
-    utf8(t) && (dots || !t.contains(&b'.'))
+    utf8(t) && (dots || no_dot(t))
 }

@@ -76,6 +76,34 @@ pub struct Numbers {
     pub at: u32,
 }
 
+impl Report {
+    // A refusal in numbers, whichever number its code is: "On a refusal the three numbers are 0".
+    pub fn refused(code: u8, at: u16) -> Report
+        ensures { (result.code ≡ code) × (result.length ≡ 0) × (result.definitions ≡ 0) × (result.lifted ≡ 0) × (result.at ≡ at) }
+    {
+        Report {
+            code: code as u32,
+            length: 0,
+            definitions: 0,
+            lifted: 0,
+            at: at as u32,
+        }
+    }
+}
+
+impl Numbers {
+    // A refusal in numbers, whichever number its code is: neither yes nor no.
+    pub fn refused(code: u8, at: u16) -> Numbers
+        ensures { (result.code ≡ code) × (result.holds ≡ 0) × (result.at ≡ at) }
+    {
+        Numbers {
+            code: code as u32,
+            holds: 0,
+            at: at as u32,
+        }
+    }
+}
+
 // An elaboration's answer in numbers: "On a refusal the three numbers are 0".
 impl From<Result<Elaborated, Refusal>> for Report {
     ghost from_gives = { InNumbers };
@@ -96,13 +124,7 @@ impl From<Result<Elaborated, Refusal>> for Report {
                 lifted: lifted as u32,
                 at: 0,
             },
-            Err(Refusal { code, at }) => Report {
-                code: u8::from(code) as u32,
-                length: 0,
-                definitions: 0,
-                lifted: 0,
-                at: at as u32,
-            },
+            Err(Refusal { code, at }) => Report::refused(u8::from(code), at),
         }
     }
 }
@@ -119,11 +141,7 @@ impl From<Result<bool, Refusal>> for Numbers {
                 holds: holds as u32,
                 at: 0,
             },
-            Err(Refusal { code, at }) => Numbers {
-                code: u8::from(code) as u32,
-                holds: 0,
-                at: at as u32,
-            },
+            Err(Refusal { code, at }) => Numbers::refused(u8::from(code), at),
         }
     }
 }

@@ -41,6 +41,10 @@ combinator_past_of s e =
     let a = past_at s e 1 in
     pick (eqb (byte_at s e) 1) (combinator_end_of 63 s a) a
 
+-- the sort of the children by its number
+unfoldable pub kind_numbered : ℕ → Kind
+kind_numbered n = pick (eqb n 0) Nothing (pick (eqb n 1) Fields (pick (eqb n 2) Enums (pick (eqb n 3) Ints (pick (eqb n 5) One Arrays))))
+
 -- the children of a Choice whose selector stands at a place, and those of the inner at a place
 abbrev pub start : ℕ → Kind → ℕ → Begin
 start here kind left = record { here = here; kind = kind; left = left }

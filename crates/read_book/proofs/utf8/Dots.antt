@@ -1,23 +1,28 @@
--- Dots, and what is no name.
-use mathlib.Core.Path.{◌≡◌, refl, sym}
-use mathlib.Core.List.{List, [], ◌∷◌}
-use mathlib.Core.Bool.{Bool, true, false, not, cond, ◌||◌}
-use Prim.Native.Nat.{ℕ}
-use Rattle.std.specs.Prelude.{nat_eq}
-use Rattle.std.specs.List.{list_any}
+-- Dots, one byte at a time.
+use mathlib.Core.Path.{◌≡◌, sym}
+use mathlib.Core.List.{List}
+use mathlib.Core.Bool.{Bool, true, false}
+use Prim.Native.Nat.{ℕ, ◌+◌, ◌≤◌, ◌<◌}
+use native.Mathlib.Numerals.{add-one}
+use borrow.Author.Tests.{eq-eqb, ne_eqb}
+use lib.ListN.{length, get_or, drop, drop_of_length-le}
+use lib.Seq.{drop-cons}
 use Rattle.definition.specs.Utf8.{well_formed}
 use Rattle.definition.specs.Read.{no_dot_of, dot_allowed, undotted}
 use Rattle.read_book.specs.utf8.Tested.{tested}
 
-one_byte : (t a r : Bool) → not a ≡ r → not (t || a) ≡ cond t false r
-one_byte true a r e = refl
-one_byte false a r e = e
+module _ (t : List ℕ) (i : ℕ) where
+  pub d_end : length t ≤ i → no_dot_of (drop i t) ≡ true
+  unfolding no_dot_of
+  d_end h = rw (drop_of_length-le t h)
 
--- no byte is a dot
-pub no_dot_in : (x : List ℕ) → not (list_any (λ y. nat_eq y 46) x) ≡ no_dot_of x
-unfolding no_dot_of
-no_dot_in [] = refl
-no_dot_in (b ∷ x) = one_byte (nat_eq b 46) _ _ (no_dot_in x)
+  pub d_dot : i < length t → get_or t i 0 ≡ 46 → no_dot_of (drop i t) ≡ false
+  unfolding no_dot_of
+  d_dot h e = rw (drop-cons t i 0 h, eq-eqb _ 46 e)
+
+  pub d_next : i < length t → (get_or t i 0 ≡ 46 → ⊥) → no_dot_of (drop i t) ≡ no_dot_of (drop (i + 1) t)
+  unfolding no_dot_of
+  d_next h e = rw (add-one i, drop-cons t i 0 h, ne_eqb _ 46 e)
 
 -- what is no UTF-8 is no name of either kind
 pub not_name : (dots : Bool) (x : List ℕ) → well_formed x ≡ false → false ≡ tested dots x

@@ -4,7 +4,7 @@ use Rattle.read_book.proofs.characters.lead.Goals as goal
 use Rattle.read_book.proofs.characters.lead.Goals.{in_default-via-then-b-lt194, in_default-via-else-b-lt194+else-b-lt224+else-b-lt240+else-b-lt244}
 
 pub returns-in-224 : goal.returns-in-224
-returns-in-224 c = of_e0 _ c.wants.ensures c.in-224.is
+returns-in-224 c = of_e0 _ c.wants-in-224.ensures c.in-224.is
 
 pub returns-in-237 : goal.returns-in-237
 returns-in-237 c = of_ed _ c.wants-in-237.ensures c.in-237.is
@@ -15,8 +15,8 @@ returns-in-240 c = of_f0 _ c.wants-in-240.ensures c.in-240.is
 pub returns-in-244 : goal.returns-in-244
 returns-in-244 c = of_f4 _ c.wants-in-244.ensures c.in-244.is
 
-pub returns-in-0-to-127 : goal.returns-in-0-to-127
-returns-in-0-to-127 c = of_one _ c.wants-in-0-to-127.ensures (omega arith)
+pub returns-then-b-lt128 : goal.returns-then-b-lt128
+returns-then-b-lt128 c = of_one _ c.wants.ensures c.if-b-lt128.true
 
 pub returns-in-194-to-223 : goal.returns-in-194-to-223
 returns-in-194-to-223 c = of_two _ c.wants-in-194-to-223.ensures (omega arith) (omega arith)
