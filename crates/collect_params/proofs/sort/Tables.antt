@@ -1,24 +1,20 @@
 -- Laws of tables that are written in part, and of the byte order, in the code's own terms.
 -- Assumes nothing.
-use mathlib.Core.Path.{◌≡◌, refl}
+use mathlib.Core.Path.{◌≡◌, refl, ◌∙◌}
 use mathlib.Core.Logic.{⊎_elim}
 use mathlib.Core.List.{List, [], ◌∷◌, append-nil}
-use mathlib.Core.Bool.{true, false}
-use Prim.Native.Nat.{ℕ, suc, ◌+◌, ◌-◌, ◌≤◌, ◌<◌}
+use mathlib.Core.Bool.{false}
+use Prim.Native.Nat.{ℕ, suc, ◌+◌, ◌-◌, ◌≤◌, ◌<◌, min}
 use native.Mathlib.Omega.{arith}
 use native.Mathlib.Numerals.{add-one}
-use lib.Dec.{eqb, ltb}
-use lib.ListN.{length, get_or, set, drop_of_length-le}
+use lib.Dec.{ltb}
+use lib.ListN.{length, drop, get_or, set, drop_of_length-le}
 use lib.Seq.{drop-cons, take_all}
-use borrow.Author.Tests.{ne_eqb, ltb-true}
-use Rattle.std.specs.Prelude.{Some}
-use Rattle.std.specs.Ordering.{nat_cmp, is_some_and, is_lt}
-use Rattle.std.specs.Cmp.Lexicographic.{slice_partial_cmp}
+use borrow.Author.Tests.{eq-eqb, ne_eqb, lt-ltb, le-ltb}
 use Rattle.definition.specs.Tree.{Name}
 use Rattle.definition.specs.Names.{before}
-use Rattle.laws.proofs.Tests.{yes_no}
 use Rattle.buffer.specs.writes.Buf.{put, part}
-use Rattle.buffer.proofs.writes.Put.{put-put, put_first}
+use Rattle.buffer.proofs.writes.Put.{put-put, put_first, within}
 
 pub part-cons : (a e : ℕ) (l : List ℕ) → a < e → e ≤ length l → part a e l ≡ get_or l a 0 ∷ part (a + 1) e l
 unfolding part
@@ -36,16 +32,28 @@ put_whole d p h =
     let m : 0 + length p ≡ length d = omega arith in
     rw (n, m, drop_of_length-le d {i = length d} (omega arith), append-nil) (take_all (length d) p (omega arith))
 
--- the order of names is the library's order of slices of bytes
-pub before_is : (a b : Name) → is_some_and is_lt (slice_partial_cmp (λ x y. Some (nat_cmp x y)) a b) ≡ before a b
+-- byte by byte
+module _ (a b : Name) (i : ℕ) where
+  heads : i < length a → i < length b → before (drop i a) (drop i b) ≡ before (get_or a i 0 ∷ drop (i + 1) a) (get_or b i 0 ∷ drop (i + 1) b)
+  heads h k = rw (add-one i, drop-cons a i 0 h, drop-cons b i 0 k)
+
+  pub before_on : i < length a → i < length b → get_or a i 0 ≡ get_or b i 0 → before (drop i a) (drop i b) ≡ before (drop (i + 1) a) (drop (i + 1) b)
+  unfolding before
+  before_on h k e = heads h k ∙ rw (eq-eqb _ _ e)
+
+  pub before_not : i < length a → i < length b → (get_or a i 0 ≡ get_or b i 0 → ⊥) → before (drop i a) (drop i b) ≡ ltb (get_or a i 0) (get_or b i 0)
+  unfolding before
+  before_not h k e = heads h k ∙ rw (ne_eqb _ _ e)
+
+none_before : (x : Name) → before x [] ≡ false
 unfolding before
-before_is [] [] = refl
-before_is [] (y ∷ b) = refl
-before_is (x ∷ a) [] = refl
-before_is (x ∷ a) (y ∷ b) = ⊎_elim
-    (λ (e : ltb x y ≡ true). let n : eqb x y ≡ false = ne_eqb x y (λ q. let l = ltb-true x y e in omega arith) in rw (e, n))
-    (λ (e : ltb x y ≡ false). ⊎_elim
-    (λ (q : eqb x y ≡ true). rw (e, q) (before_is a b))
-    (λ (q : eqb x y ≡ false). rw (e, q))
-    (yes_no (eqb x y)))
-    (yes_no (ltb x y))
+none_before [] = refl
+none_before (x ∷ xs) = refl
+
+-- where one of them ends, the shorter is before the longer
+pub before_end : (a b : Name) (i : ℕ) → i ≡ min (length a) (length b) → before (drop i a) (drop i b) ≡ ltb (length a) (length b)
+unfolding before
+before_end a b i e = ⊎_elim
+    (λ (h : length b ≤ length a). let n : i ≡ length b = omega arith in rw (n, drop_of_length-le b {i = length b} (omega arith), le-ltb _ _ h) (none_before (drop (length b) a)))
+    (λ (h : length a < length b). let n : i ≡ length a = omega arith in rw (n, drop_of_length-le a {i = length a} (omega arith), drop-cons b (length a) 0 h, lt-ltb _ _ h) refl)
+    (within (length b) (length a))
