@@ -70,7 +70,7 @@ impl Cursor {
     }
 
     // A name; its bytes are those from one behind the cursor up to the next one. `dots` is a bool: the definition's `name_by` takes the test so.
-    // Inlined, and the test with it: a call for each name was half of the time of reading a list of short ones.
+    // Inlined, and the test with it: with a call for each of them a list of short names takes longer to read.
     #[inline(always)]
     pub fn name(self, s: &[u8], dots: bool) -> Result<Cursor, Fault>
         ensures { Cuts s.now self.at (self.at + 1) result (name_by (tested dots)) }

@@ -1,4 +1,4 @@
-use mathlib.Core.Path.{sym, ◌∙◌}
+use mathlib.Core.Path.{sym}
 use Rattle.definition.specs.Read.{dot_allowed, undotted}
 use Rattle.read_book.proofs.utf8.Dots.{not_name}
 use Rattle.read_book.proofs.utf8.is_name.Goals as goal
